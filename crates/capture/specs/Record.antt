@@ -1,0 +1,29 @@
+-- The code's record as 01's store, and the lengths of lent memory.
+use mathlib.Core.List.{List}
+use mathlib.Core.Option.{Option, none, some}
+use Prim.Native.Nat.{ℕ, _≤_}
+use lib.ListN.{length}
+use Rattle.rules.specs.Refusal.{Store, Lent, mostSamples}
+use Rattle.node.specs.Memory.{levelOf}
+use Rattle.capture.specs.declared.Mark.{Mark}
+use Rattle.capture.specs.declared.Mark.the-variants.{Absent, At}
+use Rattle.capture.specs.declared.Capture.{Capture}
+
+abbrev pub markOf : Mark → Option ℕ
+markOf Absent = none
+markOf (At k) = some k
+
+abbrev pub storeOf : Capture → Store
+storeOf c = record { unit = c .unitsize; capacity = c .capacity; len = c .len; mark = markOf (c .trigger) }
+
+abbrev pub lentNumbers : ℕ → ℕ → ℕ → ℕ → ℕ → Lent
+lentNumbers samples n1 n2 n3 n4 = record { samples = samples; level = levelOf n1 n2 n3 n4 }
+
+-- the lent slices, levels as a function of the level
+abbrev pub lentOf : List ℕ → (ℕ → List ℕ) → Lent
+lentOf samples levels = record { samples = length samples; level = λ l. length (levels l) }
+
+-- the needs of memory can be worked out
+pub record Small (c : Capture) : Type 0 where
+  pub unit : c .unitsize ≤ 2
+  pub capacity : c .capacity ≤ mostSamples

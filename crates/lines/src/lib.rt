@@ -1,0 +1,42 @@
+// Samples in lent bytes: one bit a line, `unitsize` bytes a sample, low byte first.
+ghost use mathlib.Core.Path.{_≡_};
+ghost use Prim.Native.Nat.{_+_, _*_, _≤_, _<_};
+ghost use lib.ListN.{length};
+ghost use Rattle.rules.specs.Sample.{little, sampleOf};
+ghost use Rattle.lines.specs.Held.{Held};
+
+// The word that holds a mask or a sample, a bit for each line.
+pub type Mask = u16;
+
+// Sample i (01's s[i]).
+pub fn get(bytes: &[u8], unitsize: usize, i: usize) -> Mask
+    requires { ⌜ Held unitsize i (length (now bytes)) ⌝ }
+    ensures { λ r. ⌜ r ≡ sampleOf unitsize (now (bytes .entry)) i ⌝ }
+{
+    if unitsize == 1 {
+        one_byte(bytes, i)
+    } else {
+        two_bytes(bytes, i * 2)
+    }
+}
+
+fn one_byte(bytes: &[u8], at: usize) -> Mask
+    requires { ⌜ at < length (now bytes) ⌝ }
+    ensures { λ r. ⌜ r ≡ little 1 (now (bytes .entry)) at ⌝ }
+{
+    wide(bytes[at])
+}
+
+fn two_bytes(bytes: &[u8], at: usize) -> Mask
+    requires { ⌜ at + 1 < length (now bytes) ⌝ }
+    ensures { λ r. ⌜ r ≡ little 2 (now (bytes .entry)) at ⌝ }
+{
+    wide(bytes[at]) + 256 * wide(bytes[at + 1])
+}
+
+// A byte as a mask.
+pub fn wide(x: u8) -> Mask
+    ensures { λ r. ⌜ (r ≡ x) × (r < 256) ⌝ }
+{
+    x as u16
+}

@@ -1,0 +1,64 @@
+-- The starred shelf examples of document 01, proved about its rules by computation, as one conjunction.
+use mathlib.Core.Path.{_≡_, refl}
+use mathlib.Core.Bool.{Bool, true, false}
+use mathlib.Core.List.{List, [], _∷_}
+use mathlib.Core.Option.{Option, none, some}
+use Prim.Native.Nat.{ℕ}
+use lib.IntN.{pos, negsuc}
+use lib.ListN.{getD}
+use lib.Ieee.{Float, fin, add, mul, ofInt, lt}
+use Rattle.rules.specs.Sample.{sampleOf, listFrom}
+use Rattle.rules.specs.Node.{Node, togglesOf, nodeOf}
+use Rattle.rules.specs.Search.{seek, next, previous, summary}
+use Rattle.rules.specs.Burst.{Burst, jump, burstBy, burst}
+use Rattle.rules.specs.Floor.{floorOf, nearestOf}
+use Rattle.rules.specs.Pixel.{View, edge, rowBy, render}
+use Rattle.rules.specs.Pretrigger.{Pretrigger, fraction, seconds, most, times}
+use Rattle.rules.specs.Trigger.{Term, Condition, rising, high, withTerms, matches, fires, firstFire}
+use Rattle.rules.specs.Selection.{Settings, Rule, Selected, Reply, going-on, complete, refused, ruleOf, chosen, selection, acceptedFrom, runOf, markOf, repliesFrom, repliesOf}
+
+-- A = 0 0 1 1 0 2 2 3; B = 0 1 0 0 0 0 0 0 1 0
+abbrev listA : List ℕ
+listA = 0 ∷ 0 ∷ 1 ∷ 1 ∷ 0 ∷ 2 ∷ 2 ∷ 3 ∷ []
+
+abbrev listB : List ℕ
+listB = 0 ∷ 1 ∷ 0 ∷ 0 ∷ 0 ∷ 0 ∷ 0 ∷ 0 ∷ 1 ∷ 0 ∷ []
+
+abbrev A : ℕ → ℕ
+A = sampleOf 1 listA
+
+abbrev B : ℕ → ℕ
+B = sampleOf 1 listB
+
+-- 0, 0.5, 1.5 and 4
+abbrev half : Float
+half = fin false 1 (negsuc 0)
+
+abbrev view : Float → Float → View
+view start spp = record { start = start; spp = spp }
+
+abbrev on0 : Condition → Term
+on0 c = record { line = 0; condition = c }
+
+-- limit 4, Fraction 0.5, one term on line 0; 8 channels, capacity 16
+abbrev settings : Condition → Settings
+settings c = record { channels = 8; capacity = 16; limit = 4; terms = on0 c ∷ []; wish = fraction half; rate = 0 }
+
+pub shelf :
+    (next A 8 1 0 ≡ some 2)
+    × (next A 8 1 7 ≡ none)
+    × (previous A 8 1 6 ≡ some 4)
+    × (previous A 8 1 100 ≡ some 7)
+    × (summary A 8 0 8 ≡ some (record { first = 0; last = 3; toggles = 3 }))
+    × (burst A 8 1 3 4 0 1 ≡ some (record { first = 2; last = 7; jumps-end = 1; jumps-start = 0 }))
+    × (burst A 8 1 3 3 0 1 ≡ some (record { first = 2; last = 4; jumps-end = 0; jumps-start = 0 }))
+    × (burst B 10 1 5 4 3 9 ≡ some (record { first = 1; last = 2; jumps-end = 0; jumps-start = 0 }))
+    × (render A 8 (view (fin false 0 (pos 0)) (fin false 1 (pos 2))) 2 ≡ 0 ∷ 1 ∷ 0 ∷ 3 ∷ [])
+    × (render A 8 (view (fin false 3 (negsuc 0)) half) 1 ≡ 0 ∷ 1 ∷ [])
+    × (runOf (ruleOf (settings rising)) ((0 ∷ 0 ∷ []) ∷ (0 ∷ 1 ∷ 1 ∷ []) ∷ []) ≡ 0 ∷ 0 ∷ 1 ∷ 1 ∷ [])
+    × (markOf (ruleOf (settings rising)) ((0 ∷ 0 ∷ []) ∷ (0 ∷ 1 ∷ 1 ∷ []) ∷ []) ≡ some 2)
+    × (repliesOf (ruleOf (settings rising)) ((0 ∷ 0 ∷ []) ∷ (0 ∷ 1 ∷ 1 ∷ []) ∷ []) ≡ going-on ∷ complete ∷ [])
+    × (selection (ruleOf (settings rising)) (1 ∷ []) ≡ record { run = []; mark = none })
+    × (selection (ruleOf (settings high)) (1 ∷ []) ≡ record { run = 1 ∷ []; mark = some 0 })
+unfolding sampleOf listFrom togglesOf nodeOf seek jump burstBy floorOf nearestOf edge rowBy most times withTerms matches fires firstFire chosen selection acceptedFrom repliesFrom add mul ofInt lt
+shelf = (refl, refl, refl, refl, refl, refl, refl, refl, refl, refl, refl, refl, refl, refl, refl)

@@ -1,0 +1,7 @@
+pub mod Bits
+pub mod Node
+pub mod Search
+pub mod Walk
+pub mod Found
+pub mod Refusal
+pub mod Examples

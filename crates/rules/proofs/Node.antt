@@ -1,0 +1,139 @@
+-- Laws of nodes: a node of neighbouring ranges is the join of theirs, what a quiet node says of its places, and nodes cut down to chosen lines.
+use Prim.Native.Nat.{ℕ, zero, suc, _+_, _-_, _≤_, _<_}
+use mathlib.Core.Path.{_≡_, refl, sym, ap, ap₂, _∙_}
+use mathlib.Core.Bool.{Bool, true, false}
+use mathlib.Core.Logic.{_⊎_, inl, inr}
+use native.Mathlib.Nat.{add-suc, eq-or-lt-of-le}
+use native.Mathlib.Numerals.{add-one}
+use native.Mathlib.Omega.{arith}
+use lib.Bits.{bitAnd, bitOr, bitXor, or-zero-r, xor-comm}
+use borrow.Author.Tests.{eqb-true, eq-eqb}
+use Rattle.rules.specs.Node.{Node, changes, togglesOf, nodeOf, join, leaf, mirror, cut, quiet}
+use Rattle.rules.proofs.Bits.{and-or, and-xor, and-assoc, or-zero, or-zero-left, or-zero-right, or-sort}
+
+-- ---- join
+node : ℕ → ℕ → ℕ → Node
+node f l t = record { first = f; last = l; toggles = t }
+
+pub join-assoc : (a b c : Node) → join (join a b) c ≡ join a (join b c)
+unfolding node
+join-assoc a b c = ap (node (a .first) (c .last)) (sorted (a .toggles) (b .toggles) (c .toggles) (bitXor (a .last) (b .first)) (bitXor (b .last) (c .first)))
+  where
+    sorted : (ta tb tc x y : ℕ) → bitOr (bitOr (bitOr (bitOr ta tb) x) tc) y ≡ bitOr (bitOr ta (bitOr (bitOr tb tc) y)) x
+    sorted ta tb tc x y = simp or-sort
+
+or-shuffle : (t u x y : ℕ) → bitOr (bitOr (bitOr t u) x) y ≡ bitOr (bitOr t (bitOr u y)) x
+or-shuffle t u x y = simp or-sort
+
+toggles-add : (s : ℕ → ℕ) (a n m : ℕ) → togglesOf s a (n + suc m) ≡ bitOr (bitOr (togglesOf s a n) (togglesOf s (a + suc n) m)) (changes s (a + suc n))
+unfolding togglesOf
+toggles-add s a n zero = ap (togglesOf s a) (add-one n) ∙ ap (λ (z : ℕ). bitOr z (changes s (a + suc n))) (sym (or-zero-r (togglesOf s a n)))
+toggles-add s a n (suc m) =
+    ap (togglesOf s a) (add-suc n (suc m))
+    ∙ ap₂ (λ (z w : ℕ). bitOr z (changes s w)) (toggles-add s a n m) (omega arith)
+    ∙ or-shuffle (togglesOf s a n) (togglesOf s (a + suc n) m) (changes s (a + suc n)) (changes s (a + suc n + suc m))
+
+-- the node of [a, c) is the join of those of [a, b) and [b, c)
+pub node-join : (s : ℕ → ℕ) (a b c : ℕ) → a < b → b < c → join (nodeOf s a b) (nodeOf s b c) ≡ nodeOf s a c
+unfolding nodeOf node
+node-join s a b c h k =
+    ap (node (s a) (s (c - 1)))
+    (ap (bitOr (bitOr (togglesOf s a (b - 1 - a)) (togglesOf s b (c - 1 - b)))) (xor-comm (s (b - 1)) (s b))
+    ∙ ap (λ (z : ℕ). bitOr (bitOr (togglesOf s a (b - 1 - a)) (togglesOf s z (c - 1 - b))) (changes s z)) eb
+    ∙ sym (toggles-add s a (b - 1 - a) (c - 1 - b))
+    ∙ ap (togglesOf s a) (omega arith))
+  where
+    eb : b ≡ a + suc (b - 1 - a)
+    eb = omega arith
+
+pub node-one : (s : ℕ → ℕ) (a : ℕ) → nodeOf s a (a + 1) ≡ leaf (s a)
+unfolding nodeOf node togglesOf
+node-one s a = ap₂ (λ (x y : ℕ). node (s a) (s x) (togglesOf s a y)) last-is none-inside
+  where
+    last-is : a + 1 - 1 ≡ a
+    last-is = omega arith
+
+    none-inside : a + 1 - 1 - a ≡ 0
+    none-inside = omega arith
+
+-- the node depends on the samples of its range alone
+toggles-same : (s t : ℕ → ℕ) (a n : ℕ) → ((i : ℕ) → a ≤ i → i ≤ a + n → s i ≡ t i) → togglesOf s a n ≡ togglesOf t a n
+unfolding togglesOf
+toggles-same s t a zero h = refl
+toggles-same s t a (suc n) h =
+    ap₂ bitOr (toggles-same s t a n (λ i l u. h i l (omega arith))) (ap₂ bitXor (h (a + suc n) (omega arith) (omega arith)) (h (a + suc n - 1) (omega arith) (omega arith)))
+
+pub node-same : (s t : ℕ → ℕ) (a b : ℕ) → a < b → ((i : ℕ) → a ≤ i → i < b → s i ≡ t i) → nodeOf s a b ≡ nodeOf t a b
+unfolding nodeOf node
+node-same s t a b k h =
+    ap₂ (λ (x y : ℕ). node x y (togglesOf s a (b - 1 - a))) (h a (omega arith) (omega arith)) (h (b - 1) (omega arith) (omega arith))
+    ∙ ap (node (t a) (t (b - 1))) (toggles-same s t a (b - 1 - a) (λ i l u. h i l (omega arith)))
+
+-- ---- no masked change
+pub toggles-quiet : (s : ℕ → ℕ) (m a n : ℕ) → ((i : ℕ) → a < i → i ≤ a + n → bitAnd (changes s i) m ≡ 0) → bitAnd (togglesOf s a n) m ≡ 0
+unfolding togglesOf
+toggles-quiet s m a zero h = refl
+toggles-quiet s m a (suc n) h =
+    and-or (togglesOf s a n) (changes s (a + suc n)) m
+    ∙ or-zero (toggles-quiet s m a n (λ i l u. h i l (omega arith))) (h (a + suc n) (omega arith) (omega arith))
+
+pub quiet-toggles : (s : ℕ → ℕ) (m a n : ℕ) → bitAnd (togglesOf s a n) m ≡ 0 → (i : ℕ) → a < i → i ≤ a + n → bitAnd (changes s i) m ≡ 0
+unfolding togglesOf
+quiet-toggles s m a zero h i l u = absurd (omega arith)
+quiet-toggles s m a (suc n) h i l u = pick (λ e l′. quiet-toggles s m a n e i l l′) (eq-or-lt-of-le u)
+  where
+    both : bitOr (bitAnd (togglesOf s a n) m) (bitAnd (changes s (a + suc n)) m) ≡ 0
+    both = sym (and-or (togglesOf s a n) (changes s (a + suc n)) m) ∙ h
+
+    pick : (bitAnd (togglesOf s a n) m ≡ 0 → i ≤ a + n → bitAnd (changes s i) m ≡ 0) → (i ≡ a + suc n) ⊎ (i < a + suc n) → bitAnd (changes s i) m ≡ 0
+    pick before (inl e) = ap (λ (z : ℕ). bitAnd (changes s z) m) e ∙ or-zero-right (bitAnd (togglesOf s a n) m) (bitAnd (changes s (a + suc n)) m) both
+    pick before (inr l′) = before (or-zero-left (bitAnd (togglesOf s a n) m) (bitAnd (changes s (a + suc n)) m) both) (omega arith)
+
+-- the test of a node, taken apart: near is its end at the value before, v
+pub record Quiet (s : ℕ → ℕ) (near v m a b : ℕ) : Type 0 where
+  pub border : bitAnd (bitXor near v) m ≡ 0
+  pub inside : (i : ℕ) → a < i → i < b → bitAnd (changes s i) m ≡ 0
+
+-- a node with the toggles of [a, b), whichever its near end is
+module _ (s : ℕ → ℕ) (n : Node) (v m a b : ℕ) (is : n .toggles ≡ togglesOf s a (b - 1 - a)) where
+  test-is : bitAnd (bitOr (bitXor (n .first) v) (n .toggles)) m ≡ bitOr (bitAnd (bitXor (n .first) v) m) (bitAnd (togglesOf s a (b - 1 - a)) m)
+  test-is = and-or (bitXor (n .first) v) (n .toggles) m ∙ ap (λ (t : ℕ). bitOr (bitAnd (bitXor (n .first) v) m) (bitAnd t m)) is
+
+  pub quiet-true : quiet n v m ≡ true → Quiet s (n .first) v m a b
+  quiet-true e = record {
+    border = or-zero-left x y both;
+    inside = λ i l u. quiet-toggles s m a (b - 1 - a) (or-zero-right x y both) i l (omega arith);
+  }
+    where
+      x : ℕ
+      x = bitAnd (bitXor (n .first) v) m
+
+      y : ℕ
+      y = bitAnd (togglesOf s a (b - 1 - a)) m
+
+      both : bitOr x y ≡ 0
+      both = sym test-is ∙ eqb-true _ _ e
+
+  pub true-quiet : a < b → Quiet s (n .first) v m a b → quiet n v m ≡ true
+  true-quiet h q = eq-eqb _ _ (test-is ∙ or-zero (q .border) (toggles-quiet s m a (b - 1 - a) (λ i l u. q .inside i l (omega arith))))
+
+-- ---- chosen lines
+abbrev pub cutTo : ℕ → (ℕ → ℕ) → ℕ → ℕ
+cutTo m s i = bitAnd (s i) m
+
+changes-cut : (m : ℕ) (s : ℕ → ℕ) (i : ℕ) → changes (cutTo m s) i ≡ bitAnd (changes s i) m
+changes-cut m s i = sym (and-xor (s i) (s (i - 1)) m)
+
+toggles-cut : (m : ℕ) (s : ℕ → ℕ) (a n : ℕ) → togglesOf (cutTo m s) a n ≡ bitAnd (togglesOf s a n) m
+unfolding togglesOf
+toggles-cut m s a zero = refl
+toggles-cut m s a (suc n) = ap₂ bitOr (toggles-cut m s a n) (changes-cut m s (a + suc n)) ∙ sym (and-or (togglesOf s a n) (changes s (a + suc n)) m)
+
+-- the node of chosen lines is the node, cut down
+pub node-cut : (m : ℕ) (s : ℕ → ℕ) (a b : ℕ) → nodeOf (cutTo m s) a b ≡ cut m (nodeOf s a b)
+unfolding nodeOf node
+node-cut m s a b = ap (node (bitAnd (s a) m) (bitAnd (s (b - 1)) m)) (toggles-cut m s a (b - 1 - a))
+
+-- a mask within the chosen lines sees the same changes
+pub change-cut : (m k : ℕ) (s : ℕ → ℕ) (i : ℕ) → bitAnd m k ≡ k → bitAnd (changes (cutTo m s) i) k ≡ bitAnd (changes s i) k
+change-cut m k s i e = ap (λ (x : ℕ). bitAnd x k) (changes-cut m s i) ∙ and-assoc (changes s i) m k ∙ ap (bitAnd (changes s i)) e

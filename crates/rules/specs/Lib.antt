@@ -1,0 +1,12 @@
+pub mod Sample
+pub mod Node
+pub mod Search
+pub mod Walk
+pub mod Burst
+pub mod Floor
+pub mod Pixel
+pub mod Pretrigger
+pub mod Trigger
+pub mod Selection
+pub mod Refusal
+pub mod Answer

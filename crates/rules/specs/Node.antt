@@ -1,0 +1,72 @@
+-- Nodes of ranges of samples, and the levels that they stand in. 01: Records, Node and Store.
+-- A capture's samples are a function from places to numbers: the rules say nothing of the memory that holds them.
+use mathlib.Core.Bool.{Bool}
+use Prim.Native.Nat.{ℕ, zero, suc, _+_, _-_, _*_, _/_, _^_, min}
+use lib.Bits.{bitAnd, bitOr, bitXor}
+use lib.Dec.{eqb}
+
+-- "Three 16-bit numbers: first, last, toggles."
+pub record Node : Type 0 where
+  pub first : ℕ
+  pub last : ℕ
+  pub toggles : ℕ
+
+-- the lines that differ between place i and the one before it
+abbrev pub changes : (ℕ → ℕ) → ℕ → ℕ
+changes s i = bitXor (s i) (s (i - 1))
+
+-- the OR of the changes at i, for a < i ≤ a + n
+unfoldable pub togglesOf : (ℕ → ℕ) → ℕ → ℕ → ℕ
+togglesOf s a zero = 0
+togglesOf s a (suc n) = bitOr (togglesOf s a n) (changes s (a + suc n))
+
+-- "For a range [a,b), a < b: s[a], s[b−1], and the OR of s[i] XOR s[i−1] for a < i < b."
+unfoldable pub nodeOf : (ℕ → ℕ) → ℕ → ℕ → Node
+nodeOf s a b = record { first = s a; last = s (b - 1); toggles = togglesOf s a (b - 1 - a) }
+
+-- "two nodes join into a third: first of the left, last of the right, toggles = both toggles OR (left last XOR right first)"
+abbrev pub join : Node → Node → Node
+join l r = record { first = l .first; last = r .last; toggles = bitOr (bitOr (l .toggles) (r .toggles)) (bitXor (l .last) (r .first)) }
+
+-- the node of one sample
+abbrev pub leaf : ℕ → Node
+leaf v = record { first = v; last = v; toggles = 0 }
+
+-- a node read from its other end
+abbrev pub mirror : Node → Node
+mirror n = record { first = n .last; last = n .first; toggles = n .toggles }
+
+-- "Cutting down takes first, last and toggles AND that mask" (01, Lists of pushes)
+abbrev pub cut : ℕ → Node → Node
+cut mask n = record { first = bitAnd (n .first) mask; last = bitAnd (n .last) mask; toggles = bitAnd (n .toggles) mask }
+
+-- "No masked change against the value before, nor inside" (01, Search)
+abbrev pub quiet : Node → ℕ → ℕ → Bool
+quiet n before mask = eqb (bitAnd (bitOr (bitXor (n .first) before) (n .toggles)) mask) 0
+
+-- ---- levels
+-- "levels 1 to 4"; level 0 is the samples
+abbrev pub topLevel : ℕ
+topLevel = 4
+
+-- how many samples a whole node of level l covers
+abbrev pub span : ℕ → ℕ
+span l = 32 ^ l
+
+-- "A chunk is 1,048,576 samples, 32^4."
+abbrev pub chunk : ℕ
+chunk = 1048576
+
+-- "Level l needs ceil(capacity / 32^l) nodes."
+abbrev pub nodesFor : ℕ → ℕ → ℕ
+nodesFor capacity l = (capacity + (span l - 1)) / span l
+
+-- "Node j of level l covers [j × 32^l, min((j+1) × 32^l, len))."
+abbrev pub nodeStart : ℕ → ℕ → ℕ
+nodeStart l j = j * span l
+
+abbrev pub nodeEnd : ℕ → ℕ → ℕ → ℕ
+nodeEnd len l j = min (suc j * span l) len
+
+abbrev pub levelNode : (ℕ → ℕ) → ℕ → ℕ → ℕ → Node
+levelNode s len l j = nodeOf s (nodeStart l j) (nodeEnd len l j)

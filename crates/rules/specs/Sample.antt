@@ -1,0 +1,36 @@
+-- Samples, and the bytes that hold them. 01: Records, Sample; Store.
+use mathlib.Core.Bool.{cond}
+use mathlib.Core.List.{List, [], _∷_}
+use Prim.Native.Nat.{ℕ, zero, suc, _+_, _*_, _/_, _%_, _^_}
+use lib.Dec.{ltb}
+use lib.ListN.{length, getD}
+
+-- "More than 8 channels means unit 2, else 1."
+abbrev pub unitOf : ℕ → ℕ
+unitOf channels = cond (ltb 8 channels) 2 1
+
+-- u bytes from place k on, low first
+abbrev pub little : ℕ → List ℕ → ℕ → ℕ
+little zero bytes k = 0
+little (suc u) bytes k = getD bytes k 0 + 256 * little u bytes (k + 1)
+
+-- s[i], "the sample at place i", of bytes in a unit
+unfoldable pub sampleOf : ℕ → List ℕ → ℕ → ℕ
+sampleOf unit bytes i = little unit bytes (i * unit)
+
+-- "Append takes floor(bytes / unit) samples; a leftover byte is dropped."
+abbrev pub countOf : ℕ → List ℕ → ℕ
+countOf unit bytes = length bytes / unit
+
+-- n samples from place p on, as a list
+unfoldable pub listFrom : (ℕ → ℕ) → ℕ → ℕ → List ℕ
+listFrom s p zero = []
+listFrom s p (suc n) = s p ∷ listFrom s (p + 1) n
+
+-- the whole samples of one push
+abbrev pub samplesOf : ℕ → List ℕ → List ℕ
+samplesOf unit bytes = listFrom (sampleOf unit bytes) 0 (countOf unit bytes)
+
+-- "A mask is 16 bits, bit k for line k": line k of a sample or a mask
+unfoldable pub line : ℕ → ℕ → ℕ
+line v k = v / 2 ^ k % 2

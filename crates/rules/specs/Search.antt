@@ -1,0 +1,34 @@
+-- Next, previous and summary, from samples alone. 01: Search.
+use mathlib.Core.Bool.{Bool, cond, not}
+use mathlib.Core.Option.{Option, none, some}
+use Prim.Native.Nat.{ℕ, zero, suc, _+_, _-_, min}
+use lib.Bits.{bitAnd}
+use lib.Dec.{ltb, eqb}
+use Rattle.rules.specs.Node.{Node, changes, nodeOf}
+
+-- "(s[i] XOR s[i−1]) AND mask nonzero"
+abbrev pub changed : (ℕ → ℕ) → ℕ → ℕ → Bool
+changed s mask i = not (eqb (bitAnd (changes s i) mask) 0)
+
+-- the first of n places at which the test holds: p, then step p, and so on
+unfoldable pub seek : (ℕ → ℕ) → (ℕ → Bool) → ℕ → ℕ → Option ℕ
+seek step test p zero = none
+seek step test p (suc n) = cond (test p) (some p) (seek step test (step p) n)
+
+abbrev pub up : ℕ → ℕ
+up p = p + 1
+
+abbrev pub down : ℕ → ℕ
+down p = p - 1
+
+-- "Next(mask, from): smallest i with from < i < len and .. nonzero"
+abbrev pub next : (ℕ → ℕ) → ℕ → ℕ → ℕ → Option ℕ
+next s len mask from = seek up (changed s mask) (from + 1) (len - (from + 1))
+
+-- "Previous: largest such i with 1 ≤ i ≤ from", and i < len
+abbrev pub previous : (ℕ → ℕ) → ℕ → ℕ → ℕ → Option ℕ
+previous s len mask from = seek down (changed s mask) (min from (len - 1)) (min from (len - 1))
+
+-- "Summary(a,b) is the node of [a, min(b,len)), or none if empty."
+abbrev pub summary : (ℕ → ℕ) → ℕ → ℕ → ℕ → Option Node
+summary s len a b = cond (ltb a (min b len)) (some (nodeOf s a (min b len))) none
