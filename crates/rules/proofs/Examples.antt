@@ -62,3 +62,13 @@ pub shelf :
     × (selection (ruleOf (settings high)) (1 ∷ []) ≡ record { run = 1 ∷ []; mark = some 0 })
 unfolding sampleOf listFrom togglesOf nodeOf seek jump burstBy floorOf nearestOf edge rowBy most times withTerms matches fires firstFire chosen selection acceptedFrom repliesFrom add mul ofInt lt
 shelf = (refl, refl, refl, refl, refl, refl, refl, refl, refl, refl, refl, refl, refl, refl, refl)
+
+-- unit 2, no terms, capacity 1: a leftover byte joins nothing, and a push without room is refused and adds nothing
+abbrev plain : Settings
+plain = record { channels = 16; capacity = 1; limit = 0; terms = []; wish = seconds (fin false 0 (pos 0)); rate = 0 }
+
+pub beside :
+    (runOf (ruleOf plain) ((7 ∷ []) ∷ (1 ∷ 2 ∷ []) ∷ (3 ∷ 4 ∷ []) ∷ []) ≡ 513 ∷ [])
+    × (repliesOf (ruleOf plain) ((7 ∷ []) ∷ (1 ∷ 2 ∷ []) ∷ (3 ∷ 4 ∷ []) ∷ []) ≡ going-on ∷ going-on ∷ refused 8 ∷ [])
+unfolding sampleOf listFrom nearestOf most times withTerms matches fires firstFire chosen selection acceptedFrom repliesFrom mul ofInt lt
+beside = (refl, refl)

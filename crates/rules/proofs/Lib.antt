@@ -1,7 +1,16 @@
 pub mod Bits
+pub mod Sample
+pub mod Trigger
+pub mod Selection
 pub mod Node
 pub mod Search
 pub mod Walk
 pub mod Found
+pub mod Floor
+pub mod Round
+pub mod Pixel
+pub mod Pretrigger
+pub mod Floats
 pub mod Refusal
+pub mod Start
 pub mod Examples

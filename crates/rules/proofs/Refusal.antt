@@ -35,15 +35,12 @@ none-holds [] h = (λ e row l. absurd (List·Memᴰ·not-nil l), λ f. refl)
 none-holds (r ∷ rows) h = holds-cons r rows (h r (List·Memᴰ·head refl)) (none-holds rows (λ row l. h row (List·Memᴰ·tail l)))
 
 -- ---- tests that do not hold
-neither : (a b : Bool) → ((a || b) ≡ false) ↔ ((a ≡ false) × (b ≡ false))
+pub neither : (a b : Bool) → ((a || b) ≡ false) ↔ ((a ≡ false) × (b ≡ false))
 neither true b = (λ e. (e, cc), λ t. t .0)
 neither false b = (λ e. (refl, e), λ t. t .1)
 
 not-less : (a b : ℕ) → (ltb a b ≡ false) ↔ (b ≤ a)
 not-less a b = (ltb-false a b, le-ltb a b)
-
-not-most : (a b : ℕ) → (leb a b ≡ false) ↔ (b < a)
-not-most a b = (leb-false a b, lt-leb a b)
 
 not-zero : (a : ℕ) → (eqb a 0 ≡ false) ↔ (0 < a)
 not-zero a = (λ e. omega (arith, eqb-false a 0 e), λ h. ne-eqb a 0 (λ e. omega arith))
@@ -154,9 +151,13 @@ module _ (st : Store) (lent : Lent) where
   then-row-2 : Sound st lent → lentShort st lent ≡ false
   then-row-2 s = neither _ _ .1 (not-less _ _ .1 (s .samples), levels-right st (lent .level) topLevel .1 (s .level))
 
+  -- where the bounds hold, a call's further rows decide
+  pub rows-rest : Sound st lent → MarkInside st → (rest : List Row) → firstOf (storeRows st lent rest) ≡ firstOf rest
+  rows-rest s m rest = rw (then-row-1 s m, then-row-2 s)
+
   -- every call on a store but Raw: none of its rows holds exactly when the bounds hold and none of its further rows does
   pub rows-passed : (rest : List Row) → (firstOf (storeRows st lent rest) ≡ 0) ↔ (Sound st lent × MarkInside st × (firstOf rest ≡ 0))
-  rows-passed rest = (down, λ t. row-passed 1 _ _ (omega arith) .1 (then-row-1 (t .0) (t .1), row-passed 2 _ _ (omega arith) .1 (then-row-2 (t .0), t .2)))
+  rows-passed rest = (down, λ t. rows-rest (t .0) (t .1) rest ∙ t .2)
     where
       down : firstOf (storeRows st lent rest) ≡ 0 → Sound st lent × MarkInside st × (firstOf rest ≡ 0)
       down e =
@@ -204,64 +205,68 @@ limit-right limit len = (λ e h. ltb-false limit len (rw (ne-eqb limit 0 (λ z. 
     back (yes h) f = rw (ne-eqb limit 0 (λ z. omega arith), le-ltb limit len (f h))
     back (no h) f = rw (eq-eqb limit 0 (omega arith))
 
-module _ (r : Recorder) (lent : Lent) (size n : ℕ) where
+module _ (r : Recorder) (lent : Lent) (size : ℕ) where
   abbrev row-1 : Bool
   row-1 = recorderWrong r
 
   abbrev row-2 : Bool
   row-2 = lentShort (r .store) lent || ltb size (ringNeed (r .pre) (r .store .unit))
 
-  -- 1, 2 and 8 let a push pass exactly when the bounds hold and n more samples have room
-  pub push-passed : (pushRefusal r lent size n ≡ 0) ↔ (SoundRecorder r lent size × (r .store .len + n ≤ r .store .capacity))
-  push-passed = (down, up)
-    where
-      down : pushRefusal r lent size n ≡ 0 → SoundRecorder r lent size × (r .store .len + n ≤ r .store .capacity)
-      down e =
-          let t1 = row-passed 1 (cond row-2 2 (cond (ltb (r .store .capacity) (r .store .len + n)) 8 0)) row-1 (omega arith) .0 e in
-          let t2 = row-passed 2 (cond (ltb (r .store .capacity) (r .store .len + n)) 8 0) row-2 (omega arith) .0 (t1 .1) in
-          let t8 = row-passed 8 0 (ltb (r .store .capacity) (r .store .len + n)) (omega arith) .0 (t2 .1) in
-          let w5 = neither _ _ .0 (t1 .0) in
-          let w4 = neither _ _ .0 (w5 .0) in
-          let w3 = neither _ _ .0 (w4 .0) in
-          let w2 = neither _ _ .0 (w3 .0) in
-          let w1 = neither _ _ .0 (w2 .0) in
-          let l = neither (lentShort (r .store) lent) (ltb size (ringNeed (r .pre) (r .store .unit))) .0 (t2 .0) in
-          let s = rows-then (r .store) lent (w1 .0) (l .0) in (
-            record {
-              store = s .0;
-              mark = s .1;
-              limit-most = ltb-false (r .store .capacity) (r .limit) (w1 .1);
-              pre-most = leb-false (r .store .capacity) (r .pre) (w2 .1);
-              kept-most = ltb-false (r .pre) (r .kept) (w3 .1);
-              place-inside = place-right (r .pre) (r .place) .0 (w4 .1);
-              len-limit = limit-right (r .limit) (r .store .len) .0 (w5 .1);
-              ring = ltb-false size (ringNeed (r .pre) (r .store .unit)) (l .1);
-            },
-            ltb-false (r .store .capacity) (r .store .len + n) (t8 .0),
-          )
+  push-then : row-1 ≡ false → row-2 ≡ false → SoundRecorder r lent size
+  push-then e f =
+      let w5 = neither _ _ .0 e in
+      let w4 = neither _ _ .0 (w5 .0) in
+      let w3 = neither _ _ .0 (w4 .0) in
+      let w2 = neither _ _ .0 (w3 .0) in
+      let w1 = neither _ _ .0 (w2 .0) in
+      let l = neither (lentShort (r .store) lent) (ltb size (ringNeed (r .pre) (r .store .unit))) .0 f in
+      let s = rows-then (r .store) lent (w1 .0) (l .0) in
+      record {
+        store = s .0;
+        mark = s .1;
+        limit-most = ltb-false (r .store .capacity) (r .limit) (w1 .1);
+        pre-most = leb-false (r .store .capacity) (r .pre) (w2 .1);
+        kept-most = ltb-false (r .pre) (r .kept) (w3 .1);
+        place-inside = place-right (r .pre) (r .place) .0 (w4 .1);
+        len-limit = limit-right (r .limit) (r .store .len) .0 (w5 .1);
+        ring = ltb-false size (ringNeed (r .pre) (r .store .unit)) (l .1);
+      }
 
-      up : SoundRecorder r lent size × (r .store .len + n ≤ r .store .capacity) → pushRefusal r lent size n ≡ 0
-      up t =
-          let s = t .0 in
-          row-passed 1 _ _ (omega arith) .1 (
+  then-push-1 : SoundRecorder r lent size → row-1 ≡ false
+  then-push-1 s =
+      neither _ _ .1 (
+        neither _ _ .1 (
+          neither _ _ .1 (
             neither _ _ .1 (
-              neither _ _ .1 (
-                neither _ _ .1 (
-                  neither _ _ .1 (
-                    neither _ _ .1 (
-                      then-row-1 (r .store) lent (s .store) (s .mark),
-                      le-ltb _ _ (s .limit-most),
-                    ),
-                    lt-leb _ _ (s .pre-most),
-                  ),
-                  le-ltb _ _ (s .kept-most),
-                ),
-                place-right (r .pre) (r .place) .1 (s .place-inside),
-              ),
-              limit-right (r .limit) (r .store .len) .1 (s .len-limit),
+              neither _ _ .1 (then-row-1 (r .store) lent (s .store) (s .mark), le-ltb _ _ (s .limit-most)),
+              lt-leb _ _ (s .pre-most),
             ),
-            row-passed 2 _ _ (omega arith) .1 (
-              neither _ _ .1 (then-row-2 (r .store) lent (s .store), le-ltb _ _ (s .ring)),
-              row-passed 8 0 _ (omega arith) .1 (le-ltb _ _ (t .1), refl),
-            ),
-          )
+            le-ltb _ _ (s .kept-most),
+          ),
+          place-right (r .pre) (r .place) .1 (s .place-inside),
+        ),
+        limit-right (r .limit) (r .store .len) .1 (s .len-limit),
+      )
+
+  then-push-2 : SoundRecorder r lent size → row-2 ≡ false
+  then-push-2 s = neither _ _ .1 (then-row-2 (r .store) lent (s .store), le-ltb _ _ (s .ring))
+
+  -- n samples to store
+  module _ (n : ℕ) where
+    abbrev row-8 : Bool
+    row-8 = ltb (r .store .capacity) (r .store .len + n)
+
+    -- where the bounds hold, 8 decides
+    pub push-room : SoundRecorder r lent size → pushRefusal r lent size n ≡ cond (ltb (r .store .capacity) (r .store .len + n)) 8 0
+    push-room s = rw (then-push-1 s, then-push-2 s)
+
+    -- 1, 2 and 8 let a push pass exactly when the bounds hold and n more samples have room
+    pub push-passed : (pushRefusal r lent size n ≡ 0) ↔ (SoundRecorder r lent size × (r .store .len + n ≤ r .store .capacity))
+    push-passed = (down, λ t. push-room (t .0) ∙ rw (le-ltb (r .store .capacity) (r .store .len + n) (t .1)))
+      where
+        down : pushRefusal r lent size n ≡ 0 → SoundRecorder r lent size × (r .store .len + n ≤ r .store .capacity)
+        down e =
+            let t1 = row-passed 1 (cond row-2 2 (cond row-8 8 0)) row-1 (omega arith) .0 e in
+            let t2 = row-passed 2 (cond row-8 8 0) row-2 (omega arith) .0 (t1 .1) in
+            let t8 = row-passed 8 0 row-8 (omega arith) .0 (t2 .1) in
+            (push-then (t1 .0) (t2 .0), ltb-false (r .store .capacity) (r .store .len + n) (t8 .0))

@@ -71,3 +71,8 @@ fires m (some p) v = matches m p v
 unfoldable pub firstFire : Masks → Option ℕ → List ℕ → ℕ
 firstFire m q [] = 0
 firstFire m q (v ∷ vs) = cond (fires m q v) 0 (suc (firstFire m (some v) vs))
+
+-- "previous sample or none": the sample before the next one, once vs came after q
+unfoldable pub lastOf : Option ℕ → List ℕ → Option ℕ
+lastOf q [] = q
+lastOf q (v ∷ vs) = lastOf (some v) vs

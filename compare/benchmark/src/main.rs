@@ -1,0 +1,97 @@
+//! How fast the unchanged Rust is, and beside it the port. See ../README.md.
+
+mod rust;
+mod side;
+mod table;
+mod work;
+
+use table::Table;
+use work::{Appends, Bursts, Pushes, Ranges, Row, Samples, Walk};
+
+/// Four chunks.
+const LEN: u64 = 4_194_304;
+
+/// Small pushes take long: fewer samples.
+const FEW: u64 = 393_216;
+
+fn main() {
+    keep_memory();
+    Table::heading();
+    for unit in [1, 2] {
+        let mut table = Table::new(unit);
+        appends(&table);
+        pushes(&table);
+        for gap in [2, 100, 1_000, 100_000] {
+            searches(&mut table, gap);
+        }
+        questions(&mut table);
+    }
+}
+
+/// Once a block of this size was freed, the usual allocator keeps memory for the next round,
+/// and the Rust, which allocates as it stores, isn't charged for fresh pages each time.
+fn keep_memory() {
+    drop(std::hint::black_box(vec![1u8; 30_000_000]));
+}
+
+fn noise(unit: usize, push: usize) -> Samples {
+    Samples::noise(unit, if push < 1_000 { FEW } else { LEN })
+}
+
+fn appends(table: &Table) {
+    for push in [3, 32, 4_096, 1_048_576] {
+        let samples = noise(table.unit, push);
+        let work = Appends { samples: &samples, push };
+        table.line(&format!("append, pushes of {push}"), "sample", |side| side.append(&work));
+    }
+}
+
+fn pushes(table: &Table) {
+    for (kind, armed) in [("armed", true), ("unarmed", false)] {
+        for push in [3, 4_096, 1_048_576] {
+            let samples = noise(table.unit, push);
+            let work = Pushes { samples: &samples, push, armed, pre: 100_000 };
+            table.line(&format!("push of {push}, {kind}"), "sample", |side| side.push(&work));
+        }
+    }
+}
+
+fn searches(table: &mut Table, gap: u64) {
+    table.hold(&Samples::with_changes(table.unit, LEN, gap));
+    for (lines, mask) in [("one line", 2), ("all lines", 0xFFFF)] {
+        let work = Walk { mask, len: LEN };
+        let name = format!("a change every {gap}, {lines}");
+        table.line(&format!("next, {name}"), "change", |side| side.next_change(&work));
+        table.line(&format!("previous, {name}"), "change", |side| side.prev_change(&work));
+    }
+}
+
+fn questions(table: &mut Table) {
+    table.hold(&Samples::with_changes(table.unit, LEN, 4));
+    for len in [10, 1_000, 1_000_000] {
+        let work = Ranges::random(LEN, len, 1_000);
+        table.line(&format!("summary of {len}"), "call", |side| side.summary(&work));
+    }
+    for (len, count) in [(1_000, 100), (1_000_000, 1)] {
+        let work = Ranges::random(LEN, len, count);
+        table.line(&format!("samples, {len}"), "sample", |side| side.samples(&work));
+    }
+    for (name, start, spp) in [
+        ("render, 0.5 samples a pixel", 1_000_000.25, 0.5),
+        ("render, 10 samples a pixel", 1_000_000.25, 10.0),
+        ("render, 1000 samples a pixel", 1_000_000.25, 1_000.0),
+        ("render, the whole capture", 0.0, LEN as f64 / 1_920.0),
+    ] {
+        let work = Row { start, spp, width: 1_920 };
+        table.line(name, "pixel", |side| side.render(&work));
+    }
+    bursts(table, "burst, dense", 16, 1_000);
+    table.hold(&Samples::with_changes(table.unit, LEN, 1_000));
+    bursts(table, "burst, sparse", 2_000, 100);
+}
+
+fn bursts(table: &Table, name: &str, max_gap: u64, budget: u64) {
+    let places = Ranges::random(LEN, 1, 20);
+    let work = Bursts { places, max_gap, budget };
+    table.line(name, "call", |side| side.burst_at(&work));
+}

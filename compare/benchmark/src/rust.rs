@@ -1,0 +1,124 @@
+//! The unchanged Rust.
+
+use crate::side::{Side, Timed};
+use crate::work::{Appends, Bursts, Pushes, Ranges, Row, Samples, Walk};
+use edgewise::capture::{Capture, Node, Snapshot};
+use edgewise::trigger::{Condition, Feeder, TriggerTerm};
+use std::sync::Arc;
+use std::time::Instant;
+
+pub struct Rust {
+    snapshot: Snapshot,
+}
+
+impl Rust {
+    pub fn new() -> Rust {
+        Rust { snapshot: Snapshot::empty() }
+    }
+}
+
+const NONE: &str = "none";
+const ALLOCATED: &str = "allocated in the call, not cleared";
+const CLEARED: &str = "allocated in the call, cleared";
+
+fn capture(unit: usize) -> Capture {
+    Capture::new(1, 8 * unit)
+}
+
+/// Times a work that gives its count and its sum.
+fn timed(buffers: &'static str, work: impl FnOnce() -> (u64, u64)) -> Option<Timed> {
+    let begun = Instant::now();
+    let (count, sum) = work();
+    Some(Timed { time: begun.elapsed(), count, sum, buffers })
+}
+
+impl Side for Rust {
+    fn hold(&mut self, samples: &Samples) {
+        let capture = capture(samples.unit);
+        capture.append(&samples.bytes);
+        self.snapshot = capture.snapshot();
+    }
+
+    fn append(&self, work: &Appends) -> Option<Timed> {
+        let Samples { unit, bytes } = work.samples;
+        let capture = capture(*unit);
+        timed(ALLOCATED, || {
+            for push in bytes.chunks(work.push * unit) {
+                capture.append(push);
+            }
+            (work.samples.len(), capture.len())
+        })
+    }
+
+    fn push(&self, work: &Pushes) -> Option<Timed> {
+        let Samples { unit, bytes } = work.samples;
+        let capture = Arc::new(capture(*unit));
+        let rising = [TriggerTerm { channel: 0, condition: Condition::Rising }];
+        let terms = if work.armed { &rising[..] } else { &[] };
+        let mut feeder = Feeder::new(capture.clone(), *unit, 0, terms, 0.0, work.pre);
+        timed(ALLOCATED, || {
+            for push in bytes.chunks(work.push * unit) {
+                feeder.push(push);
+            }
+            (work.samples.len(), capture.len())
+        })
+    }
+
+    fn next_change(&self, work: &Walk) -> Option<Timed> {
+        timed(NONE, || {
+            let (mut at, mut count, mut sum) = (0, 0, 0);
+            while let Some(place) = self.snapshot.next_change(work.mask, at) {
+                at = place;
+                count += 1;
+                sum += place;
+            }
+            (count, sum)
+        })
+    }
+
+    fn prev_change(&self, work: &Walk) -> Option<Timed> {
+        timed(NONE, || {
+            let (mut at, mut count, mut sum) = (work.len, 0, 0);
+            while let Some(place) = self.snapshot.prev_change(work.mask, at) {
+                at = place - 1;
+                count += 1;
+                sum += place;
+            }
+            (count, sum)
+        })
+    }
+
+    fn summary(&self, work: &Ranges) -> Option<Timed> {
+        timed(NONE, || {
+            let node = |&a: &u64| self.snapshot.summary(a, a + work.len).unwrap_or_default();
+            let sum = |n: Node| n.first as u64 + n.last as u64 + n.mask as u64;
+            (work.count(), work.starts.iter().map(node).map(sum).sum())
+        })
+    }
+
+    fn samples(&self, work: &Ranges) -> Option<Timed> {
+        timed(ALLOCATED, || {
+            let last = |&a: &u64| self.snapshot.samples(a, work.len)[work.len as usize - 1];
+            let sum = work.starts.iter().map(last).map(u64::from).sum();
+            (work.count() * work.len, sum)
+        })
+    }
+
+    fn burst_at(&self, work: &Bursts) -> Option<Timed> {
+        timed(NONE, || {
+            let ask = |&place: &u64| {
+                let budget = work.budget as usize;
+                let found = self.snapshot.burst_at(0xFFFF, place, work.max_gap, 8, budget);
+                found.map_or(0, |(first, last)| first + last)
+            };
+            (work.places.count(), work.places.starts.iter().map(ask).sum())
+        })
+    }
+
+    fn render(&self, work: &Row) -> Option<Timed> {
+        timed(CLEARED, || {
+            let row = self.snapshot.render(work.start, work.spp, work.width as usize);
+            (work.width, row.into_iter().map(u64::from).sum())
+        })
+    }
+}

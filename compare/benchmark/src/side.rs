@@ -1,0 +1,58 @@
+//! A side of the benchmark. Each function does one work and says how long it took;
+//! a side that lacks an operation leaves its function as it stands here.
+
+use crate::work::{Appends, Bursts, Pushes, Ranges, Row, Samples, Walk};
+use std::time::Duration;
+
+pub struct Timed {
+    pub time: Duration,
+    /// Samples stored or copied, changes found, calls made, pixels drawn.
+    pub count: u64,
+    /// A sum over the answers: equal on both sides, and nothing is optimised away.
+    pub sum: u64,
+    /// Which memory the operation filled, and whether it was cleared first.
+    pub buffers: &'static str,
+}
+
+#[allow(unused_variables)]
+pub trait Side {
+    /// Makes the capture that the questions are about. Not timed.
+    fn hold(&mut self, samples: &Samples) {}
+
+    fn append(&self, work: &Appends) -> Option<Timed> {
+        None
+    }
+
+    fn push(&self, work: &Pushes) -> Option<Timed> {
+        None
+    }
+
+    fn next_change(&self, work: &Walk) -> Option<Timed> {
+        None
+    }
+
+    fn prev_change(&self, work: &Walk) -> Option<Timed> {
+        None
+    }
+
+    fn summary(&self, work: &Ranges) -> Option<Timed> {
+        None
+    }
+
+    fn samples(&self, work: &Ranges) -> Option<Timed> {
+        None
+    }
+
+    fn burst_at(&self, work: &Bursts) -> Option<Timed> {
+        None
+    }
+
+    fn render(&self, work: &Row) -> Option<Timed> {
+        None
+    }
+}
+
+/// The port: no operation yet.
+pub struct Rattle;
+
+impl Side for Rattle {}

@@ -1,0 +1,91 @@
+//! What both sides are given, the same for each.
+
+use rng::Rng;
+
+/// Samples of a capture, as bytes.
+pub struct Samples {
+    pub unit: usize,
+    pub bytes: Vec<u8>,
+}
+
+impl Samples {
+    pub fn len(&self) -> u64 {
+        (self.bytes.len() / self.unit) as u64
+    }
+
+    /// One line, any of the unit's, changes every `gap` samples or so.
+    pub fn with_changes(unit: usize, len: u64, gap: u64) -> Samples {
+        let mut rng = Rng::new(gap);
+        let mut bytes = Vec::new();
+        let mut value = 0u16;
+        let mut left = 0;
+        for _ in 0..len {
+            if left == 0 {
+                value ^= 1 << rng.below(8 * unit as u64);
+                left = 1 + gap / 2 + rng.below(gap);
+            }
+            left -= 1;
+            bytes.extend(&value.to_le_bytes()[..unit]);
+        }
+        Samples { unit, bytes }
+    }
+
+    /// Random samples in which line 0 is never set.
+    pub fn noise(unit: usize, len: u64) -> Samples {
+        let mut rng = Rng::new(len);
+        let sample = |_| ((rng.number() as u16) & !1).to_le_bytes();
+        let bytes = (0..len).map(sample).flat_map(|bytes| bytes.into_iter().take(unit)).collect();
+        Samples { unit, bytes }
+    }
+}
+
+/// All samples into a new capture, `push` at a time.
+pub struct Appends<'a> {
+    pub samples: &'a Samples,
+    pub push: usize,
+}
+
+/// All samples into a new recorder without a limit, `push` at a time.
+/// Armed, it waits for line 0 to rise and keeps `pre` samples.
+pub struct Pushes<'a> {
+    pub samples: &'a Samples,
+    pub push: usize,
+    pub armed: bool,
+    pub pre: u64,
+}
+
+/// From change to change over the whole capture.
+pub struct Walk {
+    pub mask: u16,
+    pub len: u64,
+}
+
+/// A question for each range of this length.
+pub struct Ranges {
+    pub starts: Vec<u64>,
+    pub len: u64,
+}
+
+impl Ranges {
+    pub fn random(capture: u64, len: u64, count: u64) -> Ranges {
+        let mut rng = Rng::new(len);
+        Ranges { starts: (0..count).map(|_| rng.below(capture - len)).collect(), len }
+    }
+
+    pub fn count(&self) -> u64 {
+        self.starts.len() as u64
+    }
+}
+
+pub struct Bursts {
+    pub places: Ranges,
+    pub max_gap: u64,
+    pub budget: u64,
+}
+
+/// One row of pixels.
+pub struct Row {
+    pub start: f64,
+    pub spp: f64,
+    pub width: u64,
+}

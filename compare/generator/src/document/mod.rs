@@ -1,0 +1,232 @@
+//! Document 01 as a side: it has an answer to every line that wants one.
+
+pub mod refusals;
+pub mod rules;
+
+use crate::digest::digest;
+use crate::feed::to_bytes;
+use crate::op::{Lent, Op, Recorder, Settings, Store, Wish};
+use crate::side::{Answer, Side};
+
+#[derive(Default)]
+pub struct Document {
+    lent: Lent,
+    /// The record, which a line may have spoiled.
+    store: Store,
+    /// s, as the calls made it.
+    samples: Vec<u16>,
+    recorder: Option<Recording>,
+    /// Numbers written into level memory by hand: level, index, value.
+    puts: Vec<(u64, u64, u16)>,
+}
+
+struct Recording {
+    settings: Settings,
+    record: Recorder,
+    /// All samples of the accepted pushes.
+    accepted: Vec<u16>,
+    armed: bool,
+    previous: Option<u16>,
+}
+
+impl Side for Document {
+    fn take(&mut self, op: &Op) -> Option<Answer> {
+        match *op {
+            Op::Lend(lent) => self.lent = lent,
+            Op::Record(store) => self.store = store,
+            Op::Feeder(record) => self.recording().record = record,
+            Op::Put { level, index, value } => {
+                self.puts.retain(|&(l, i, _)| (l, i) != (level, index));
+                self.puts.push((level, index, value));
+            }
+            _ => return Some(self.answer(op)),
+        }
+        None
+    }
+}
+
+impl Document {
+    /// Whether rows 1 and 2 refuse the store as it is now. This is Raw's refusal too, which has no number.
+    pub fn refuses(&self) -> bool {
+        refusals::store(&self.store, &self.lent).is_err()
+    }
+
+    fn answer(&mut self, op: &Op) -> Answer {
+        match op {
+            Op::Capture { channels, capacity } => {
+                let unit = rules::unit(*channels);
+                let store = Store { unit, capacity: *capacity, len: 0, mark: None };
+                refusals::store(&store, &self.lent)?;
+                *self = Document { lent: self.lent, store, ..Document::default() };
+                Ok(vec![unit])
+            }
+            Op::Start(settings) => self.start(settings),
+            Op::Append(feed) => one(feed.pieces(self.store.unit), |piece| self.append(piece)),
+            Op::Push(feed) => one(feed.pieces(self.store.unit), |piece| self.push(piece)),
+            Op::Run => {
+                let armed = self.recorder.as_ref().is_some_and(|r| r.armed);
+                let mark = self.store.mark;
+                let digest = digest(self.samples.iter().map(|&v| v as u64));
+                let marked = mark.is_some() as u64;
+                Ok(vec![self.store.len, marked, mark.unwrap_or(0), armed as u64, digest])
+            }
+            Op::State => {
+                let r = self.recording();
+                let previous = r.previous.unwrap_or(0) as u64;
+                Ok(vec![r.record.kept, r.record.place, r.previous.is_some() as u64, previous])
+            }
+            Op::Raw(chunk) => Ok(self.raw(*chunk)),
+            Op::Pretrigger { time, rate, unit } => {
+                let (pre, cut) = rules::pre(Wish::Seconds(*time), 0, *rate, *unit);
+                Ok(vec![pre, cut as u64])
+            }
+            _ => {
+                refusals::store(&self.store, &self.lent)?;
+                self.question(op)
+            }
+        }
+    }
+
+    /// The questions, over a store that rows 1 and 2 don't refuse.
+    fn question(&self, op: &Op) -> Answer {
+        let s = &self.samples;
+        let len = s.len() as u64;
+        assert_eq!(self.store.len, len, "01 leaves answers over other records free");
+        Ok(match op {
+            Op::Get(i) if *i >= len => return Err(9),
+            Op::Get(i) => vec![s[*i as usize] as u64],
+            Op::Samples { start, count, output } => {
+                let end = start.saturating_add(*count).min(len);
+                let part = &s[(*start).min(end) as usize..end as usize];
+                if *output < part.len() as u64 {
+                    return Err(11);
+                }
+                listed(part)
+            }
+            Op::Whole => self.whole(),
+            Op::Next { mask, from } => optional(rules::next(s, *mask, *from).map(|i| [i])),
+            Op::Prev { mask, from } => optional(rules::prev(s, *mask, *from).map(|i| [i])),
+            Op::Summary { a, b } => optional(rules::summary(s, *a, *b).map(|n| n.map(u64::from))),
+            Op::Burst(burst) => optional(rules::burst(s, burst)),
+            Op::Render(view) => {
+                refusals::render(view)?;
+                listed(&rules::render(s, view))
+            }
+            Op::RenderDigest(view) => {
+                refusals::render(view)?;
+                vec![digest(rules::render(s, view).into_iter().map(u64::from))]
+            }
+            _ => unreachable!("no question: {op:?}"),
+        })
+    }
+
+    fn append(&mut self, bytes: &[u8]) -> Answer {
+        refusals::store(&self.store, &self.lent)?;
+        let taken = rules::samples(bytes, self.store.unit);
+        if self.samples.len() + taken.len() > self.store.capacity as usize {
+            return Err(8);
+        }
+        self.samples.extend(taken);
+        self.store.len = self.samples.len() as u64;
+        Ok(vec![self.store.len])
+    }
+
+    fn start(&mut self, settings: &Settings) -> Answer {
+        let unit = rules::unit(settings.channels);
+        let (capacity, limit) = (settings.capacity, settings.limit);
+        let store = Store { unit, capacity, len: 0, mark: None };
+        refusals::start(settings, &store, &self.lent)?;
+        let (pre, cut) = rules::pre(settings.wish, limit, settings.rate, unit);
+        let recording = Recording {
+            settings: settings.clone(),
+            record: Recorder { limit, pre, kept: 0, place: 0 },
+            accepted: Vec::new(),
+            armed: !settings.terms.is_empty(),
+            previous: None,
+        };
+        let recorder = Some(recording);
+        *self = Document { lent: self.lent, store, recorder, ..Document::default() };
+        Ok(vec![unit, pre, cut as u64])
+    }
+
+    /// Selection over all accepted pushes and this one decides.
+    fn push(&mut self, bytes: &[u8]) -> Answer {
+        let (store, lent) = (self.store, self.lent);
+        let r = self.recording();
+        refusals::push(&store, &r.record, &lent)?;
+        let Recorder { limit, pre, .. } = r.record;
+        let before = r.accepted.len();
+        r.accepted.extend(rules::samples(bytes, store.unit));
+        let all = &r.accepted;
+        let run = rules::select(&r.settings, pre, all);
+        if run.end - run.start > store.capacity as usize {
+            r.accepted.truncate(before);
+            return Err(8);
+        }
+        r.armed = !r.settings.terms.is_empty() && run.fired.is_none();
+        if r.armed {
+            let count = all.len() as u64;
+            r.record.kept = count.min(pre);
+            r.record.place = count.checked_rem(pre).unwrap_or(0);
+            r.previous = all.last().copied();
+        } else {
+            (r.record.kept, r.record.place) = (0, 0);
+            r.previous = run.fired.map(|t| all[t]);
+        }
+        let armed = r.armed;
+        self.samples = self.recording().accepted[run.start..run.end].to_vec();
+        self.store.len = self.samples.len() as u64;
+        self.store.mark = run.mark;
+        Ok(vec![(!armed && limit > 0 && self.store.len == limit) as u64])
+    }
+
+    /// Length and digest of a chunk's bytes.
+    fn raw(&self, chunk: u64) -> Vec<u64> {
+        let part = self.samples.chunks(1 << 20).nth(chunk as usize);
+        let part = part.filter(|_| !self.refuses()).unwrap_or(&[]);
+        let bytes = to_bytes(part, self.store.unit);
+        vec![bytes.len() as u64, digest(bytes.into_iter().map(u64::from))]
+    }
+
+    /// Append leaves right nodes, so a wrong one is among those written by hand.
+    fn whole(&self) -> Vec<u64> {
+        let wrong = |&&(level, index, value): &&(u64, u64, u16)| {
+            let span = 32u64.pow(level as u32);
+            let number = index / 3;
+            let right = rules::summary(&self.samples, number * span, (number + 1) * span);
+            right.is_some_and(|node| node[index as usize % 3] != value)
+        };
+        let first = self.puts.iter().filter(wrong).map(|&(l, i, _)| (l, i / 3)).min();
+        match first {
+            None => vec![1],
+            Some((level, number)) => vec![0, level, number],
+        }
+    }
+
+    fn recording(&mut self) -> &mut Recording {
+        self.recorder.as_mut().expect("a recorder was started")
+    }
+}
+
+/// The answer to the last of these calls. Of several, none may be refused.
+fn one(pieces: Vec<Vec<u8>>, mut call: impl FnMut(&[u8]) -> Answer) -> Answer {
+    let several = pieces.len() > 1;
+    let mut last = Ok(Vec::new());
+    for piece in &pieces {
+        last = call(piece);
+        assert!(!several || last.is_ok(), "a feed of several pieces is refused");
+    }
+    last
+}
+
+pub fn optional<const N: usize>(found: Option<[u64; N]>) -> Vec<u64> {
+    match found {
+        None => vec![0],
+        Some(values) => [1].into_iter().chain(values).collect(),
+    }
+}
+
+pub fn listed(numbers: &[u16]) -> Vec<u64> {
+    let count = numbers.len() as u64;
+    [count].into_iter().chain(numbers.iter().map(|&v| v as u64)).collect()
+}

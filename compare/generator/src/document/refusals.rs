@@ -1,0 +1,76 @@
+//! Document 01's table: where each number is checked, its rows in order.
+
+use super::rules;
+use crate::op::{Lent, Recorder, Settings, Store, View, Wish};
+
+const MOST: u64 = 67_108_864;
+
+/// The memory that a store needs. The ring is a recorder's.
+pub fn need(unit: u64, capacity: u64) -> Lent {
+    let nodes = |level: u32| capacity.div_ceil(32u64.pow(level));
+    Lent { samples: capacity * unit, levels: [1, 2, 3, 4].map(|level| 3 * nodes(level)), ring: 0 }
+}
+
+fn row_1(s: &Store) -> bool {
+    let mark = s.mark.is_some_and(|mark| mark > s.len);
+    !(1..=2).contains(&s.unit) || !(1..=MOST).contains(&s.capacity) || s.len > s.capacity || mark
+}
+
+fn row_1_of_recorder(s: &Store, r: &Recorder) -> bool {
+    let place = r.place >= r.pre && (r.place, r.pre) != (0, 0);
+    let beyond = r.limit != 0 && s.len > r.limit;
+    r.limit > s.capacity || r.pre >= s.capacity || r.kept > r.pre || place || beyond
+}
+
+fn row_2(s: &Store, lent: &Lent, ring: u64) -> bool {
+    let need = need(s.unit, s.capacity);
+    let levels = (0..4).any(|l| lent.levels[l] < need.levels[l]);
+    lent.samples < need.samples || levels || lent.ring < ring
+}
+
+/// Gives the number of the first of these that holds.
+fn first(rows: &[(u64, &dyn Fn() -> bool)]) -> Result<(), u64> {
+    match rows.iter().find(|(_, holds)| holds()) {
+        Some(&(number, _)) => Err(number),
+        None => Ok(()),
+    }
+}
+
+/// Every call on a store.
+pub fn store(s: &Store, lent: &Lent) -> Result<(), u64> {
+    first(&[(1, &|| row_1(s)), (2, &|| row_2(s, lent, 0))])
+}
+
+pub fn start(settings: &Settings, s: &Store, lent: &Lent) -> Result<(), u64> {
+    let (wish, limit, rate) = (settings.wish, settings.limit, settings.rate);
+    let unlike = match wish {
+        Wish::Fraction(_) => limit == 0,
+        Wish::Seconds(_) => limit > 0,
+    };
+    let unfit = match wish {
+        Wish::Fraction(p) => p.is_nan(),
+        Wish::Seconds(t) => t.is_nan() || rate > 1_000_000_000,
+    };
+    let pre = || rules::pre(wish, limit, rate, s.unit).0;
+    store(s, lent)?;
+    first(&[
+        (3, &|| settings.terms.iter().any(|term| term.line > 15)),
+        (4, &|| limit > s.capacity),
+        (5, &|| unlike),
+        (6, &|| unfit),
+        (7, &|| pre() >= s.capacity || lent.ring < pre() * s.unit),
+    ])
+}
+
+/// A push; 8 comes after these.
+pub fn push(s: &Store, r: &Recorder, lent: &Lent) -> Result<(), u64> {
+    first(&[(1, &|| row_1(s) || row_1_of_recorder(s, r)), (2, &|| row_2(s, lent, r.pre * s.unit))])
+}
+
+/// A render, after the rows of every call.
+pub fn render(view: &View) -> Result<(), u64> {
+    first(&[
+        (10, &|| !view.start.is_finite() || !view.spp.is_finite()),
+        (11, &|| view.width > 65_536 || view.output < 2 * view.width),
+    ])
+}

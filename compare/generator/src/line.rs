@@ -1,0 +1,171 @@
+//! An operation as the numbers of a line, and back.
+
+use crate::feed::Feed;
+use crate::op::{Burst, Lent, Op, Recorder, Settings, Store, Term, View, Wish, CONDITIONS};
+
+impl Op {
+    /// Code and arguments.
+    pub fn numbers(&self) -> Vec<u64> {
+        match self {
+            Op::Lend(lent) => {
+                let [one, two, three, four] = lent.levels;
+                vec![1, lent.samples, one, two, three, four, lent.ring]
+            }
+            Op::Record(s) => {
+                let mark = s.mark.unwrap_or(0);
+                vec![2, s.unit, s.capacity, s.len, s.mark.is_some() as u64, mark]
+            }
+            Op::Feeder(r) => vec![3, r.limit, r.pre, r.kept, r.place],
+            Op::Put { level, index, value } => vec![4, *level, *index, *value as u64],
+            Op::Capture { channels, capacity } => vec![10, *channels, *capacity],
+            Op::Append(feed) => feed_numbers(11, feed),
+            Op::Run => vec![14],
+            Op::Get(i) => vec![15, *i],
+            Op::Samples { start, count, output } => vec![16, *start, *count, *output],
+            Op::Raw(c) => vec![17, *c],
+            Op::Whole => vec![18],
+            Op::Next { mask, from } => vec![20, *mask as u64, *from],
+            Op::Prev { mask, from } => vec![21, *mask as u64, *from],
+            Op::Summary { a, b } => vec![22, *a, *b],
+            Op::Burst(b) => {
+                vec![30, b.mask as u64, b.sample, b.max_gap, b.tolerance, b.budget]
+            }
+            Op::Render(view) => view_numbers(40, view),
+            Op::RenderDigest(view) => view_numbers(41, view),
+            Op::Pretrigger { time, rate, unit } => vec![50, time.to_bits(), *rate, *unit],
+            Op::Start(settings) => start_numbers(settings),
+            Op::Push(feed) => feed_numbers(52, feed),
+            Op::State => vec![55],
+        }
+    }
+
+    /// Reads code and arguments, or none where they are no operation's.
+    pub fn read(numbers: &mut Numbers) -> Option<Op> {
+        let mut next = || numbers.next();
+        Some(match next()? {
+            1 => Op::Lend(Lent {
+                samples: next()?,
+                levels: [next()?, next()?, next()?, next()?],
+                ring: next()?,
+            }),
+            2 => Op::Record(Store {
+                unit: next()?,
+                capacity: next()?,
+                len: next()?,
+                mark: match (next()?, next()?) {
+                    (0, _) => None,
+                    (_, mark) => Some(mark),
+                },
+            }),
+            3 => {
+                Op::Feeder(Recorder { limit: next()?, pre: next()?, kept: next()?, place: next()? })
+            }
+            4 => Op::Put { level: next()?, index: next()?, value: next()? as u16 },
+            10 => Op::Capture { channels: next()?, capacity: next()? },
+            code @ 11..=13 => Op::Append(read_feed(code - 11, numbers)?),
+            14 => Op::Run,
+            15 => Op::Get(next()?),
+            16 => Op::Samples { start: next()?, count: next()?, output: next()? },
+            17 => Op::Raw(next()?),
+            18 => Op::Whole,
+            20 => Op::Next { mask: next()? as u16, from: next()? },
+            21 => Op::Prev { mask: next()? as u16, from: next()? },
+            22 => Op::Summary { a: next()?, b: next()? },
+            30 => Op::Burst(Burst {
+                mask: next()? as u16,
+                sample: next()?,
+                max_gap: next()?,
+                tolerance: next()?,
+                budget: next()?,
+            }),
+            40 => Op::Render(read_view(numbers)?),
+            41 => Op::RenderDigest(read_view(numbers)?),
+            50 => Op::Pretrigger { time: f64::from_bits(next()?), rate: next()?, unit: next()? },
+            51 => Op::Start(read_start(numbers)?),
+            code @ 52..=54 => Op::Push(read_feed(code - 52, numbers)?),
+            55 => Op::State,
+            _ => return None,
+        })
+    }
+}
+
+fn feed_numbers(code: u64, feed: &Feed) -> Vec<u64> {
+    match feed {
+        Feed::Bytes(bytes) => {
+            let mut line = vec![code, bytes.len() as u64];
+            line.extend(bytes.iter().map(|&b| b as u64));
+            line
+        }
+        Feed::Runs(runs) => {
+            let mut line = vec![code + 1, runs.len() as u64];
+            line.extend(runs.iter().flat_map(|&(count, value)| [count, value as u64]));
+            line
+        }
+        Feed::Noise { count, seed, mask } => vec![code + 2, *count, *seed, *mask as u64],
+    }
+}
+
+fn read_feed(kind: u64, numbers: &mut Numbers) -> Option<Feed> {
+    let count = numbers.next()?;
+    Some(match kind {
+        0 => Feed::Bytes((0..count).map(|_| Some(numbers.next()? as u8)).collect::<Option<_>>()?),
+        1 => {
+            let run = |_| Some((numbers.next()?, numbers.next()? as u16));
+            Feed::Runs((0..count).map(run).collect::<Option<_>>()?)
+        }
+        _ => Feed::Noise { count, seed: numbers.next()?, mask: numbers.next()? as u16 },
+    })
+}
+
+fn view_numbers(code: u64, view: &View) -> Vec<u64> {
+    vec![code, view.start.to_bits(), view.spp.to_bits(), view.width, view.output]
+}
+
+fn read_view(numbers: &mut Numbers) -> Option<View> {
+    Some(View {
+        start: f64::from_bits(numbers.next()?),
+        spp: f64::from_bits(numbers.next()?),
+        width: numbers.next()?,
+        output: numbers.next()?,
+    })
+}
+
+fn start_numbers(s: &Settings) -> Vec<u64> {
+    let (kind, wish) = match s.wish {
+        Wish::Fraction(p) => (0, p),
+        Wish::Seconds(t) => (1, t),
+    };
+    let count = s.terms.len() as u64;
+    let mut line = vec![51, s.channels, s.capacity, s.limit, kind, wish.to_bits(), s.rate, count];
+    line.extend(s.terms.iter().flat_map(|t| [t.line as u64, t.condition as u64]));
+    line
+}
+
+fn read_start(numbers: &mut Numbers) -> Option<Settings> {
+    let (channels, capacity, limit) = (numbers.next()?, numbers.next()?, numbers.next()?);
+    let wish = match (numbers.next()?, f64::from_bits(numbers.next()?)) {
+        (0, p) => Wish::Fraction(p),
+        (_, t) => Wish::Seconds(t),
+    };
+    let (rate, count) = (numbers.next()?, numbers.next()?);
+    let mut term = |_| {
+        let line = numbers.next()? as u8;
+        let condition = *CONDITIONS.get(numbers.next()? as usize)?;
+        Some(Term { line, condition })
+    };
+    let terms = (0..count).map(&mut term).collect::<Option<_>>()?;
+    Some(Settings { channels, capacity, limit, wish, rate, terms })
+}
+
+/// The numbers of a line, one after the other.
+pub struct Numbers<'a>(std::str::Split<'a, char>);
+
+impl<'a> Numbers<'a> {
+    pub fn new(line: &'a str) -> Numbers<'a> {
+        Numbers(line.split(' '))
+    }
+
+    pub fn next(&mut self) -> Option<u64> {
+        self.0.next()?.parse().ok()
+    }
+}

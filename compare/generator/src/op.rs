@@ -1,0 +1,117 @@
+//! The lines of an answer file without their answers: code and arguments.
+//! answers/README.md says what each of them means.
+
+use crate::feed::Feed;
+
+/// Lengths of the lent slices: bytes, 16-bit numbers of levels 1 to 4, bytes.
+#[derive(Clone, Copy, Debug, Default, PartialEq)]
+pub struct Lent {
+    pub samples: u64,
+    pub levels: [u64; 4],
+    pub ring: u64,
+}
+
+/// A store's record.
+#[derive(Clone, Copy, Debug, Default, PartialEq)]
+pub struct Store {
+    pub unit: u64,
+    pub capacity: u64,
+    pub len: u64,
+    pub mark: Option<u64>,
+}
+
+/// The numbers of a recorder's record that can be wrong, beside its store's.
+#[derive(Clone, Copy, Debug, Default, PartialEq)]
+pub struct Recorder {
+    pub limit: u64,
+    pub pre: u64,
+    pub kept: u64,
+    pub place: u64,
+}
+
+#[derive(Clone, Copy, Debug, PartialEq)]
+pub enum Wish {
+    Fraction(f64),
+    Seconds(f64),
+}
+
+#[derive(Clone, Copy, Debug, PartialEq)]
+pub struct Term {
+    pub line: u8,
+    pub condition: Condition,
+}
+
+#[derive(Clone, Copy, Debug, PartialEq)]
+pub enum Condition {
+    Rising,
+    Falling,
+    Edge,
+    High,
+    Low,
+}
+
+pub const CONDITIONS: [Condition; 5] =
+    [Condition::Rising, Condition::Falling, Condition::Edge, Condition::High, Condition::Low];
+
+#[derive(Clone, Debug)]
+pub struct Settings {
+    pub channels: u64,
+    pub capacity: u64,
+    pub limit: u64,
+    pub wish: Wish,
+    pub rate: u64,
+    pub terms: Vec<Term>,
+}
+
+#[derive(Clone, Copy, Debug)]
+pub struct View {
+    pub start: f64,
+    pub spp: f64,
+    pub width: u64,
+    pub output: u64,
+}
+
+#[derive(Clone, Copy, Debug)]
+pub struct Burst {
+    pub mask: u16,
+    pub sample: u64,
+    pub max_gap: u64,
+    pub tolerance: u64,
+    pub budget: u64,
+}
+
+#[derive(Clone, Debug)]
+pub enum Op {
+    // These set the scene and have no answer.
+    Lend(Lent),
+    Record(Store),
+    Feeder(Recorder),
+    Put { level: u64, index: u64, value: u16 },
+    // The store.
+    Capture { channels: u64, capacity: u64 },
+    Append(Feed),
+    Run,
+    Get(u64),
+    Samples { start: u64, count: u64, output: u64 },
+    Raw(u64),
+    Whole,
+    // Search, bursts, pixels.
+    Next { mask: u16, from: u64 },
+    Prev { mask: u16, from: u64 },
+    Summary { a: u64, b: u64 },
+    Burst(Burst),
+    Render(View),
+    RenderDigest(View),
+    // The recorder.
+    Pretrigger { time: f64, rate: u64, unit: u64 },
+    Start(Settings),
+    Push(Feed),
+    State,
+}
+
+impl Op {
+    /// Whether another capture begins here.
+    pub fn begins(&self) -> bool {
+        matches!(self, Op::Capture { .. } | Op::Start(_))
+    }
+}

@@ -1,0 +1,126 @@
+//! Makes the lists and writes them to the folder answers.
+
+use crate::groups::GROUPS;
+use crate::list::List;
+use rng::Rng;
+use std::path::PathBuf;
+
+const SEED: u64 = 20_260_930;
+
+pub struct Made {
+    pub name: &'static str,
+    pub text: String,
+    pub differences: Vec<String>,
+    pub summary: String,
+}
+
+/// All lists, the same at every call. Each has its own random numbers.
+pub fn lists() -> impl Iterator<Item = Made> {
+    GROUPS.iter().enumerate().map(|(number, group)| {
+        let mut list = List::new();
+        let mut rng = Rng::new(SEED + number as u64);
+        (group.write)(&mut list, &mut rng);
+        let text = list.text();
+        let asker = list.asker();
+        // Codes of one digit have no answer.
+        let has_answer = |line: &&str| line.split(' ').next().is_some_and(|code| code.len() > 1);
+        let cases = text.lines().filter(has_answer).count();
+        let asked = asker.counts;
+        let summary = format!(
+            "{}: {cases} cases, {} bytes; asked in all: {} answered by the Rust, {} refused by 01, {} only by 01",
+            file_name(group.name),
+            text.len(),
+            asked.by_rust,
+            asked.refused,
+            asked.rust_has_none,
+        );
+        let differences = std::mem::take(&mut asker.differences);
+        Made { name: group.name, text, differences, summary }
+    })
+}
+
+pub fn file_name(group: &str) -> String {
+    format!("{group}.txt")
+}
+
+pub fn path(group: &str) -> PathBuf {
+    PathBuf::from(env!("CARGO_MANIFEST_DIR")).join("../answers").join(file_name(group))
+}
+
+pub fn write() -> bool {
+    let mut good = true;
+    for made in lists() {
+        println!("{}", made.summary);
+        for difference in made.differences.iter().take(5) {
+            println!("the Rust differs from document 01:\n{difference}");
+            good = false;
+        }
+        if let Err(error) = std::fs::write(path(made.name), &made.text) {
+            println!("{} can't be written: {error}", file_name(made.name));
+            good = false;
+        }
+    }
+    good
+}
+
+#[cfg(test)]
+mod tests {
+    use std::sync::OnceLock;
+
+    fn make() -> Vec<String> {
+        super::lists().map(|made| made.text).collect()
+    }
+
+    fn texts() -> &'static [String] {
+        static MADE: OnceLock<Vec<String>> = OnceLock::new();
+        MADE.get_or_init(make)
+    }
+
+    #[test]
+    fn writes_the_same_twice() {
+        assert!(texts() == make());
+    }
+
+    /// What answers/README.md promises a reader with little memory.
+    #[test]
+    fn fits_a_reader() {
+        let most = [4_194_304, 393_216, 12_288, 384, 12, 524_288];
+        for text in texts() {
+            assert!(text.len() < 100_000);
+            for line in text.lines() {
+                assert!(line.len() < 1_000);
+                if let Some(lengths) = line.strip_prefix("1 ") {
+                    let lengths = lengths.split(' ').map(|n| n.parse::<u64>().unwrap());
+                    assert!(lengths.zip(most).all(|(length, most)| length <= most), "{line}");
+                }
+            }
+        }
+    }
+
+    /// With the numbers that document 01 prints, in its order.
+    #[test]
+    fn holds_the_shelf_examples() {
+        let lists = texts();
+        let a = "11 8 0 0 1 1 0 2 2 3 0 0 8";
+        let b = "11 10 0 1 0 0 0 0 0 0 1 0 0 0 10";
+        let [half, one_and_a_half, four] = [0.5f64, 1.5, 4.0].map(f64::to_bits);
+        let start = format!("51 8 4 4 0 {half} 0 1 0");
+        for (list, lines) in [
+            (1, vec![a, "20 1 0 0 0 1 2", "20 1 7 0 0 0", "20 1 18446744073709551615 1 0 0"]),
+            (1, vec!["21 1 6 0 0 1 4", "21 1 100 0 0 1 7", "22 0 8 0 0 1 0 3 3", "22 4 4 0 0 0"]),
+            (2, vec![a, "30 1 3 4 0 1 0 0 1 2 7 1 0", "30 1 3 3 0 1 0 0 1 2 4 0 0"]),
+            (2, vec![b, "30 1 5 4 3 9 0 0 1 1 2 0 0"]),
+            (3, vec![a, &format!("40 0 {four} 2 4 0 0 4 0 1 0 3")]),
+            (3, vec![&format!("40 {one_and_a_half} {half} 1 2 0 0 2 0 1")]),
+            (4, vec![&format!("{start} 0 0 0 1 2 0"), "52 2 0 0 0 0 0", "52 3 0 1 1 0 0 1"]),
+            (4, vec!["14 0 0 4 1 2 0 17041158", "55 1 0 0 0 1 1", "16 0 40 40 0 0 4 0 0 1 1"]),
+            (4, vec![&format!("{start} 0 0 0 1 2 0"), "52 1 1 0 0 0", "14 0 0 0 0 0 1 0"]),
+            (4, vec![&format!("{start} 3 0 0 1 2 0"), "52 1 1 0 0 0", "14 0 0 1 1 0 0 2"]),
+            (4, vec![&format!("51 8 3 0 1 {half} 3 1 0 0 0 0 1 2 0")]),
+            (0, vec![a, "15 8 1 9", "15 7 0 0 3"]),
+        ] {
+            let lines = lines.join("\n");
+            assert!(lists[list].contains(&lines), "no\n{lines}");
+        }
+    }
+}

@@ -1,0 +1,6 @@
+pub mod Ring
+pub mod Slots
+pub mod Bytes
+pub mod Selects
+pub mod Push
+pub mod Lists

@@ -1,0 +1,4 @@
+pub mod Ring
+pub mod Bytes
+pub mod Step
+pub mod Push
