@@ -1,13 +1,15 @@
 -- The code's record as 01's store, and the lengths of lent memory.
+use mathlib.Core.Path.{_≡_}
 use mathlib.Core.List.{List}
 use mathlib.Core.Option.{Option, none, some}
 use Prim.Native.Nat.{ℕ, _≤_}
 use lib.ListN.{length}
-use Rattle.rules.specs.Refusal.{Store, Lent, mostSamples}
+use Rattle.rules.specs.Refusal.{Store, Lent, mostSamples, samplesNeed, levelNeed}
 use Rattle.node.specs.Memory.{levelOf}
 use Rattle.capture.specs.declared.Mark.{Mark}
 use Rattle.capture.specs.declared.Mark.the-variants.{Absent, At}
 use Rattle.capture.specs.declared.Capture.{Capture}
+use Rattle.capture.specs.declared.Sizes.{Sizes}
 
 abbrev pub markOf : Mark → Option ℕ
 markOf Absent = none
@@ -27,3 +29,11 @@ lentOf samples levels = record { samples = length samples; level = λ l. length 
 pub record Small (c : Capture) : Type 0 where
   pub unit : c .unitsize ≤ 2
   pub capacity : c .capacity ≤ mostSamples
+
+-- the memory that a store needs
+pub record Sized (st : Store) (r : Sizes) : Type 0 where
+  pub samples : r .samples ≡ samplesNeed st
+  pub l1 : r .l1 ≡ levelNeed st 1
+  pub l2 : r .l2 ≡ levelNeed st 2
+  pub l3 : r .l3 ≡ levelNeed st 3
+  pub l4 : r .l4 ≡ levelNeed st 4

@@ -3,9 +3,13 @@ use lines::Mask;
 ghost use mathlib.Core.Path.{_≡_};
 ghost use mathlib.Core.Bool.{Bool};
 ghost use Prim.Native.Nat.{_+_, _*_, _≤_};
-ghost use Rattle.rules.specs.Refusal.{unitWrong, markWrong, storeWrong, lentShort, storeRefusal};
+ghost use lib.ListN.{length};
+ghost use Rattle.rules.specs.Sample.{unitOf, sampleOf};
+ghost use Rattle.rules.specs.Answer.{unless};
+ghost use Rattle.rules.specs.Refusal.{unitWrong, markWrong, storeWrong, lentShort, storeRefusal, fresh, getRefusal, copied};
 ghost use Rattle.node.specs.Memory.{levelOf};
-ghost use Rattle.capture.specs.Record.{markOf, storeOf, lentNumbers, Small};
+ghost use Rattle.capture.specs.Record.{markOf, storeOf, lentNumbers, lentOf, Small, Sized};
+ghost use Rattle.capture.specs.Calls.{neededOf, needRefusal, memoryNeed, startedOf, gotOf, Source, over, Copies, chunkEnd, rawOf};
 
 // 01's mark: the place of the firing sample, once there is one.
 pub enum Mark {
@@ -63,24 +67,47 @@ fn record_wrong(c: Capture) -> bool
     mark_wrong(mark, c.len)
 }
 
+// How much memory a store takes: bytes of samples, and numbers of each level.
+pub struct Sizes {
+    pub samples: usize,
+    pub l1: usize,
+    pub l2: usize,
+    pub l3: usize,
+    pub l4: usize,
+}
+
+fn sizes_of(c: Capture) -> Sizes
+    requires { ⌜ Small c ⌝ }
+    ensures { λ r. ⌜ Sized (storeOf c) r ⌝ }
+{
+    Sizes {
+        samples: c.capacity * c.unitsize,
+        l1: (c.capacity + 31) / 32 * 3,
+        l2: (c.capacity + 1023) / 1024 * 3,
+        l3: (c.capacity + 32767) / 32768 * 3,
+        l4: (c.capacity + 1048575) / 1048576 * 3,
+    }
+}
+
 // Row 2: a lent slice is shorter than needed.
 fn memory_short(c: Capture, samples: usize, n1: usize, n2: usize, n3: usize, n4: usize) -> bool
     requires { ⌜ Small c ⌝ }
     ensures { λ r. ⌜ r ≡ lentShort (storeOf c) (lentNumbers samples n1 n2 n3 n4) ⌝ }
 {
-    if samples < c.capacity * c.unitsize {
+    let need = sizes_of(c);
+    if samples < need.samples {
         return true;
     }
-    if n1 < (c.capacity + 31) / 32 * 3 {
+    if n1 < need.l1 {
         return true;
     }
-    if n2 < (c.capacity + 1023) / 1024 * 3 {
+    if n2 < need.l2 {
         return true;
     }
-    if n3 < (c.capacity + 32767) / 32768 * 3 {
+    if n3 < need.l3 {
         return true;
     }
-    n4 < (c.capacity + 1048575) / 1048576 * 3
+    n4 < need.l4
 }
 
 // Rows 1 and 2 of every call: the number of the first that holds, or 0.
@@ -94,4 +121,190 @@ pub fn refusal(c: Capture, samples: usize, n1: usize, n2: usize, n3: usize, n4: 
         return 2;
     }
     0
+}
+
+// "More than 8 channels means unit 2, else 1."
+fn unit_of(channels: usize) -> usize
+    ensures { λ r. ⌜ r ≡ unitOf channels ⌝ }
+{
+    if 8 < channels {
+        return 2;
+    }
+    1
+}
+
+// A store with nothing in it.
+fn empty(channels: usize, capacity: usize) -> Capture
+    ensures { λ r. ⌜ storeOf r ≡ fresh channels capacity ⌝ }
+{
+    Capture {
+        unitsize: unit_of(channels),
+        capacity,
+        len: 0,
+        trigger: Mark::Absent,
+    }
+}
+
+pub enum Needed {
+    Refused(u8),
+    Memory(Sizes),
+}
+
+// How much memory a store needs, or 1 where no store has that capacity.
+// By `Calls.needs-enough` memory of these lengths is not refused.
+pub fn needs(channels: usize, capacity: usize) -> Needed
+    ensures { λ r. ⌜ neededOf r ≡ unless (needRefusal (fresh channels capacity)) (memoryNeed (fresh channels capacity)) ⌝ }
+{
+    let c = empty(channels, capacity);
+    if record_wrong(c) {
+        return Needed::Refused(1);
+    }
+    Needed::Memory(sizes_of(c))
+}
+
+pub enum Started {
+    Refused(u8),
+    Store(Capture),
+}
+
+// 01's start of a store: its record, or 1 or 2. It writes no memory.
+pub fn start<'a>(
+    channels: usize,
+    capacity: usize,
+    samples: &[u8],
+    l1: &'a [Mask],
+    l2: &'a [Mask],
+    l3: &'a [Mask],
+    l4: &'a [Mask],
+) -> Started
+    ensures { λ r. ⌜ startedOf r ≡ unless (storeRefusal (fresh channels capacity) (lentOf (now (samples .entry)) (levelOf (now (l1 .entry)) (now (l2 .entry)) (now (l3 .entry)) (now (l4 .entry))))) (fresh channels capacity) ⌝ }
+{
+    let c = empty(channels, capacity);
+    let n = refusal(c, samples.len(), l1.len(), l2.len(), l3.len(), l4.len());
+    if n != 0 {
+        return Started::Refused(n);
+    }
+    Started::Store(c)
+}
+
+pub enum Got {
+    Refused(u8),
+    Value(Mask),
+}
+
+// 01's Get(i): the sample, or 1, 2 or 9.
+pub fn get<'a>(
+    c: Capture,
+    samples: &[u8],
+    l1: &'a [Mask],
+    l2: &'a [Mask],
+    l3: &'a [Mask],
+    l4: &'a [Mask],
+    i: usize,
+) -> Got
+    ensures { λ r. ⌜ gotOf r ≡ unless (getRefusal (storeOf c) (lentOf (now (samples .entry)) (levelOf (now (l1 .entry)) (now (l2 .entry)) (now (l3 .entry)) (now (l4 .entry)))) i) (sampleOf (c .unitsize) (now (samples .entry)) i) ⌝ }
+{
+    let n = refusal(c, samples.len(), l1.len(), l2.len(), l3.len(), l4.len());
+    if n != 0 {
+        return Got::Refused(n);
+    }
+    if c.len <= i {
+        return Got::Refused(9);
+    }
+    Got::Value(lines::get(samples, c.unitsize, i))
+}
+
+// How many samples [start, min(start + count, len)) has; a sum above 2^64 − 1 counts as that.
+fn count_copied(len: usize, start: usize, count: usize) -> usize
+    ensures { λ r. ⌜ r ≡ copied len start count ⌝ }
+{
+    if len <= start {
+        return 0;
+    }
+    let left = len - start;
+    if count < left {
+        return count;
+    }
+    left
+}
+
+// The first k numbers of output become the samples from start on.
+fn copy_samples(bytes: &[u8], unitsize: usize, start: usize, k: usize, output: &mut [Mask])
+    requires { ⌜ Source unitsize start k (length (now bytes)) (length (now output)) ⌝ }
+    ensures { λ _. ⌜ now (output .exit) ≡ over (sampleOf unitsize (now (bytes .entry))) start k (now (output .entry)) ⌝ }
+{
+    let mut i = 0;
+    while i < k {
+        output[i] = lines::get(bytes, unitsize, start + i);
+        i += 1;
+    }
+}
+
+pub enum Copied {
+    Refused(u8),
+    Count(usize),
+}
+
+// 01's Samples(start, count): the count copied to output, or 1, 2 or 11 and nothing copied.
+pub fn samples<'a>(
+    c: Capture,
+    bytes: &[u8],
+    l1: &'a [Mask],
+    l2: &'a [Mask],
+    l3: &'a [Mask],
+    l4: &'a [Mask],
+    start: usize,
+    count: usize,
+    output: &mut [Mask],
+) -> Copied
+    ensures { λ r. ⌜ Copies (storeOf c) (now (bytes .entry)) (levelOf (now (l1 .entry)) (now (l2 .entry)) (now (l3 .entry)) (now (l4 .entry))) start count (now (output .entry)) r (now (output .exit)) ⌝ }
+{
+    let n = refusal(c, bytes.len(), l1.len(), l2.len(), l3.len(), l4.len());
+    if n != 0 {
+        return Copied::Refused(n);
+    }
+    let k = count_copied(c.len, start, count);
+    if output.len() < k {
+        return Copied::Refused(11);
+    }
+    copy_samples(bytes, c.unitsize, start, k, output);
+    Copied::Count(k)
+}
+
+const CHUNK: usize = 1048576;
+
+// Where a chunk's samples end.
+fn chunk_end(len: usize, chunk: usize) -> usize
+    requires { ⌜ chunk * 1048576 ≤ len ⌝ }
+    ensures { λ r. ⌜ r ≡ chunkEnd len chunk ⌝ }
+{
+    let base = chunk * CHUNK;
+    if len - base < CHUNK {
+        return len;
+    }
+    base + CHUNK
+}
+
+// 01's Raw(c): a chunk's stored bytes, empty past the end and where 1 or 2 applies.
+pub fn raw<'s, 'a>(
+    c: Capture,
+    samples: &'s [u8],
+    l1: &'a [Mask],
+    l2: &'a [Mask],
+    l3: &'a [Mask],
+    l4: &'a [Mask],
+    chunk: usize,
+) -> &'s [u8]
+    ensures { λ r. ⌜ now r ≡ rawOf (storeOf c) (now (samples .entry)) (levelOf (now (l1 .entry)) (now (l2 .entry)) (now (l3 .entry)) (now (l4 .entry))) chunk ⌝ }
+{
+    let n = refusal(c, samples.len(), l1.len(), l2.len(), l3.len(), l4.len());
+    if n != 0 {
+        return &samples[..0];
+    }
+    if (c.len + (CHUNK - 1)) / CHUNK <= chunk {
+        return &samples[..0];
+    }
+    let a = chunk * CHUNK * c.unitsize;
+    let e = chunk_end(c.len, chunk) * c.unitsize;
+    &samples[a..e]
 }

@@ -32,7 +32,7 @@ both-true : (a b : Bool) → (a && b) ≡ true → (a ≡ true) × (b ≡ true)
 both-true true b e = (refl, e)
 both-true false b e = (cc, cc)
 
-fitting : (pos room l : ℕ) → fitsAt pos room l ≡ true → Fits pos room l
+pub fitting : (pos room l : ℕ) → fitsAt pos room l ≡ true → Fits pos room l
 fitting pos room l e = let b = both-true _ _ e in record { aligned = eqb-true _ _ (b .0); small = leb-true _ _ (b .1) }
 
 fits-true : (pos room l : ℕ) → Fits pos room l → fitsAt pos room l ≡ true

@@ -12,7 +12,7 @@ use Rattle.terms.specs.declared.Condition.the-variants.{Rising, Falling,
 use Rattle.terms.specs.declared.TriggerTerm.{TriggerTerm}
 use Rattle.terms.specs.declared.Masks.{Masks}
 use Rattle.terms.specs.declared.Terms as declared
-use Rattle.terms.specs.Terms.{conditionOf, termOf, asMasks, noTerms, withLine, withTerm, withTerms, termsOf}
+use Rattle.terms.specs.Terms.{conditionOf, termOf, asMasks, noTerms, withLine, withTerm, withTerms, termsOf, armedBy}
 
 or-assoc : (a b c : Bool) → (a || b || c) ≡ (a || (b || c))
 or-assoc true b c = refl
@@ -83,9 +83,6 @@ any-stays : (list : List TriggerTerm) (ts : declared.Terms) → ts .any ≡ true
 unfolding withTerms
 any-stays [] ts e = e
 any-stays (t ∷ list) ts e = any-stays list (withTerm ts t) refl
-
-abbrev pub armedBy : declared.Terms → rule.Armed
-armedBy ts = cond (ts .any) (rule.waiting (asMasks (ts .masks))) rule.unarmed
 
 -- armed as 01 arms
 pub terms-armed : (list : List TriggerTerm) → lineWrong (map termOf list) ≡ false → armedBy (termsOf list) ≡ rule.armedOf (map termOf list)

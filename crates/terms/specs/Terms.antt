@@ -57,3 +57,7 @@ withTerms ts (t ∷ more) = withTerms (withTerm ts t) more
 
 abbrev pub termsOf : List TriggerTerm → declared.Terms
 termsOf list = withTerms noTerms list
+
+-- armed where there is a term
+abbrev pub armedBy : declared.Terms → rule.Armed
+armedBy ts = cond (ts .any) (rule.waiting (asMasks (ts .masks))) rule.unarmed

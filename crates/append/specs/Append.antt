@@ -1,0 +1,52 @@
+-- What an append answers and what it leaves, whatever it is given. 01: Store; Where each number is checked, 1, 2 and 8.
+use mathlib.Core.Path.{_≡_}
+use mathlib.Core.Bool.{cond}
+use mathlib.Core.List.{List}
+use Prim.Native.Nat.{ℕ, _+_, _*_, _≤_}
+use lib.Dec.{eqb}
+use lib.Seq.{paste}
+use Rattle.rules.specs.Node.{Node, topLevel, levelNode}
+use Rattle.rules.specs.Sample.{sampleOf, countOf}
+use Rattle.rules.specs.Refusal.{appendRefusal}
+use Rattle.rebuild.specs.Rebuild.{levelAfter}
+use Rattle.capture.specs.declared.Capture.{Capture}
+use Rattle.capture.specs.Record.{storeOf, lentOf}
+use Rattle.append.specs.declared.Appended.{Appended}
+use Rattle.append.specs.declared.Appended.the-variants.{Refused, Done}
+
+-- the number of an answer: 0 where nothing refuses
+abbrev pub numberOf : Appended → ℕ
+numberOf (Refused k c) = k
+numberOf (Done c) = 0
+
+-- the record of an answer
+abbrev pub recordOf : Appended → Capture
+recordOf (Refused k c) = c
+recordOf (Done c) = c
+
+-- the record with n more samples
+abbrev pub grown : Capture → ℕ → Capture
+grown c n = record { unitsize = c .unitsize; capacity = c .capacity; len = c .len + n; trigger = c .trigger }
+
+-- the number of the first row that holds, 0 where none does
+unfoldable pub refusalOf : Capture → List ℕ → (ℕ → List ℕ) → List ℕ → ℕ
+refusalOf c samples levels bytes = appendRefusal (storeOf c) (lentOf samples levels) (countOf (c .unitsize) bytes)
+
+-- how many samples are taken: every whole one of the bytes, and none where a row refuses
+unfoldable pub takenOf : Capture → List ℕ → (ℕ → List ℕ) → List ℕ → ℕ
+takenOf c samples levels bytes = cond (eqb (refusalOf c samples levels bytes) 0) (countOf (c .unitsize) bytes) 0
+
+-- the nodes of level 1 that an append makes: each from the samples of its range, `end` of which are stored then
+abbrev pub firstNodes : ℕ → List ℕ → ℕ → ℕ → Node
+firstNodes unit samples end = levelNode (sampleOf unit samples) end 1
+
+-- memory once n samples of the bytes have joined len samples of a unit: the bytes, and each level
+pub record Stored (unit len n : ℕ) (bytes samples : List ℕ) (levels : ℕ → List ℕ) (samples′ : List ℕ) (levels′ : ℕ → List ℕ) : Type 0 where
+  pub samples-are : samples′ ≡ paste samples (len * unit) bytes (n * unit)
+  pub levels-are : (l : ℕ) → 1 ≤ l → l ≤ topLevel → levels′ l ≡ levelAfter (firstNodes unit samples′ (len + n)) levels len n l
+
+-- an append of bytes to a capture, over any memory: its answer, and what it leaves
+pub record Appends (c : Capture) (bytes samples : List ℕ) (levels : ℕ → List ℕ) (answer : Appended) (samples′ : List ℕ) (levels′ : ℕ → List ℕ) : Type 0 where
+  pub number-is : numberOf answer ≡ refusalOf c samples levels bytes
+  pub record-is : recordOf answer ≡ grown c (takenOf c samples levels bytes)
+  pub memory : Stored (c .unitsize) (c .len) (takenOf c samples levels bytes) bytes samples levels samples′ levels′

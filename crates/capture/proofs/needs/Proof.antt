@@ -1,0 +1,34 @@
+-- `capture::needs` meets its contract: row 1 of the store that it asks for. Assumes nothing.
+use mathlib.Core.Path.{sym, ap, _∙_}
+use mathlib.Core.Bool.{Bool, cond}
+use native.Mathlib.Omega.{arith}
+use borrow.Author.Needs.{needs}
+use Rattle.rules.proofs.Refusal.{ranged}
+use Rattle.rules.specs.Refusal.{storeWrong}
+use Rattle.capture.specs.Calls.{memoryNeed}
+use Rattle.capture.proofs.Calls.{memory-is}
+use Rattle.capture.specs.Record.{storeOf}
+use Rattle.capture.proofs.Answer.{refused-is, given-is}
+use Rattle.capture.proofs.needs.Statement.{statement}
+use Rattle.capture.proofs.needs.Tie as tie
+
+empty-requires : tie.Need-empty-requires
+empty-requires c κs = search needs
+
+record-wrong-requires : tie.Need-record-wrong-requires
+record-wrong-requires c κs = search needs
+
+returns : tie.Need-returns
+returns c = refused-is _ _ 1 (ap (λ (b : Bool). cond b 1 0) (ap storeWrong (sym (c .before .before .empty .ensures)) ∙ sym (c .before .record-wrong .ensures) ∙ c .if1 .taken)) (λ z. omega arith)
+
+sizes-of-requires : tie.Need-sizes-of-requires
+sizes-of-requires c κs =
+    let r = ranged (storeOf (c .before .before .empty .result)) (sym (c .before .record-wrong .ensures) ∙ c .if1 .left) in
+    record { unit = r .unit-most; capacity = r .capacity-most }
+
+returns-2 : tie.Need-returns-2
+returns-2 c = given-is _ _ _ (ap (λ (b : Bool). cond b 1 0) (ap storeWrong (sym (c .before .before .before .empty .ensures)) ∙ sym (c .before .before .record-wrong .ensures) ∙ c .before .if1 .left)) (memory-is _ _ (c .sizes-of .ensures) ∙ ap memoryNeed (c .before .before .before .empty .ensures))
+
+pub needs-spec : {M : Type 1} → statement M
+needs-spec =
+    tie.close (tie.spec empty-requires record-wrong-requires returns sizes-of-requires returns-2)

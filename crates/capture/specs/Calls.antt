@@ -1,0 +1,81 @@
+-- What the plain calls answer, as 01's numbers and values, and the memory that they leave.
+use mathlib.Core.Path.{_≡_}
+use mathlib.Core.Bool.{cond}
+use mathlib.Core.List.{List, [], _∷_, _++_}
+use Prim.Native.Nat.{ℕ, zero, suc, _+_, _-_, _*_, _≤_, min}
+use lib.Dec.{eqb}
+use lib.ListN.{length, take, drop}
+use Rattle.rules.specs.Sample.{sampleOf, listFrom}
+use Rattle.rules.specs.Node.{chunk}
+use Rattle.rules.specs.Answer.{Answer, refused, given, unless}
+use Rattle.rules.specs.Refusal.{Store, Lent, firstOf, storeWrong, samplesNeed, levelNeed, storeRefusal, copied, samplesRefusal}
+use Rattle.capture.specs.Record.{storeOf, lentNumbers, lentOf}
+use Rattle.capture.specs.declared.Needed.{Needed}
+use Rattle.capture.specs.declared.Needed.the-variants as needed
+use Rattle.capture.specs.declared.Started.{Started}
+use Rattle.capture.specs.declared.Started.the-variants as started
+use Rattle.capture.specs.declared.Got.{Got}
+use Rattle.capture.specs.declared.Got.the-variants as got
+use Rattle.capture.specs.declared.Copied.{Copied}
+use Rattle.capture.specs.declared.Copied.the-variants as copies
+
+-- ---- needs
+-- 1 is for a capacity that no store has
+abbrev pub needRefusal : Store → ℕ
+needRefusal st = firstOf (record { number = 1; holds = storeWrong st } ∷ [])
+
+-- as lengths of lent slices
+abbrev pub memoryNeed : Store → Lent
+memoryNeed st = lentNumbers (samplesNeed st) (levelNeed st 1) (levelNeed st 2) (levelNeed st 3) (levelNeed st 4)
+
+abbrev pub neededOf : Needed → Answer Lent
+neededOf (needed.Refused n) = refused n
+neededOf (needed.Memory m) = given (lentNumbers (m .samples) (m .l1) (m .l2) (m .l3) (m .l4))
+
+-- ---- start
+abbrev pub startedOf : Started → Answer Store
+startedOf (started.Refused n) = refused n
+startedOf (started.Store c) = given (storeOf c)
+
+-- ---- get
+abbrev pub gotOf : Got → Answer ℕ
+gotOf (got.Refused n) = refused n
+gotOf (got.Value v) = given v
+
+-- ---- samples
+abbrev pub copiedOf : Copied → Answer ℕ
+copiedOf (copies.Refused n) = refused n
+copiedOf (copies.Count k) = given k
+
+-- k samples from place p on, and after them what output had
+unfoldable pub over : (ℕ → ℕ) → ℕ → ℕ → List ℕ → List ℕ
+over s p k output = listFrom s p k ++ drop k output
+
+-- nothing is copied where a row refuses
+abbrev pub unrefused : ℕ → ℕ → ℕ
+unrefused zero k = k
+unrefused (suc n) k = 0
+
+pub record Copies (st : Store) (bytes : List ℕ) (levels : ℕ → List ℕ) (start count : ℕ) (output : List ℕ) (r : Copied) (output′ : List ℕ) : Type 0 where
+  pub answer-is : copiedOf r ≡ unless (samplesRefusal st (lentOf bytes levels) start count (length output)) (copied (st .len) start count)
+  pub output-is : output′ ≡ over (sampleOf (st .unit) bytes) start (unrefused (samplesRefusal st (lentOf bytes levels) start count (length output)) (copied (st .len) start count)) output
+
+-- k samples from place p on lie in n bytes, and have room in an output
+pub record Source (unit p k n output : ℕ) : Type 0 where
+  pub low : 1 ≤ unit
+  pub high : unit ≤ 2
+  pub bytes : 1 ≤ k → (p + k) * unit ≤ n
+  pub room : k ≤ output
+
+-- ---- raw
+-- the bytes of the places [a, b)
+unfoldable pub partOf : ℕ → List ℕ → ℕ → ℕ → List ℕ
+partOf unit bytes a b = take (b * unit - a * unit) (drop (a * unit) bytes)
+
+-- where the stored samples of chunk c end
+abbrev pub chunkEnd : ℕ → ℕ → ℕ
+chunkEnd len c = min ((c + 1) * chunk) len
+
+-- "Raw(c) returns chunk c's stored bytes .., empty if c is past the end or 1 or 2 below would apply"
+abbrev pub rawOf : Store → List ℕ → (ℕ → List ℕ) → ℕ → List ℕ
+rawOf st bytes levels c = cond (eqb (storeRefusal st (lentOf bytes levels)) 0) (partOf (st .unit) bytes (c * chunk) (chunkEnd (st .len) c)) []

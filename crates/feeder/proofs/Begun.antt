@@ -1,0 +1,187 @@
+-- A recorder's start: each of its answers is the definition's; over a list of terms the definition is 01's; and a fresh recorder is within the bounds that a push asks.
+use mathlib.Core.Path.{_≡_, refl, sym, ap, _∙_, subst}
+use mathlib.Core.Bool.{Bool, true, false, cond, _||_}
+use mathlib.Core.List.{List, [], _∷_, _++_, map}
+use mathlib.Core.Option.{none}
+use Prim.Native.Nat.{ℕ, zero, suc, _*_, _≤_, _<_, _^_}
+use native.Mathlib.Nat.{mul-le-mul}
+use native.Mathlib.Omega.{arith}
+use lib.Dec.{ltb, leb}
+use borrow.Author.Tests.{ltb-false, lt-ltb, le-ltb, leb-false, le-leb, lt-leb}
+use Rattle.rules.specs.Sample.{unitOf}
+use Rattle.rules.specs.Pretrigger as rule
+use Rattle.rules.specs.Trigger as trigger
+use Rattle.rules.specs.Selection.{Settings}
+use Rattle.rules.specs.Refusal.{Store, Lent, Row, firstOf, storeRows, storeRefusal, fresh, ringNeed, lineWrong, wishWrong, numberWrong, preOf, startRefusal}
+use Rattle.rules.specs.Answer.{Answer, refused, given, unless}
+use Rattle.rules.proofs.Refusal.{Sound, SoundRecorder}
+use Rattle.terms.specs.declared.Terms.{Terms}
+use Rattle.terms.specs.declared.TriggerTerm.{TriggerTerm}
+use Rattle.terms.specs.Terms.{noTerms, withTerm, withTerms, termsOf, armedBy}
+use Rattle.terms.proofs.Fold.{terms-wrong, terms-armed}
+use Rattle.feeder.specs.declared.Pretrigger.{Pretrigger}
+use Rattle.feeder.specs.declared.Feeder.{Feeder}
+use Rattle.feeder.specs.declared.Started.the-variants.{Fresh}
+use Rattle.feeder.specs.Record.{wishOf, recorderOf}
+use Rattle.feeder.specs.Start.{Begun, freshOf, begun, startRule, startedOf, settingsRows, keptRow, answerOf, startOf, settingsOf, Workable}
+use Rattle.feeder.proofs.Rows.{Numbered, Passed, all-passed, rows-stop, rows-then, store-passed, either}
+
+-- ---- refusals as answers
+refused-is : (n : ℕ) (b : Begun) → (n ≡ 0 → ⊥) → refused n ≡ unless n b
+refused-is zero b h = absurd (h refl)
+refused-is (suc n) b h = refl
+
+-- where a row holds, the record does not matter
+unless-same : (n : ℕ) (a b : Begun) → (n ≡ 0 → a ≡ b) → unless n a ≡ unless n b
+unless-same zero a b h = ap given (h refl)
+unless-same (suc n) a b h = refl
+
+-- an answer that is given is of no refusal
+pub given-is : (n : ℕ) (a b : Begun) → given b ≡ unless n a → (n ≡ 0) × (b ≡ a)
+given-is zero a b e = (refl, cc)
+given-is (suc n) a b e = absurd (let z : _≡_ {A = ℕ} 0 1 = cc in omega arith)
+
+-- ---- rows 1 to 6; n is the number of the first of rows 1 and 2
+module _ (st : Store) (lent : Lent) (limit : ℕ) (wrong : Bool) (wish : rule.Pretrigger) (rate n : ℕ) (told : n ≡ storeRefusal st lent) where
+  abbrev four : List Row
+  four =
+      record { number = 3; holds = wrong }
+      ∷ record { number = 4; holds = ltb (st .capacity) limit }
+      ∷ record { number = 5; holds = wishWrong wish limit }
+      ∷ record { number = 6; holds = numberWrong wish rate }
+      ∷ []
+
+  pub store-row : (n ≡ 0 → ⊥) → n ≡ firstOf (settingsRows st lent limit wrong wish rate)
+  store-row h = told ∙ sym (rows-stop (storeRows st lent []) four (λ z. h (told ∙ z)))
+
+  pub row-by : n ≡ 0 → (c3 c4 c5 c6 : Bool) → wrong ≡ c3 → ltb (st .capacity) limit ≡ c4 → wishWrong wish limit ≡ c5 → numberWrong wish rate ≡ c6
+      → cond {A = ℕ} c3 3 (cond c4 4 (cond c5 5 (cond c6 6 0))) ≡ firstOf (settingsRows st lent limit wrong wish rate)
+  row-by h c3 c4 c5 c6 e3 e4 e5 e6 =
+      go wrong (ltb (st .capacity) limit) (wishWrong wish limit) (numberWrong wish rate) e3 e4 e5 e6
+      ∙ sym (rows-then (storeRows st lent []) four (omega arith, (omega arith, tt)) (sym told ∙ h))
+    where
+      go : (a b c d : Bool) → a ≡ c3 → b ≡ c4 → c ≡ c5 → d ≡ c6 → cond {A = ℕ} c3 3 (cond c4 4 (cond c5 5 (cond c6 6 0))) ≡ cond a 3 (cond b 4 (cond c 5 (cond d 6 0)))
+      go a b c d e3 e4 e5 e6 = cc
+
+-- ---- the call; u is the unit, as the code works it out
+module _ (channels capacity limit : ℕ) (terms : Terms) (wish : Pretrigger) (rate : ℕ) (lent : Lent) (ring u : ℕ) (unit : u ≡ unitOf channels) where
+  abbrev store : Store
+  store = record { unit = u; capacity = capacity; len = 0; mark = none }
+
+  abbrev rows : List Row
+  rows = settingsRows store lent limit (terms .wrong) (wishOf wish) rate
+
+  start-is : (k : rule.Kept) → k ≡ rule.keptOf (wishOf wish) limit rate u → answerOf store lent limit terms (wishOf wish) rate k ring ≡ startOf channels capacity limit terms wish rate lent ring
+  unfolding startOf
+  start-is k e =
+      ap (λ (x : rule.Kept). answerOf store lent limit terms (wishOf wish) rate x ring) e
+      ∙ ap (λ (x : ℕ). answerOf (record { unit = x; capacity = capacity; len = 0; mark = none }) lent limit terms (wishOf wish) rate (rule.keptOf (wishOf wish) limit rate x) ring) unit
+
+  numbered : Numbered rows
+  numbered = (omega arith, (omega arith, (omega arith, (omega arith, (omega arith, (omega arith, tt))))))
+
+  module _ (n : ℕ) (told : n ≡ firstOf rows) where
+    -- one of the rows 1 to 6
+    pub start-refused : (n ≡ 0 → ⊥) → refused n ≡ startOf channels capacity limit terms wish rate lent ring
+    start-refused h =
+        let kept = rule.keptOf (wishOf wish) limit rate u in
+        refused-is n (freshOf store limit (armedBy terms) kept) h
+        ∙ ap (λ (x : ℕ). unless x (freshOf store limit (armedBy terms) kept)) (told ∙ sym (rows-stop rows (keptRow store (kept .samples) ring ∷ []) (λ z. h (told ∙ z))))
+        ∙ start-is kept refl
+
+    module _ (none-holds : n ≡ 0) where
+      passed : Passed rows
+      passed = all-passed rows numbered (sym told ∙ none-holds)
+
+      sound : Sound store lent
+      sound = store-passed store lent (passed .0) (passed .1 .0) .0
+
+      pub workable : Workable (wishOf wish) limit rate u
+      workable =
+          let l = ltb-false capacity limit (passed .1 .1 .1 .0) in
+          record { limit-most = omega (arith, l, sound .capacity-most); number = passed .1 .1 .1 .1 .1 .0; unit-least = sound .unit-least }
+
+      pub pre-fits : (pre : ℕ) → pre < capacity → pre * u < 2 ^ 64
+      pre-fits pre h =
+          let most : pre ≤ 67108864 = omega (arith, sound .capacity-most) in
+          omega (arith, mul-le-mul most (sound .unit-most))
+
+      module _ (k : rule.Kept) (kept : k ≡ rule.keptOf (wishOf wish) limit rate u) where
+        by : (b : Bool) → keptRow store (k .samples) ring .holds ≡ b → unless (cond b 7 0) (freshOf store limit (armedBy terms) k) ≡ startOf channels capacity limit terms wish rate lent ring
+        by b e =
+            ap (λ (x : ℕ). unless x (freshOf store limit (armedBy terms) k))
+            (ap (λ (x : Bool). cond {A = ℕ} x 7 0) (sym e) ∙ sym (rows-then rows (keptRow store (k .samples) ring ∷ []) numbered (sym told ∙ none-holds)))
+            ∙ start-is k kept
+
+        -- row 7
+        pub too-many : capacity ≤ k .samples → refused 7 ≡ startOf channels capacity limit terms wish rate lent ring
+        too-many h = by true (rw (le-leb capacity (k .samples) h))
+
+        pub ring-short : k .samples < capacity → ring < k .samples * u → refused 7 ≡ startOf channels capacity limit terms wish rate lent ring
+        ring-short h g = by true (rw (lt-leb capacity (k .samples) h, lt-ltb ring (k .samples * u) g))
+
+        pub accepted : k .samples < capacity → k .samples * u ≤ ring → (a : trigger.Armed) → a ≡ armedBy terms → given (freshOf store limit a k) ≡ startOf channels capacity limit terms wish rate lent ring
+        accepted h g a e =
+            ap (λ (x : trigger.Armed). given (freshOf store limit x k)) e
+            ∙ by false (rw (lt-leb capacity (k .samples) h, le-ltb ring (k .samples * u) g))
+
+-- ---- over a list of terms, start is 01's
+-- rows 1 to 7
+abbrev startRows : Settings → Lent → ℕ → List Row
+startRows st lent ring =
+    settingsRows (fresh (st .channels) (st .capacity)) lent (st .limit) (lineWrong (st .terms)) (st .wish) (st .rate) ++ (keptRow (fresh (st .channels) (st .capacity)) (preOf st) ring ∷ [])
+
+seven : (st : Settings) (lent : Lent) (ring : ℕ) → Numbered (startRows st lent ring)
+seven st lent ring = (omega arith, (omega arith, (omega arith, (omega arith, (omega arith, (omega arith, (omega arith, tt)))))))
+
+module _ (channels capacity limit : ℕ) (list : List TriggerTerm) (wish : Pretrigger) (rate : ℕ) (lent : Lent) (ring : ℕ) where
+  abbrev st : Settings
+  st = settingsOf channels capacity limit list wish rate
+
+  abbrev made : trigger.Armed → Begun
+  made armed = freshOf (fresh channels capacity) limit armed (rule.keptOf (wishOf wish) limit rate (unitOf channels))
+
+  armed-same : startRefusal st lent ring ≡ 0 → made (armedBy (termsOf list)) ≡ begun st
+  armed-same e = ap made (terms-armed list (all-passed (startRows st lent ring) (seven st lent ring) e .1 .1 .0))
+
+  pub start-rule : startOf channels capacity limit (termsOf list) wish rate lent ring ≡ startRule st lent ring
+  unfolding startOf
+  start-rule =
+      ap (λ (w : Bool). unless (firstOf (settingsRows (fresh channels capacity) lent limit w (wishOf wish) rate ++ (keptRow (fresh channels capacity) (preOf st) ring ∷ []))) (made (armedBy (termsOf list)))) (terms-wrong list)
+      ∙ unless-same (startRefusal st lent ring) (made (armedBy (termsOf list))) (begun st) armed-same
+
+-- one term t, added to none
+pub one-rule : (channels capacity limit : ℕ) (t : TriggerTerm) (wish : Pretrigger) (rate : ℕ) (lent : Lent) (ring : ℕ) (n m : Terms) (b : Answer Begun)
+    → n ≡ noTerms
+    → m ≡ withTerm n t
+    → b ≡ startOf channels capacity limit m wish rate lent ring
+    → b ≡ startRule (settingsOf channels capacity limit (t ∷ []) wish rate) lent ring
+unfolding withTerms
+one-rule channels capacity limit t wish rate lent ring n m b en em eb =
+    eb
+    ∙ ap (λ (x : Terms). startOf channels capacity limit x wish rate lent ring) (em ∙ ap (λ (x : Terms). withTerm x t) en)
+    ∙ start-rule channels capacity limit (t ∷ []) wish rate lent ring
+
+-- ---- a fresh recorder
+-- where start refuses nothing, its record and the lent memory are within the bounds that a push asks
+pub begun-sound : (st : Settings) (lent : Lent) (ring : ℕ) → startRefusal st lent ring ≡ 0 → SoundRecorder (begun st .recorder) lent ring
+begun-sound st lent ring e =
+    let t = all-passed (startRows st lent ring) (seven st lent ring) e in
+    let p = store-passed (fresh (st .channels) (st .capacity)) lent (t .0) (t .1 .0) in
+    let t7 = either (leb (st .capacity) (preOf st)) (ltb ring (ringNeed (preOf st) (unitOf (st .channels)))) (t .1 .1 .1 .1 .1 .1 .0) in
+    record {
+      store = p .0;
+      mark = p .1;
+      limit-most = ltb-false (st .capacity) (st .limit) (t .1 .1 .1 .0);
+      pre-most = leb-false (st .capacity) (preOf st) (t7 .0);
+      kept-most = omega arith;
+      place-inside = omega arith;
+      len-limit = λ h. omega arith;
+      ring = ltb-false ring (ringNeed (preOf st) (unitOf (st .channels))) (t7 .1);
+    }
+
+-- the record that the call gives
+pub fresh-sound : (st : Settings) (lent : Lent) (ring : ℕ) (f : Feeder) (cut : Bool) → startedOf (Fresh f cut) ≡ startRule st lent ring → SoundRecorder (recorderOf f) lent ring
+fresh-sound st lent ring f cut e =
+    let t = given-is (startRefusal st lent ring) (begun st) (record { recorder = recorderOf f; was-cut = cut }) e in
+    subst (λ (b : Begun). SoundRecorder (b .recorder) lent ring) (sym (t .1)) (begun-sound st lent ring (t .0))

@@ -1,0 +1,169 @@
+-- Levels made anew: right levels stay right, and what covers none of the new places stays.
+use Prim.Native.Nat.{ℕ, zero, suc, _+_, _-_, _*_, _/_, _≤_, _<_, min}
+use mathlib.Core.Path.{_≡_, refl, sym, ap, ap₂, _∙_, subst}
+use mathlib.Core.Bool.{Bool, true, false, cond}
+use mathlib.Core.Logic.{_⊎_, inl, inr}
+use mathlib.Core.List.{List}
+use native.Mathlib.Nat.{add-zero, pow-suc, mul-le-mul-right, lt-of-mul-lt-mul-right, div-add-mod', mod-lt}
+use native.Mathlib.Decide.{decLe, decLt}
+use native.Mathlib.Omega.{arith}
+use borrow.Author.Tests.{eq-eqb, ne-eqb}
+use lib.Dec.{eqb}
+use lib.ListN.{length, getD}
+use Rattle.rules.specs.Node.{Node, join, nodeOf, span, topLevel, levelNode}
+use Rattle.rules.specs.Refusal.{nodeSize}
+use Rattle.rules.proofs.Node.{node-join, node-same}
+use Rattle.rules.proofs.Walk.{span-pos}
+use Rattle.node.specs.Memory.{nodeIn, Right}
+use Rattle.rebuild.specs.Rebuild.{putNodes, joinOver, madeOver, touched, built, levelAfter}
+use Rattle.rebuild.specs.Room.{Roomy}
+use Rattle.rebuild.proofs.Nodes.{length-puts, puts-rest, puts-other, puts-at}
+
+-- nodes of w samples, of which the first len are stored, partial last ones too
+abbrev True : (ℕ → ℕ) → ℕ → ℕ → (ℕ → Node) → Type 0
+True s len w nodes = (j : ℕ) → j * w < len → nodes j ≡ nodeOf s (j * w) (min (suc j * w) len)
+
+-- ---- one level up
+module _ (s : ℕ → ℕ) (len w top : ℕ) (nodes : ℕ → Node) (hw : 1 ≤ w) (low : top * w < len) (high : len ≤ suc top * w) (r : True s len w nodes) where
+  join-right : (a n : ℕ) → a + n ≤ top → joinOver nodes a n ≡ nodeOf s (a * w) (min (suc (a + n) * w) len)
+  unfolding joinOver
+  join-right a zero h = r a (omega (arith, mul-le-mul-right w h)) ∙ ap (λ (k : ℕ). nodeOf s (a * w) (min (suc k * w) len)) (sym (add-zero a))
+  join-right a (suc n) h =
+      ap₂ join (join-right a n (omega arith) ∙ ap (nodeOf s (a * w)) whole) (r (a + suc n) under)
+      ∙ node-join s (a * w) ((a + suc n) * w) (min (suc (a + suc n) * w) len) (omega (arith, hw)) (omega (arith, under, hw))
+    where
+      under : (a + suc n) * w < len
+      under = omega (arith, mul-le-mul-right w h)
+
+      whole : min (suc (a + n) * w) len ≡ (a + suc n) * w
+      whole = omega (arith, under)
+
+  level-up : True s len (w * 32) (madeOver nodes top)
+  level-up j h = join-right (j * 32) (min 31 (top - j * 32)) (omega (arith, starts)) ∙ ap₂ (nodeOf s) from (to (decLe 31 (top - j * 32)))
+    where
+      starts : j * 32 < suc top
+      starts = lt-of-mul-lt-mul-right w {m = j * 32} {n = suc top} (omega arith)
+
+      from : j * 32 * w ≡ j * (w * 32)
+      from = omega arith
+
+      to : Dec (31 ≤ top - j * 32) → min (suc (j * 32 + min 31 (top - j * 32)) * w) len ≡ min (suc j * (w * 32)) len
+      to (yes d) = ap (λ (k : ℕ). min (suc k * w) len) run ∙ ap (λ (k : ℕ). min k len) all
+        where
+          run : j * 32 + min 31 (top - j * 32) ≡ j * 32 + 31
+          run = omega arith
+
+          all : suc (j * 32 + 31) * w ≡ suc j * (w * 32)
+          all = omega arith
+      to (no d) = ap (λ (k : ℕ). min (suc k * w) len) run ∙ ends
+        where
+          run : j * 32 + min 31 (top - j * 32) ≡ top
+          run = omega (arith, starts)
+
+          beyond : suc top * w ≤ suc j * 32 * w
+          beyond = mul-le-mul-right w (omega arith)
+
+          ends : min (suc top * w) len ≡ min (suc j * (w * 32)) len
+          ends = omega (arith, beyond, high)
+
+-- ---- the last node of a level
+module _ (top w : ℕ) (hw : 1 ≤ w) where
+  pub last-low : top / w * w ≤ top
+  last-low = omega (arith, div-add-mod' top w)
+
+  last-high : top < suc (top / w) * w
+  last-high = omega (arith, div-add-mod' top w, mod-lt top hw)
+
+  last-le : (j : ℕ) → j * w ≤ top → j ≤ top / w
+  last-le j h = omega (arith, lt-of-mul-lt-mul-right w {m = j} {n = suc (top / w)} (omega (arith, last-high)))
+
+-- ---- right levels stay right
+module _ (s t : ℕ → ℕ) (levels : ℕ → List ℕ) (len top : ℕ) (more : len ≤ top) (room : Roomy (suc top) levels) (agree : (i : ℕ) → i < len → s i ≡ t i) (r : Right s len levels) where
+  -- a level whose new nodes are right
+  module _ (l : ℕ) (l-low : 1 ≤ l) (l-high : l ≤ topLevel) (f : ℕ → Node) (b : (j : ℕ) → len / span l ≤ j → j * span l < suc top → f j ≡ levelNode t (suc top) l j) where
+    ordered : len / span l ≤ top / span l
+    ordered = last-le top (span l) (span-pos l) (len / span l) (omega (arith, more, last-low len (span l) (span-pos l)))
+
+    old : (j : ℕ) → j < len / span l → nodeIn (levels l) j ≡ levelNode t (suc top) l j
+    old j h =
+        r l l-low l-high j (omega (arith, within, span-pos l))
+        ∙ ap (nodeOf s (j * span l)) ends
+        ∙ node-same s t (j * span l) (suc j * span l) (omega (arith, span-pos l)) (λ i p q. agree i (omega (arith, within)))
+        ∙ ap (nodeOf t (j * span l)) ends′
+      where
+        within : suc j * span l ≤ len
+        within = omega (arith, mul-le-mul-right (span l) h, last-low len (span l) (span-pos l))
+
+        ends : min (suc j * span l) len ≡ suc j * span l
+        ends = omega (arith, within)
+
+        ends′ : suc j * span l ≡ min (suc j * span l) (suc top)
+        ends′ = omega (arith, within, more)
+
+    level-right : True t (suc top) (span l) (nodeIn (putNodes f (levels l) (len / span l) (touched len top l)))
+    level-right j h = pick (decLt j (len / span l))
+      where
+        fits : (len / span l + touched len top l) * nodeSize ≤ length (levels l)
+        fits = omega (arith, ordered, room l (top / span l) l-low l-high (omega (arith, last-low top (span l) (span-pos l))))
+
+        pick : Dec (j < len / span l) → nodeIn (putNodes f (levels l) (len / span l) (touched len top l)) j ≡ levelNode t (suc top) l j
+        pick (yes d) = puts-other f (touched len top l) (levels l) (len / span l) j (inl d) ∙ old j d
+        pick (no d) =
+            puts-at f (touched len top l) (levels l) (len / span l) j fits (omega arith) (omega (arith, ordered, last-le top (span l) (span-pos l) j (omega arith)))
+            ∙ b j (omega arith) h
+
+  -- nodes made from a right level are right
+  made : (l : ℕ) (nodes : ℕ → Node) → True t (suc top) (span l) nodes → True t (suc top) (span (suc l)) (madeOver nodes (top / span l))
+  made l nodes b = subst (λ (x : ℕ). True t (suc top) x (madeOver nodes (top / span l))) (sym (pow-suc 32 l))
+      (level-up t (suc top) (span l) (top / span l) nodes (span-pos l) (omega (arith, last-low top (span l) (span-pos l))) (omega (arith, last-high top (span l) (span-pos l))) b)
+
+  -- right levels stay right, where `first` makes the touched nodes of level 1 right
+  module _ (first : ℕ → Node) (f : (j : ℕ) → len / span 1 ≤ j → j * span 1 < suc top → first j ≡ levelNode t (suc top) 1 j) where
+    pub built-right : Right t (suc top) (built first levels len top)
+    unfolding built
+    built-right zero a hl j h = absurd (omega arith)
+    built-right (suc zero) a hl j h = level-right 1 a hl first f j h
+    built-right (suc (suc l)) a hl j h =
+        level-right (suc (suc l)) a hl (madeOver (nodeIn (built first levels len top (suc l))) (top / span (suc l)))
+        (λ i _ k. made (suc l) (nodeIn (built first levels len top (suc l))) (built-right (suc l) (omega arith) (omega arith)) i k) j h
+
+-- ---- what stays
+-- each level is a run of nodes put into it
+built-puts : (first : ℕ → Node) (levels : ℕ → List ℕ) (len top l : ℕ) → (P : List ℕ → Type 0) → P (levels l)
+    → ((f : ℕ → Node) → P (putNodes f (levels l) (len / span l) (touched len top l))) → P (built first levels len top l)
+unfolding built
+built-puts first levels len top zero P p q = p
+built-puts first levels len top (suc zero) P p q = q first
+built-puts first levels len top (suc (suc l)) P p q = q (madeOver (nodeIn (built first levels len top (suc l))) (top / span (suc l)))
+
+module _ (first : ℕ → Node) (levels : ℕ → List ℕ) (len n l : ℕ) where
+  pub after-none : n ≡ 0 → levelAfter first levels len n l ≡ levels l
+  after-none e = ap (λ (t : Bool). cond t (levels l) (built first levels len (len + n - 1) l)) (eq-eqb n 0 e)
+
+  pub after-some : (n ≡ 0 → ⊥) → levelAfter first levels len n l ≡ built first levels len (len + n - 1) l
+  after-some e = ap (λ (t : Bool). cond t (levels l) (built first levels len (len + n - 1) l)) (ne-eqb n 0 e)
+
+  -- the length
+  pub length-after : length (levelAfter first levels len n l) ≡ length (levels l)
+  length-after = pick (eqb n 0)
+    where
+      pick : (t : Bool) → length (cond t (levels l) (built first levels len (len + n - 1) l)) ≡ length (levels l)
+      pick true = refl
+      pick false = built-puts first levels len (len + n - 1) l (λ x. length x ≡ length (levels l)) refl (λ f. length-puts f (touched len (len + n - 1) l) (levels l) (len / span l))
+
+  -- the numbers of nodes that cover none of the new places, and those past the last node
+  pub rest-stays : (k : ℕ) → (k < len / span l * nodeSize) ⊎ (((len + n - 1) / span l + 1) * nodeSize ≤ k) → getD (levelAfter first levels len n l) k 0 ≡ getD (levels l) k 0
+  rest-stays k h = pick (eqb n 0)
+    where
+      apart : (j m : ℕ) → (k < j * nodeSize) ⊎ ((m + 1) * nodeSize ≤ k) → (k < j * nodeSize) ⊎ ((j + (m + 1 - j)) * nodeSize ≤ k)
+      apart j m (inl e) = inl e
+      apart j m (inr e) = side (decLt k (j * nodeSize))
+        where
+          side : Dec (k < j * nodeSize) → (k < j * nodeSize) ⊎ ((j + (m + 1 - j)) * nodeSize ≤ k)
+          side (yes y) = inl y
+          side (no y) = inr (omega arith)
+
+      pick : (t : Bool) → getD (cond t (levels l) (built first levels len (len + n - 1) l)) k 0 ≡ getD (levels l) k 0
+      pick true = refl
+      pick false = built-puts first levels len (len + n - 1) l (λ x. getD x k 0 ≡ getD (levels l) k 0) refl
+          (λ f. puts-rest f (touched len (len + n - 1) l) (levels l) (len / span l) k (apart (len / span l) ((len + n - 1) / span l) h))

@@ -1,0 +1,50 @@
+-- Nodes made anew above the samples that an append stores: total definitions, over any memory.
+use mathlib.Core.Bool.{cond}
+use mathlib.Core.List.{List}
+use Prim.Native.Nat.{ℕ, zero, suc, _+_, _-_, _*_, _/_, min}
+use lib.Dec.{eqb}
+use Rattle.rules.specs.Node.{Node, join, span}
+use Rattle.rules.specs.Sample.{sampleOf}
+use Rattle.node.specs.Memory.{nodeIn, putNode}
+
+-- the level with n nodes from number j on as f has them
+unfoldable pub putNodes : (ℕ → Node) → List ℕ → ℕ → ℕ → List ℕ
+putNodes f level j zero = level
+putNodes f level j (suc n) = putNodes f (putNode level j (f j)) (j + 1) n
+
+-- the nodes numbered a to a + n, joined
+unfoldable pub joinOver : (ℕ → Node) → ℕ → ℕ → Node
+joinOver nodes a zero = nodes a
+joinOver nodes a (suc n) = join (joinOver nodes a n) (nodes (a + suc n))
+
+-- n, and the k nodes from number i on, joined to it one by one
+unfoldable pub joinOn : Node → (ℕ → Node) → ℕ → ℕ → Node
+joinOn n nodes i zero = n
+joinOn n nodes i (suc k) = joinOn (join n (nodes i)) nodes (i + 1) k
+
+-- node j of a level from its up to 32 nodes of the level below, of which `top` is the last
+abbrev pub madeOver : (ℕ → Node) → ℕ → ℕ → Node
+madeOver nodes top j = joinOver nodes (j * 32) (min 31 (top - j * 32))
+
+-- the samples of a part of memory that starts at place base
+abbrev pub partSample : ℕ → List ℕ → ℕ → ℕ → ℕ
+partSample unit part base i = sampleOf unit part (i - base)
+
+-- how many nodes of level l cover one of the places len to top; the first of them is len / span l
+abbrev pub touched : ℕ → ℕ → ℕ → ℕ
+touched len top l = top / span l + 1 - len / span l
+
+-- level l + 1 from level l, once samples stand at the places len to top
+abbrev pub raised : List ℕ → List ℕ → ℕ → ℕ → ℕ → List ℕ
+raised below level l len top = putNodes (madeOver (nodeIn below) (top / span l)) level (len / span (suc l)) (touched len top (suc l))
+
+-- the levels once samples stand at the places len to top (01, Store: "Each node touched is made anew from the level below").
+-- `first` makes the nodes of level 1: which ones is for the caller to say
+unfoldable pub built : (ℕ → Node) → (ℕ → List ℕ) → ℕ → ℕ → ℕ → List ℕ
+built first levels len top zero = levels 0
+built first levels len top (suc zero) = putNodes first (levels 1) (len / span 1) (touched len top 1)
+built first levels len top (suc (suc l)) = raised (built first levels len top (suc l)) (levels (suc (suc l))) (suc l) len top
+
+-- level l once n samples have joined len: no samples touch no node
+abbrev pub levelAfter : (ℕ → Node) → (ℕ → List ℕ) → ℕ → ℕ → ℕ → List ℕ
+levelAfter first levels len n l = cond (eqb n 0) (levels l) (built first levels len (len + n - 1) l)

@@ -1,0 +1,65 @@
+-- The theorems about next_change and prev_change. All that is known of the calls is what their contracts promise: `Post` of each one's generated `Reads`.
+-- Where levels are right the answer is 01's next or previous (rules' next-some, next-none, previous-some and previous-none say what that is);
+-- whatever memory holds, a place that is found lies in the range asked.
+use Prim.Native.Nat.{ℕ, zero, suc}
+use mathlib.Core.Path.{_≡_, sym, ap, _∙_}
+use mathlib.Core.List.{List}
+use mathlib.Core.Option.{Option, some}
+use native.Mathlib.Omega.{arith}
+use contract.Lifetimes.{Lfts}
+use denote.Ref.{RefT, now}
+use Rattle.rules.specs.Sample.{sampleOf}
+use Rattle.rules.specs.Search.{next, previous}
+use Rattle.rules.specs.Walk.{allLevels}
+use Rattle.rules.specs.Answer.{given, unless}
+use Rattle.rules.specs.Refusal.{storeRefusal}
+use Rattle.rules.proofs.Found.{TrueNodes, next-found, previous-found}
+use Rattle.node.specs.Memory.{levelOf, readerOf, Right}
+use Rattle.node.proofs.Memory.{right-true}
+use Rattle.capture.specs.declared.Capture.{Capture}
+use Rattle.capture.specs.Record.{storeOf, lentOf}
+use Rattle.search.specs.declared.Found.{Found}
+use Rattle.search.specs.Answer.{foundOf, asked, nextOf, previousOf}
+use Rattle.search.proofs.Within.{After, UpTo, next-within, previous-within}
+use Rattle.search.proofs.next_change.Reads as next-change
+use Rattle.search.proofs.prev_change.Reads as prev-change
+
+-- what is given was asked
+unless-given : (n : ℕ) (a : Option ℕ) (i : ℕ) → unless n a ≡ given (some i) → a ≡ some i
+unless-given zero a i e = cc
+unless-given (suc n) a i e = let z : _≡_ {A = ℕ} 0 1 = cc in absurd (omega arith)
+
+-- a call with these arguments, and its answer r. The references are whatever the caller lent
+module _ (κs : Lfts 2) (c : Capture) (samples l1 l2 l3 l4 : RefT (List ℕ)) (mask from : ℕ) (r : Found) where
+  abbrev pub levels : ℕ → List ℕ
+  levels = levelOf (now l1) (now l2) (now l3) (now l4)
+
+  abbrev pub s : ℕ → ℕ
+  s = sampleOf (c .unitsize) (now samples)
+
+  abbrev pub NextAnswered : Type 0
+  NextAnswered = next-change.Post κs (c, (samples, (l1, (l2, (l3, (l4, (mask, (from, tt)))))))) r (c, (samples, (l1, (l2, (l3, (l4, (mask, (from, tt))))))))
+
+  abbrev pub PreviousAnswered : Type 0
+  PreviousAnswered = prev-change.Post κs (c, (samples, (l1, (l2, (l3, (l4, (mask, (from, tt)))))))) r (c, (samples, (l1, (l2, (l3, (l4, (mask, (from, tt))))))))
+
+  true-nodes : Right s (c .len) levels → TrueNodes allLevels (readerOf (c .unitsize) (now samples) levels) s (c .len)
+  true-nodes h = right-true (c .unitsize) (now samples) levels (c .len) h
+
+  -- where levels are right, the answer is 01's
+  pub next-right : NextAnswered → Right s (c .len) levels → foundOf r ≡ asked c (now samples) levels (next s (c .len) mask from)
+  unfolding nextOf
+  next-right p h = p ∙ ap (asked c (now samples) levels) (next-found allLevels (readerOf (c .unitsize) (now samples) levels) s (c .len) mask (true-nodes h) from)
+
+  pub previous-right : PreviousAnswered → Right s (c .len) levels → foundOf r ≡ asked c (now samples) levels (previous s (c .len) mask from)
+  unfolding previousOf
+  previous-right p h = p ∙ ap (asked c (now samples) levels) (previous-found allLevels (readerOf (c .unitsize) (now samples) levels) s (c .len) mask (true-nodes h) from)
+
+  -- whatever memory holds, a place found is one of the range
+  pub next-range : NextAnswered → (i : ℕ) → foundOf r ≡ given (some i) → After from (c .len) i
+  unfolding nextOf
+  next-range p i e = next-within allLevels (readerOf (c .unitsize) (now samples) levels) (c .len) mask from i (unless-given (storeRefusal (storeOf c) (lentOf (now samples) levels)) _ i (sym p ∙ e))
+
+  pub previous-range : PreviousAnswered → (i : ℕ) → foundOf r ≡ given (some i) → UpTo from (c .len) i
+  unfolding previousOf
+  previous-range p i e = previous-within allLevels (readerOf (c .unitsize) (now samples) levels) (c .len) mask from i (unless-given (storeRefusal (storeOf c) (lentOf (now samples) levels)) _ i (sym p ∙ e))

@@ -1,0 +1,9 @@
+pub mod Step
+pub mod Going
+pub mod Same
+pub mod Part
+pub mod Run
+pub mod Chunks
+pub mod Asked
+pub mod Within
+pub mod Change

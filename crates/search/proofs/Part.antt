@@ -1,0 +1,104 @@
+-- Reading a part of memory: what a search may read there, and that the part holds what the whole holds.
+use Prim.Native.Nat.{ℕ, zero, suc, _+_, _-_, _*_, _/_, _≤_, _<_}
+use mathlib.Core.Path.{_≡_, refl, sym, ap, ap₂, _∙_}
+use mathlib.Core.Bool.{Bool, cond}
+use mathlib.Core.List.{List}
+use native.Mathlib.Nat.{div-add-mod', mul-le-mul-left, mul-le-mul-right, add-mul}
+use native.Mathlib.Decide.{ℕ-discrete}
+use native.Mathlib.Omega.{arith}
+use borrow.Author.Tests.{eq-eqb, ne-eqb}
+use lib.ListN.{length, take, drop, length-take, length-drop}
+use lib.Seq.{getD-take, getD-drop}
+use Rattle.rules.specs.Sample.{little, sampleOf}
+use Rattle.rules.specs.Node.{Node, leaf, mirror, span, topLevel}
+use Rattle.rules.specs.Walk.{forward, backward, walkFrom}
+use Rattle.rules.proofs.Walk.{span-pos}
+use Rattle.lines.specs.Held.{Held}
+use Rattle.node.specs.Memory.{nodeIn, readerOf}
+use Rattle.node.proofs.Memory.{reads-sample, reads-node}
+use Rattle.search.specs.Part.{readerFrom, Bytes, Part, NodeIn, Stored}
+use Rattle.search.proofs.Same.{walked-same}
+
+module _ (base unit : ℕ) (part : List ℕ) (levels : ℕ → List ℕ) (l p : ℕ) where
+  pub from-sample : l ≡ 0 → readerFrom base unit part levels l p ≡ leaf (sampleOf unit part (p - base))
+  unfolding readerFrom
+  from-sample z = ap (λ (b : Bool). cond b (leaf (sampleOf unit part (p - base))) (nodeIn (levels l) (p / span l))) (eq-eqb l 0 z)
+
+  pub from-node : (l ≡ 0 → ⊥) → readerFrom base unit part levels l p ≡ nodeIn (levels l) (p / span l)
+  unfolding readerFrom
+  from-node z = ap (λ (b : Bool). cond b (leaf (sampleOf unit part (p - base))) (nodeIn (levels l) (p / span l))) (ne-eqb l 0 z)
+
+-- a node within the part can be read
+pub node-inside : (unit base hi : ℕ) (part : List ℕ) (levels : ℕ → List ℕ) (l p : ℕ) → Part unit base hi part levels → 1 ≤ l → l ≤ topLevel → p + span l ≤ hi → NodeIn levels l p
+node-inside unit base hi part levels l p r low high h = record { low = low; high = high; room = r .nodes .inside l (p / span l) low high (omega (arith, div-add-mod' p (span l), span-pos l)) }
+
+-- samples within bytes, n of them
+pub bytes-held : (unit n p : ℕ) (bytes : List ℕ) → Bytes unit n bytes → p < n → Held unit p (length bytes)
+bytes-held unit n p bytes b h = record { low = b .low; high = b .high; room = omega (arith, mul-le-mul-right unit h, b .room) }
+
+pub bytes-less : (unit n k : ℕ) (bytes : List ℕ) → Bytes unit n bytes → k ≤ n → Bytes unit k bytes
+bytes-less unit n k bytes b h = record { low = b .low; high = b .high; room = omega (arith, mul-le-mul-right unit h, b .room) }
+
+pub bytes-few : (unit n : ℕ) (bytes : List ℕ) → Bytes unit n bytes → n ≤ length bytes
+bytes-few unit n bytes b = omega (arith, mul-le-mul-left n (b .low), b .room)
+
+-- ---- the part and the whole
+-- u bytes of a part are those of the whole
+part-bytes : (u : ℕ) (bytes : List ℕ) (a n k : ℕ) → k + u ≤ n → little u (take n (drop a bytes)) k ≡ little u bytes (a + k)
+part-bytes zero bytes a n k h = refl
+part-bytes (suc u) bytes a n k h =
+    ap₂ (λ (x y : ℕ). x + 256 * y)
+    (getD-take n (drop a bytes) k 0 (omega arith) ∙ getD-drop a bytes k 0)
+    (part-bytes u bytes a n (k + 1) (omega arith) ∙ ap (little u bytes) (omega arith))
+
+module _ (base hi unit : ℕ) (samples : List ℕ) (levels : ℕ → List ℕ) where
+  -- the bytes from place base to place hi
+  abbrev pub partOf : List ℕ
+  partOf = take (hi * unit - base * unit) (drop (base * unit) samples)
+
+  part-sample : (p : ℕ) → base ≤ p → p < hi → sampleOf unit partOf (p - base) ≡ sampleOf unit samples p
+  unfolding sampleOf
+  part-sample p a b = part-bytes unit samples (base * unit) (hi * unit - base * unit) ((p - base) * unit) (omega (arith, mul-le-mul-right unit room, whole)) ∙ ap (little unit samples) (sym whole)
+    where
+      room : suc p ≤ hi
+      room = b
+
+      whole : p * unit ≡ base * unit + (p - base) * unit
+      whole = ap (λ (x : ℕ). x * unit) (omega arith) ∙ add-mul base (p - base) unit
+
+  pub part-reads : (l p : ℕ) → (l ≡ 0 → (base ≤ p) × (p < hi)) → readerFrom base unit partOf levels l p ≡ readerOf unit samples levels l p
+  part-reads l p h = go (ℕ-discrete l 0)
+    where
+      go : Dec (l ≡ 0) → readerFrom base unit partOf levels l p ≡ readerOf unit samples levels l p
+      go (yes z) = from-sample base unit partOf levels l p z ∙ ap leaf (part-sample p (h z .0) (h z .1)) ∙ sym (reads-sample unit samples levels l p z)
+      go (no z) = from-node base unit partOf levels l p z ∙ sym (reads-node unit samples levels l p z)
+
+  -- a walk over the part is one over the whole
+  module _ (has : ℕ → Bool) (mask p v : ℕ) where
+    pub part-ahead : base ≤ p → walkFrom (forward has (readerFrom base unit partOf levels) hi) mask p v ≡ walkFrom (forward has (readerOf unit samples levels) hi) mask p v
+    part-ahead h =
+        walked-same (forward has (readerFrom base unit partOf levels) hi) (λ (l q : ℕ). readerOf unit samples levels l q) (λ (q : ℕ). base ≤ q)
+        (record { same = λ l q t i. part-reads l q (λ z. (i, omega (arith, t .some-left))); stays = λ l q i. omega arith }) mask p v h
+
+    pub part-behind : p ≤ hi → walkFrom (backward has (readerFrom base unit partOf levels) base) mask p v ≡ walkFrom (backward has (readerOf unit samples levels) base) mask p v
+    part-behind h =
+        walked-same (backward has (readerFrom base unit partOf levels) base) (λ (l q : ℕ). mirror (readerOf unit samples levels l (q - span l))) (λ (q : ℕ). q ≤ hi)
+        (record { same = λ l q t i. ap mirror (part-reads l (q - span l) (λ z. inside l q z i (t .some-left))); stays = λ l q i. omega arith }) mask p v h
+      where
+        inside : (l q : ℕ) → l ≡ 0 → q ≤ hi → 0 < q - base → (base ≤ q - span l) × (q - span l < hi)
+        inside l q z i t = (omega (arith, ap span z), omega (arith, ap span z))
+
+-- ---- a capture in memory
+module _ (unit len : ℕ) (samples : List ℕ) (levels : ℕ → List ℕ) (s : Stored unit len samples levels) where
+  pub stored-value : (p v : ℕ) → v ≡ sampleOf unit samples p → v ≡ readerOf unit samples levels 0 p .first
+  stored-value p v e = e ∙ sym (ap (λ (n : Node). n .first) (reads-sample unit samples levels 0 p refl))
+
+  -- the part of it from base to hi
+  pub stored-part : (base hi : ℕ) → base ≤ hi → hi ≤ len → Part unit base hi (partOf base hi unit samples levels) levels
+  stored-part base hi a b = record {
+    bytes = record { low = s .bytes .low; high = s .bytes .high; room = simp (length-take, length-drop) (omega (arith, sum, bytes-less unit len hi samples (s .bytes) b .room)) };
+    nodes = record { inside = λ l j k m h. s .nodes .inside l j k m (omega arith) };
+  }
+    where
+      sum : hi * unit ≡ base * unit + (hi - base) * unit
+      sum = ap (λ (x : ℕ). x * unit) (omega arith) ∙ add-mul base (hi - base) unit

@@ -1,0 +1,3 @@
+pub mod Part
+pub mod Run
+pub mod Answer

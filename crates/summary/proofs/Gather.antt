@@ -1,0 +1,89 @@
+-- Laws of a range taken part by part: what a loop over the parts knows, that other parts with the same nodes give the same, and that true nodes give the range's node.
+use Prim.Native.Nat.{ℕ, zero, suc, _-_, _≤_, _<_}
+use mathlib.Core.Path.{_≡_, refl, sym, ap, ap₂, _∙_}
+use mathlib.Core.Bool.{Bool, cond}
+use native.Mathlib.Nat.{le-refl}
+use native.Mathlib.Decide.{decLt}
+use native.Mathlib.Omega.{arith}
+use borrow.Author.Tests.{lt-ltb, le-ltb}
+use Rattle.rules.specs.Node.{Node, join, nodeOf}
+use Rattle.rules.proofs.Node.{node-join}
+use Rattle.summary.specs.Gather.{gather, joined}
+
+module _ (node : ℕ → ℕ → Node) (past : ℕ → ℕ → ℕ) where
+  gather-more : (f : ℕ) (acc : Node) (p b : ℕ) → p < b → gather node past (suc f) acc p b ≡ gather node past f (join acc (node p b)) (past p b) b
+  unfolding gather
+  gather-more f acc p b h = ap (λ (t : Bool). cond t (gather node past f (join acc (node p b)) (past p b) b) acc) (lt-ltb p b h)
+
+  gather-done : (f : ℕ) (acc : Node) (p b : ℕ) → b ≤ p → gather node past f acc p b ≡ acc
+  unfolding gather
+  gather-done zero acc p b h = refl
+  gather-done (suc f) acc p b h = ap (λ (t : Bool). cond t (gather node past f (join acc (node p b)) (past p b) b) acc) (le-ltb p b h)
+
+  -- ---- a loop over the parts of [_, b), whose answer is `whole`
+  pub record Gathering (b : ℕ) (whole acc : Node) (p : ℕ) : Type 0 where
+    pub fuel : ℕ
+    pub enough : b - p ≤ fuel
+    pub upto : p ≤ b
+    pub is : gather node past fuel acc p b ≡ whole
+
+  pub gather-starts : (a b : ℕ) (n : Node) (e : ℕ) → n ≡ node a b → e ≡ past a b → a < e → e ≤ b → Gathering b (joined node past a b) n e
+  unfolding joined
+  gather-starts a b n e en ee h k = record { fuel = b - a; enough = omega arith; upto = k; is = ap₂ (λ (m : Node) (x : ℕ). gather node past (b - a) m x b) en ee }
+
+  pub gather-turn : (b : ℕ) (whole acc : Node) (p : ℕ) (n acc′ : Node) (e : ℕ) → Gathering b whole acc p → p < b → n ≡ node p b → e ≡ past p b → p < e → e ≤ b → acc′ ≡ join acc n → Gathering b whole acc′ e
+  gather-turn b whole acc p n acc′ e g h en ee l k ea = go (g .fuel) (g .enough) (g .is)
+    where
+      go : (f : ℕ) → b - p ≤ f → gather node past f acc p b ≡ whole → Gathering b whole acc′ e
+      go zero m i = absurd (omega arith)
+      go (suc f) m i = record {
+        fuel = f;
+        enough = omega arith;
+        upto = k;
+        is = ap₂ (λ (x : Node) (y : ℕ). gather node past f x y b) (ea ∙ ap (join acc) en) ee ∙ sym (gather-more f acc p b h) ∙ i;
+      }
+
+  pub gather-ends : (b : ℕ) (whole acc : Node) (p : ℕ) → Gathering b whole acc p → b ≤ p → acc ≡ whole
+  gather-ends b whole acc p g h = sym (gather-done (g .fuel) acc p b h) ∙ g .is
+
+  -- ---- true parts: `at` says which place of the samples a part's place is
+  pub record Step (s at : ℕ → ℕ) (p b : ℕ) : Type 0 where
+    pub more : p < past p b
+    pub upto : past p b ≤ b
+    pub is : node p b ≡ nodeOf s (at p) (at (past p b))
+
+  module _ (s at : ℕ → ℕ) (hi : ℕ) (rising : (x y : ℕ) → x < y → y ≤ hi → at x < at y) (step : (p b : ℕ) → p < b → b ≤ hi → Step s at p b) where
+    gather-node : (f : ℕ) (acc : Node) (a p b : ℕ) → a < p → p ≤ b → b ≤ hi → b - p ≤ f → acc ≡ nodeOf s (at a) (at p) → gather node past f acc p b ≡ nodeOf s (at a) (at b)
+    gather-node zero acc a p b h k l m e = gather-done 0 acc p b (omega arith) ∙ e ∙ ap (λ (x : ℕ). nodeOf s (at a) (at x)) (omega arith)
+    gather-node (suc f) acc a p b h k l m e = go (gather-node f) (decLt p b)
+      where
+        go : ((acc : Node) (a p b : ℕ) → a < p → p ≤ b → b ≤ hi → b - p ≤ f → acc ≡ nodeOf s (at a) (at p) → gather node past f acc p b ≡ nodeOf s (at a) (at b)) → Dec (p < b) → gather node past (suc f) acc p b ≡ nodeOf s (at a) (at b)
+        go ih (yes d) =
+            let t = step p b d l in
+            gather-more f acc p b d
+            ∙ ih (join acc (node p b)) a (past p b) b (omega (arith, t .more)) (t .upto) l (omega (arith, t .more))
+            (ap₂ join e (t .is) ∙ node-join s (at a) (at p) (at (past p b)) (rising a p h (omega arith)) (rising p (past p b) (t .more) (omega (arith, t .upto))))
+        go ih (no d) = gather-done (suc f) acc p b (omega arith) ∙ e ∙ ap (λ (x : ℕ). nodeOf s (at a) (at x)) (omega arith)
+
+    pub joined-node : (a b : ℕ) → a < b → b ≤ hi → joined node past a b ≡ nodeOf s (at a) (at b)
+    unfolding joined
+    joined-node a b h l = let t = step a b h l in gather-node (b - a) (node a b) a (past a b) b (t .more) (t .upto) l (omega (arith, t .more)) (t .is)
+
+-- ---- parts with the same nodes
+module _ (node node′ : ℕ → ℕ → Node) (past : ℕ → ℕ → ℕ) (lo b : ℕ) (on : (p : ℕ) → p < b → p ≤ past p b) (same : (p : ℕ) → lo ≤ p → p < b → node p b ≡ node′ p b) where
+  gather-same : (f : ℕ) (acc : Node) (p : ℕ) → lo ≤ p → gather node past f acc p b ≡ gather node′ past f acc p b
+  unfolding gather
+  gather-same zero acc p h = refl
+  gather-same (suc f) acc p h = go (gather-same f) (decLt p b)
+    where
+      go : ((acc : Node) (p : ℕ) → lo ≤ p → gather node past f acc p b ≡ gather node′ past f acc p b) → Dec (p < b) → gather node past (suc f) acc p b ≡ gather node′ past (suc f) acc p b
+      go ih (yes d) =
+          gather-more node past f acc p b d
+          ∙ ih (join acc (node p b)) (past p b) (omega (arith, on p d))
+          ∙ ap (λ (n : Node). gather node′ past f (join acc n) (past p b) b) (same p h d)
+          ∙ sym (gather-more node′ past f acc p b d)
+      go ih (no d) = gather-done node past (suc f) acc p b (omega arith) ∙ sym (gather-done node′ past (suc f) acc p b (omega arith))
+
+  pub joined-same : lo < b → joined node past lo b ≡ joined node′ past lo b
+  unfolding joined
+  joined-same h = gather-same (b - lo) (node lo b) (past lo b) (on lo h) ∙ ap (λ (n : Node). gather node′ past (b - lo) n (past lo b) b) (same lo (le-refl lo) h)

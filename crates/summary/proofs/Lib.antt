@@ -1,0 +1,4 @@
+pub mod Toggles
+pub mod Gather
+pub mod Laws
+pub mod Answers

@@ -1,0 +1,96 @@
+-- `summary::first_piece` meets its contract: at level 0 a run of samples, else a run of nodes. Assumes nothing.
+use mathlib.Core.Path.{_∙_}
+use native.Mathlib.Omega.{arith}
+use denote.Ref.{now}
+use borrow.Author.Needs.{needs}
+use Rattle.rules.specs.Sample.{sampleOf}
+use Rattle.node.specs.Memory.{asNode, levelOf}
+use Rattle.summary.specs.Summary.{shifted}
+use Rattle.summary.proofs.Toggles.{node-shift}
+use Rattle.summary.proofs.Laws.{end-inside, part-run, part-level, piece-room, run-room}
+use Rattle.summary.proofs.first_piece.Statement.{statement}
+use Rattle.summary.proofs.first_piece.Tie as tie
+
+sub-best-level : tie.Need-sub-best-level
+sub-best-level c = search needs
+
+best-level-requires : tie.Need-best-level-requires
+best-level-requires c κs = search needs
+
+span-requires : tie.Need-span-requires
+span-requires c κs = search needs
+
+run-end-requires : tie.Need-run-end-requires
+run-end-requires c κs = search needs
+
+sub-scan : tie.Need-sub-scan
+sub-scan c = search needs
+
+sub-scan-2 : tie.Need-sub-scan-2
+sub-scan-2 c =
+    let s = c .before .before .before .before .before .before .before .before .before in
+    let a = s .args in
+    let e = end-inside (a .pos) (a .b) (c .before .before .before .best-level .result) (c .before .before .span .result) (c .before .run-end .result) (s .pre .2) (c .before .before .before .best-level .ensures) (c .before .before .span .ensures .0) (c .before .run-end .ensures) in
+    omega (arith, e)
+
+sub-scan-3 : tie.Need-sub-scan-3
+sub-scan-3 c =
+    let s = c .before .before .before .before .before .before .before .before .before in
+    let a = s .args in
+    let e = end-inside (a .pos) (a .b) (c .before .before .before .best-level .result) (c .before .before .span .result) (c .before .run-end .result) (s .pre .2) (c .before .before .before .best-level .ensures) (c .before .before .span .ensures .0) (c .before .run-end .ensures) in
+    omega (arith, e, s .pre)
+
+scan-requires : tie.Need-scan-requires
+scan-requires c κs =
+    let s = c .before .before .before .before .before .before .before .before .before in
+    let a = s .args in
+    let e = end-inside (a .pos) (a .b) (c .before .before .before .best-level .result) (c .before .before .span .result) (c .before .run-end .result) (s .pre .2) (c .before .before .before .best-level .ensures) (c .before .before .span .ensures .0) (c .before .run-end .ensures) in
+    run-room (a .unitsize) (a .base) (a .b) _ (levelOf (now (a .l1)) (now (a .l2)) (now (a .l3)) (now (a .l4))) (s .pre .0) (a .pos) (c .before .run-end .result) (s .pre .1) (e .0) (e .1)
+
+returns : tie.Need-returns
+returns c =
+    let s = c .before .before .before .before .before .before .before .before .before .before in
+    let a = s .args in
+    let e = end-inside (a .pos) (a .b) (c .before .before .before .before .best-level .result) (c .before .before .before .span .result) (c .before .before .run-end .result) (s .pre .2) (c .before .before .before .before .best-level .ensures) (c .before .before .before .span .ensures .0) (c .before .before .run-end .ensures) in
+    part-run (a .pos) (a .b) (c .before .before .before .before .best-level .result) (c .before .before .before .span .result) (c .before .before .run-end .result) (s .pre .2) (c .before .before .before .before .best-level .ensures) (c .before .before .before .span .ensures .0) (c .before .before .run-end .ensures) (levelOf (now (a .l1)) (now (a .l2)) (now (a .l3)) (now (a .l4))) (shifted (a .unitsize) (now (a .part)) (a .base)) (asNode (c .scan .result)) (c .before .if1 .taken)
+    (c .scan .ensures ∙ node-shift (sampleOf (a .unitsize) (now (a .part))) (a .base) (a .pos) (c .before .before .run-end .result) (s .pre .1) (e .0))
+
+level-of-requires : tie.Need-level-of-requires
+level-of-requires c κs = search needs
+
+div-join-nodes : tie.Need-div-join-nodes
+div-join-nodes c = search needs
+
+div-join-nodes-2 : tie.Need-div-join-nodes-2
+div-join-nodes-2 c = search needs
+
+join-nodes-requires : tie.Need-join-nodes-requires
+join-nodes-requires c κs =
+    let s = c .before .before .before .before .before .before .before .before .before .before in
+    let a = s .args in
+    piece-room (a .pos) (a .b) (c .before .before .before .before .best-level .result) (c .before .before .before .span .result) (c .before .before .run-end .result) (s .pre .2) (c .before .before .before .before .best-level .ensures) (c .before .before .before .span .ensures .0) (c .before .before .run-end .ensures) (levelOf (now (a .l1)) (now (a .l2)) (now (a .l3)) (now (a .l4))) (c .before .if1 .left) (a .unitsize) (a .base) _ (s .pre .0) (now (c .level-of .result)) (c .level-of .ensures)
+
+returns-2 : tie.Need-returns-2
+returns-2 c =
+    let s = c .before .before .before .before .before .before .before .before .before .before .before in
+    let a = s .args in
+    part-level (a .pos) (a .b) (c .before .before .before .before .before .best-level .result) (c .before .before .before .before .span .result) (c .before .before .before .run-end .result) (s .pre .2) (c .before .before .before .before .before .best-level .ensures) (c .before .before .before .before .span .ensures .0) (c .before .before .before .run-end .ensures) (levelOf (now (a .l1)) (now (a .l2)) (now (a .l3)) (now (a .l4))) (shifted (a .unitsize) (now (a .part)) (a .base)) (asNode (c .join-nodes .result)) (c .before .before .if1 .left) (now (c .before .level-of .result)) (c .before .level-of .ensures) (c .join-nodes .ensures)
+
+pub first-piece-spec : {M : Type 1} → statement M
+first-piece-spec =
+    tie.close
+    (tie.spec
+    sub-best-level
+    best-level-requires
+    span-requires
+    run-end-requires
+    sub-scan
+    sub-scan-2
+    sub-scan-3
+    scan-requires
+    returns
+    level-of-requires
+    div-join-nodes
+    div-join-nodes-2
+    join-nodes-requires
+    returns-2)

@@ -1,0 +1,233 @@
+// The node of any range of a capture, by the levels.
+use capture::Capture;
+use capture::refusal;
+use level::LEVELS;
+use level::best_level;
+use level::span;
+use lines::Mask;
+use node::Node;
+use node::level_of;
+use node::node_in;
+ghost use mathlib.Core.Path.{_≡_};
+ghost use Prim.Native.Nat.{_+_, _-_, _*_, _≤_, _<_, min};
+ghost use lib.ListN.{length};
+ghost use Rattle.rules.specs.Sample.{sampleOf};
+ghost use Rattle.rules.specs.Node.{nodeOf, chunk};
+ghost use Rattle.rules.specs.Answer.{unless};
+ghost use Rattle.rules.specs.Refusal.{storeRefusal, nodeSize, mostSamples};
+ghost use Rattle.node.specs.Memory.{asNode, levelOf};
+ghost use Rattle.capture.specs.Record.{storeOf, lentOf};
+ghost use Rattle.summary.specs.Scan.{Run, fromFirst};
+ghost use Rattle.summary.specs.Gather.{joinNodes};
+ghost use Rattle.summary.specs.Summary.{runEnd, cutAt, shifted, Part, ChunkRoom, chunkNode, Within, summed, summedOf, summaryOf};
+
+// The smaller of two numbers.
+pub fn smaller(a: usize, b: usize) -> usize
+    ensures { λ r. ⌜ r ≡ min a b ⌝ }
+{
+    if a < b {
+        return a;
+    }
+    b
+}
+
+// The lines on which a sample of a to b, b too, differs from `first`.
+fn differing(bytes: &[u8], unitsize: usize, a: usize, b: usize, first: Mask) -> Mask
+    requires { ⌜ Run unitsize a b (length (now bytes)) ⌝ }
+    ensures { λ r. ⌜ r ≡ fromFirst (sampleOf unitsize (now (bytes .entry))) first a (b + 1 - a) ⌝ }
+{
+    let mut mask: Mask = 0;
+    let mut i = a;
+    let end = b + 1;
+    while i < end {
+        mask = mask | (lines::get(bytes, unitsize, i) ^ first);
+        i += 1;
+    }
+    mask
+}
+
+// The node of the samples a to b, b too. Its toggles are the lines that differ from the first sample anywhere.
+pub fn scan(bytes: &[u8], unitsize: usize, a: usize, b: usize) -> Node
+    requires { ⌜ Run unitsize a b (length (now bytes)) ⌝ }
+    ensures { λ r. ⌜ asNode r ≡ nodeOf (sampleOf unitsize (now (bytes .entry))) a (b + 1) ⌝ }
+{
+    let first = lines::get(bytes, unitsize, a);
+    Node {
+        first,
+        last: lines::get(bytes, unitsize, b),
+        mask: differing(bytes, unitsize, a, b, first),
+    }
+}
+
+// The nodes a to b of a level, b left out, joined.
+pub fn join_nodes(level: &[Mask], a: usize, b: usize) -> Node
+    requires { ⌜ (a < b) × (b * nodeSize ≤ length (now level)) ⌝ }
+    ensures { λ r. ⌜ asNode r ≡ joinNodes (now (level .entry)) a b ⌝ }
+{
+    let mut acc = node_in(level, a);
+    let mut i = a + 1;
+    while i < b {
+        acc = acc.join(node_in(level, i));
+        i += 1;
+    }
+    acc
+}
+
+// Nodes of s samples go on from pos to the next border of the level above, or to the last that ends by b.
+fn run_end(pos: usize, b: usize, s: usize) -> usize
+    requires { ⌜ (pos < b) × (b ≤ mostSamples) × (1 ≤ s) × (s ≤ chunk) ⌝ }
+    ensures { λ r. ⌜ r ≡ runEnd s pos b ⌝ }
+{
+    let above = 32 * s;
+    smaller((pos / above + 1) * above, b / s * s)
+}
+
+// A part of a range: its node, and where it ends.
+struct Piece {
+    node: Node,
+    end: usize,
+}
+
+// The part of [pos, b) that starts at pos: a run of nodes of the highest level that fits there, or of samples.
+// `part` holds the samples from place base on.
+fn first_piece<'a>(
+    part: &[u8],
+    l1: &'a [Mask],
+    l2: &'a [Mask],
+    l3: &'a [Mask],
+    l4: &'a [Mask],
+    unitsize: usize,
+    base: usize,
+    pos: usize,
+    b: usize,
+) -> Piece
+    requires { ⌜ ChunkRoom unitsize base b (length (now part)) (levelOf (now l1) (now l2) (now l3) (now l4)) × (base ≤ pos) × (pos < b) ⌝ }
+    ensures { λ r. ⌜ Part (levelOf (now (l1 .entry)) (now (l2 .entry)) (now (l3 .entry)) (now (l4 .entry))) (shifted unitsize (now (part .entry)) base) pos b (asNode (r .node)) (r .end) ⌝ }
+{
+    let l = best_level(pos, b - pos, LEVELS);
+    let s = span(l);
+    let end = run_end(pos, b, s);
+    if l == 0 {
+        return Piece {
+            node: scan(part, unitsize, pos - base, end - 1 - base),
+            end,
+        };
+    }
+    let level = level_of(l1, l2, l3, l4, l);
+    Piece {
+        node: join_nodes(level, pos / s, end / s),
+        end,
+    }
+}
+
+// The node of [a, b) within a chunk, whose samples from place base on are `part`.
+fn chunk_summary<'a>(
+    part: &[u8],
+    l1: &'a [Mask],
+    l2: &'a [Mask],
+    l3: &'a [Mask],
+    l4: &'a [Mask],
+    unitsize: usize,
+    base: usize,
+    a: usize,
+    b: usize,
+) -> Node
+    requires { ⌜ ChunkRoom unitsize base b (length (now part)) (levelOf (now l1) (now l2) (now l3) (now l4)) × (base ≤ a) × (a < b) ⌝ }
+    ensures { λ r. ⌜ asNode r ≡ chunkNode (levelOf (now (l1 .entry)) (now (l2 .entry)) (now (l3 .entry)) (now (l4 .entry))) (shifted unitsize (now (part .entry)) base) a b ⌝ }
+{
+    let p = first_piece(part, l1, l2, l3, l4, unitsize, base, a, b);
+    let mut acc = p.node;
+    let mut pos = p.end;
+    while pos < b {
+        let q = first_piece(part, l1, l2, l3, l4, unitsize, base, pos, b);
+        acc = acc.join(q.node);
+        pos = q.end;
+    }
+    acc
+}
+
+const CHUNK: usize = 1048576;
+
+// [pos, b) is cut at the end of its first chunk.
+fn cut_at(pos: usize, b: usize) -> usize
+    requires { ⌜ (pos < b) × (b ≤ mostSamples) ⌝ }
+    ensures { λ r. ⌜ r ≡ cutAt pos b ⌝ }
+{
+    smaller((pos / CHUNK + 1) * CHUNK, b)
+}
+
+// The node of [pos, end) within one chunk, whose samples are handed on as that part of sample memory.
+fn summary_of_chunk<'a>(
+    c: Capture,
+    samples: &[u8],
+    l1: &'a [Mask],
+    l2: &'a [Mask],
+    l3: &'a [Mask],
+    l4: &'a [Mask],
+    pos: usize,
+    end: usize,
+) -> Node
+    requires { ⌜ Within (storeOf c) (lentOf (now samples) (levelOf (now l1) (now l2) (now l3) (now l4))) pos end ⌝ }
+    ensures { λ r. ⌜ asNode r ≡ chunkNode (levelOf (now (l1 .entry)) (now (l2 .entry)) (now (l3 .entry)) (now (l4 .entry))) (sampleOf (c .unitsize) (now (samples .entry))) pos end ⌝ }
+{
+    let unitsize = c.unitsize;
+    let base = pos / CHUNK * CHUNK;
+    let from = base * unitsize;
+    let to = end * unitsize;
+    chunk_summary(&samples[from..to], l1, l2, l3, l4, unitsize, base, pos, end)
+}
+
+// The node of [a, b), a < b ≤ len, chunk by chunk. By `Laws.summed-right` it is the rule's where levels are right.
+pub fn summary_in<'a>(
+    c: Capture,
+    samples: &[u8],
+    l1: &'a [Mask],
+    l2: &'a [Mask],
+    l3: &'a [Mask],
+    l4: &'a [Mask],
+    a: usize,
+    b: usize,
+) -> Node
+    requires { ⌜ Within (storeOf c) (lentOf (now samples) (levelOf (now l1) (now l2) (now l3) (now l4))) a b ⌝ }
+    ensures { λ r. ⌜ asNode r ≡ summed (levelOf (now (l1 .entry)) (now (l2 .entry)) (now (l3 .entry)) (now (l4 .entry))) (sampleOf (c .unitsize) (now (samples .entry))) a b ⌝ }
+{
+    let mut pos = cut_at(a, b);
+    let mut acc = summary_of_chunk(c, samples, l1, l2, l3, l4, a, pos);
+    while pos < b {
+        let end = cut_at(pos, b);
+        acc = acc.join(summary_of_chunk(c, samples, l1, l2, l3, l4, pos, end));
+        pos = end;
+    }
+    acc
+}
+
+pub enum Summed {
+    Refused(u8),
+    Node(Node),
+    Nothing,
+}
+
+// 01's Summary(a, b): the node of [a, min(b, len)), none where that is empty, or 1 or 2.
+// By `Answers.summary-right` it is the rule's where levels are right.
+pub fn summary<'a>(
+    c: Capture,
+    samples: &[u8],
+    l1: &'a [Mask],
+    l2: &'a [Mask],
+    l3: &'a [Mask],
+    l4: &'a [Mask],
+    a: usize,
+    b: usize,
+) -> Summed
+    ensures { λ r. ⌜ summedOf r ≡ unless (storeRefusal (storeOf c) (lentOf (now (samples .entry)) (levelOf (now (l1 .entry)) (now (l2 .entry)) (now (l3 .entry)) (now (l4 .entry))))) (summaryOf (levelOf (now (l1 .entry)) (now (l2 .entry)) (now (l3 .entry)) (now (l4 .entry))) (sampleOf (c .unitsize) (now (samples .entry))) (c .len) a b) ⌝ }
+{
+    let n = refusal(c, samples.len(), l1.len(), l2.len(), l3.len(), l4.len());
+    if n != 0 {
+        return Summed::Refused(n);
+    }
+    let end = smaller(b, c.len);
+    if end <= a {
+        return Summed::Nothing;
+    }
+    Summed::Node(summary_in(c, samples, l1, l2, l3, l4, a, end))
+}

@@ -1,0 +1,274 @@
+-- Laws of the check: what a loop over levels knows, that a node made from a right level below is the node of its range, and that no node is wrong exactly when the levels are right.
+use Prim.Native.Nat.{ℕ, zero, suc, _+_, _-_, _*_, _≤_, _<_, min}
+use mathlib.Core.Path.{_≡_, refl, sym, ap, ap₂, _∙_, subst}
+use mathlib.Core.Bool.{Bool, true, false, not, _&&_}
+use mathlib.Core.List.{List}
+use mathlib.Core.Logic.{_↔_}
+use mathlib.Core.Option.{Option, none, some}
+use native.Mathlib.Nat.{mul-le-mul-left, mul-le-mul-right, le-div-iff-mul-le, pow-suc}
+use native.Mathlib.Decide.{decLt}
+use native.Mathlib.Omega.{arith}
+use lib.Dec.{eqb}
+use lib.ListN.{length}
+use borrow.Author.Tests.{eqb-true, eq-eqb, not-false}
+use Rattle.rules.specs.Node.{Node, nodeOf, span, nodesFor, topLevel, levelNode}
+use Rattle.rules.specs.Search.{seek, up}
+use Rattle.rules.specs.Refusal.{Store, nodeSize}
+use Rattle.rules.proofs.Search.{times, times-up, seek-none, seek-skip, seek-here, none-seek}
+use Rattle.rules.proofs.Walk.{span-pos}
+use Rattle.node.specs.Memory.{nodeIn, RightAt, Right}
+use Rattle.level.proofs.Best.{span-le}
+use Rattle.capture.specs.Record.{lentOf}
+use Rattle.capture.proofs.Calls.{stored}
+use Rattle.summary.specs.Scan.{Run}
+use Rattle.summary.specs.Gather.{joinNodes}
+use Rattle.summary.proofs.Gather.{joined-node}
+use Rattle.summary.proofs.Laws.{node-room}
+use Rattle.whole.specs.Wrong.{sameNode, Place, orAbove, wrongAt, firstWrong}
+use Rattle.whole.specs.Made.{madeNode, Numbered}
+
+-- ---- nodes that cover stored samples
+pub covering : (len l j : ℕ) → (j < nodesFor len l) ↔ (j * span l < len)
+covering len l j = (
+  λ h. omega (arith, le-div-iff-mul-le {k = span l} {x = j + 1} {y = len + (span l - 1)} (span-pos l) .0 (omega arith), span-pos l),
+  λ h. omega (arith, le-div-iff-mul-le {k = span l} {x = j + 1} {y = len + (span l - 1)} (span-pos l) .1 (omega (arith, span-pos l))),
+)
+
+-- ---- equal nodes
+-- the last test decides where the others hold
+pub two-same : (a b c : Bool) → a ≡ true → b ≡ true → c ≡ (a && (b && c))
+two-same a b c ea eb = sym (ap₂ (λ (x y : Bool). x && (y && c)) ea eb)
+
+pub same-is : (m n : Node) → (sameNode m n ≡ true) ↔ (m ≡ n)
+same-is m n = (
+  go (eqb (m .first) (n .first)) refl (eqb (m .last) (n .last)) refl,
+  λ e.
+      sym (two-same (eqb (m .first) (n .first)) (eqb (m .last) (n .last)) (eqb (m .toggles) (n .toggles)) (eq-eqb _ _ (ap (λ (x : Node). x .first) e)) (eq-eqb _ _ (ap (λ (x : Node). x .last) e)))
+      ∙ eq-eqb _ _ (ap (λ (x : Node). x .toggles) e),
+)
+  where
+    go : (a : Bool) → eqb (m .first) (n .first) ≡ a → (b : Bool) → eqb (m .last) (n .last) ≡ b → (a && (b && eqb (m .toggles) (n .toggles))) ≡ true → m ≡ n
+    go true ea true eb t = λ i. record { first = eqb-true (m .first) (n .first) ea i; last = eqb-true (m .last) (n .last) eb i; toggles = eqb-true (m .toggles) (n .toggles) t i }
+    go true ea false eb t = absurd (let z : _≡_ {A = ℕ} 0 1 = cc in omega arith)
+    go false ea b eb t = absurd (let z : _≡_ {A = ℕ} 0 1 = cc in omega arith)
+
+module _ (s : ℕ → ℕ) (len : ℕ) (levels : ℕ → List ℕ) where
+  -- ---- a level with no wrong node
+  abbrev None : ℕ → ℕ → Type 0
+  None l n = (j : ℕ) → j < n → wrongAt s len levels l j ≡ false
+
+  pub none-more : (l n : ℕ) → None l n → wrongAt s len levels l n ≡ false → None l (n + 1)
+  none-more l n h e j k = go (decLt j n)
+    where
+      go : Dec (j < n) → wrongAt s len levels l j ≡ false
+      go (yes d) = h j d
+      go (no d) = ap (wrongAt s len levels l) same ∙ e
+        where
+          same : j ≡ n
+          same = omega arith
+
+  none-right : (l : ℕ) → None l (nodesFor len l) ↔ RightAt s len levels l
+  none-right l = (
+    λ h j k. same-is (nodeIn (levels l) j) (levelNode s len l j) .0 (not-false _ (h j (covering len l j .1 k))),
+    λ r j k. ap not (same-is (nodeIn (levels l) j) (levelNode s len l j) .1 (r j (covering len l j .0 k))),
+  )
+
+  seek-is : (l n : ℕ) → None l n ↔ (seek up (wrongAt s len levels l) 0 n ≡ none)
+  seek-is l n = (
+    λ h. none-seek up (wrongAt s len levels l) 0 n (λ j k. h (times up j 0) (omega (arith, times-up j 0))),
+    λ e j k. ap (wrongAt s len levels l) (sym (times-up j 0 ∙ omega arith)) ∙ seek-none up (wrongAt s len levels l) 0 n e j k,
+  )
+
+  -- ---- a loop over the levels has come to level l
+  pub record Checking (l : ℕ) : Type 0 where
+    pub low : 1 ≤ l
+    pub high : l ≤ topLevel + 1
+    pub below : (k : ℕ) → 1 ≤ k → k < l → RightAt s len levels k
+    pub rest : firstWrong s len levels 1 topLevel ≡ firstWrong s len levels l (topLevel + 1 - l)
+
+  pub checking-starts : Checking 1
+  checking-starts = record { low = omega arith; high = omega arith; below = λ k a b. absurd (omega arith); rest = refl }
+
+  level-found : (l n : ℕ) (o : Option ℕ) → seek up (wrongAt s len levels l) 0 (nodesFor len l) ≡ o → firstWrong s len levels l (suc n) ≡ orAbove l o (firstWrong s len levels (l + 1) n)
+  unfolding firstWrong
+  level-found l n o e = ap (λ (x : Option ℕ). orAbove l x (firstWrong s len levels (l + 1) n)) e
+
+  pub checking-on : (l : ℕ) → Checking l → l ≤ topLevel → None l (nodesFor len l) → Checking (l + 1)
+  checking-on l c h n = record {
+    low = omega arith;
+    high = omega arith;
+    below = λ k a b. go k a (decLt k l) b;
+    rest = c .rest ∙ ap (firstWrong s len levels l) left ∙ level-found l (topLevel + 1 - (l + 1)) none (seek-is l (nodesFor len l) .0 n);
+  }
+    where
+      left : topLevel + 1 - l ≡ suc (topLevel + 1 - (l + 1))
+      left = omega arith
+
+      go : (k : ℕ) → 1 ≤ k → Dec (k < l) → k < l + 1 → RightAt s len levels k
+      go k a (yes d) b = c .below k a d
+      go k a (no d) b = subst (RightAt s len levels) same (none-right l .0 n)
+        where
+          same : l ≡ k
+          same = omega arith
+
+  pub checking-found : (l j : ℕ) → Checking l → l ≤ topLevel → j < nodesFor len l → None l j → wrongAt s len levels l j ≡ true → some (record { level = l; number = j }) ≡ firstWrong s len levels 1 topLevel
+  checking-found l j c h k n e = sym (c .rest ∙ ap (firstWrong s len levels l) left ∙ level-found l (topLevel + 1 - (l + 1)) (some j) found)
+    where
+      left : topLevel + 1 - l ≡ suc (topLevel + 1 - (l + 1))
+      left = omega arith
+
+      parts : nodesFor len l ≡ j + (nodesFor len l - j)
+      parts = omega arith
+
+      at : times up j 0 ≡ j
+      at = times-up j 0 ∙ omega arith
+
+      found : seek up (wrongAt s len levels l) 0 (nodesFor len l) ≡ some j
+      found =
+          ap (seek up (wrongAt s len levels l) 0) parts
+          ∙ seek-skip up (wrongAt s len levels l) 0 j (nodesFor len l - j) (λ i d. n (times up i 0) (omega (arith, times-up i 0)))
+          ∙ ap (λ (p : ℕ). seek up (wrongAt s len levels l) p (nodesFor len l - j)) at
+          ∙ seek-here up (wrongAt s len levels l) j (nodesFor len l - j) e (omega arith)
+
+  pub checking-ends : (l : ℕ) → Checking l → topLevel < l → none ≡ firstWrong s len levels 1 topLevel
+  unfolding firstWrong
+  checking-ends l c h = sym (c .rest ∙ ap (firstWrong s len levels l) over)
+    where
+      over : topLevel + 1 - l ≡ 0
+      over = omega arith
+
+  -- ---- a node made from the level below
+  module _ (l : ℕ) (right : RightAt s len levels l) where
+    abbrev at : ℕ → ℕ
+    at k = min (k * span l) len
+
+    abbrev count : ℕ
+    count = nodesFor len l
+
+    starts-in : (k : ℕ) → k < count → k * span l < len
+    starts-in k h = covering len l k .0 h
+
+    -- the node after the last starts at the end or past it
+    all-in : len ≤ count * span l
+    all-in = go (decLt (count * span l) len)
+      where
+        go : Dec (count * span l < len) → len ≤ count * span l
+        go (yes d) = absurd (omega (arith, covering len l count .1 d))
+        go (no d) = omega arith
+
+    rising : (x y : ℕ) → x < y → y ≤ count → at x < at y
+    rising x y h k = omega (arith, starts-in x (omega arith), span-pos l, mul-le-mul-right {m = x + 1} {n = y} (span l) (omega arith))
+
+    join-is : (a b : ℕ) → a < b → b ≤ count → joinNodes (levels l) a b ≡ nodeOf s (at a) (at b)
+    join-is = joined-node (λ p e. nodeIn (levels l) p) (λ p e. p + 1) s at count rising (λ p b h k. record { more = omega arith; upto = omega arith; is = one p (omega arith) })
+      where
+        one : (p : ℕ) → p < count → nodeIn (levels l) p ≡ nodeOf s (at p) (at (p + 1))
+        one p h = right p (starts-in p h) ∙ ap₂ (nodeOf s) (omega (arith, starts-in p h)) (omega arith)
+
+    join-right : (j : ℕ) → j * span (suc l) < len → joinNodes (levels l) (j * 32) (min (j * 32 + 32) count) ≡ levelNode s len (suc l) j
+    join-right j h = join-is (j * 32) (min (j * 32 + 32) count) (omega (arith, inside)) (omega arith) ∙ ap₂ (nodeOf s) first-at (last-at (decLt count (j * 32 + 32)))
+      where
+        wide : span (suc l) ≡ span l * 32
+        wide = pow-suc 32 l
+
+        start : j * 32 * span l ≡ j * span (suc l)
+        start = sym (ap (λ (x : ℕ). j * x) wide ∙ omega arith)
+
+        end : (j * 32 + 32) * span l ≡ suc j * span (suc l)
+        end = sym (ap (λ (x : ℕ). suc j * x) wide ∙ omega arith)
+
+        inside : j * 32 < count
+        inside = covering len l (j * 32) .1 (omega (arith, start))
+
+        first-at : at (j * 32) ≡ j * span (suc l)
+        first-at = omega (arith, start)
+
+        last-at : Dec (count < j * 32 + 32) → at (min (j * 32 + 32) count) ≡ min (suc j * span (suc l)) len
+        last-at (yes d) = let e : min (j * 32 + 32) count ≡ count = omega arith in ap at e ∙ omega (arith, end, all-in, mul-le-mul-right {m = count} {n = j * 32 + 32} (span l) (omega arith))
+        last-at (no d) = let e : min (j * 32 + 32) count ≡ j * 32 + 32 = omega arith in ap at e ∙ omega (arith, end)
+
+  pub made-right : (l j : ℕ) → Checking l → l ≤ topLevel → j * span l < len → madeNode s len levels l j ≡ levelNode s len l j
+  unfolding madeNode
+  made-right zero j c h k = absurd (omega (arith, c .low))
+  made-right (suc zero) j c h k = ap (nodeOf s (j * 32)) ends
+    where
+      ends : min (j * 32 + 32) len ≡ min (suc j * 32) len
+      ends = omega arith
+  made-right (suc (suc l)) j c h k = join-right (suc l) (c .below (suc l) (omega arith) (omega arith)) j k
+
+  -- what the code finds of a node is whether it is wrong
+  pub wrong-is : (l j : ℕ) (t : Bool) → Checking l → l ≤ topLevel → j * span l < len → t ≡ not (sameNode (nodeIn (levels l) j) (madeNode s len levels l j)) → t ≡ wrongAt s len levels l j
+  wrong-is l j t c h k e = e ∙ ap (λ (n : Node). not (sameNode (nodeIn (levels l) j) n)) (made-right l j c h k)
+
+  -- ---- no wrong node
+  none-after : (l n : ℕ) (o : Option ℕ) (rest : Option Place) → orAbove l o rest ≡ none → (o ≡ none) × (rest ≡ none)
+  none-after l n none rest e = (refl, e)
+  none-after l n (some j) rest e = let z : _≡_ {A = ℕ} 0 1 = cc in absurd (omega arith)
+
+  levels-right : (l n : ℕ) → firstWrong s len levels l n ≡ none → (k : ℕ) → l ≤ k → k < l + n → RightAt s len levels k
+  unfolding firstWrong
+  levels-right l zero e k a b = absurd (omega arith)
+  levels-right l (suc n) e k a b = go (none-after l n _ _ e) (levels-right (l + 1) n) (decLt l k)
+    where
+      go : (seek up (wrongAt s len levels l) 0 (nodesFor len l) ≡ none) × (firstWrong s len levels (l + 1) n ≡ none)
+          → (firstWrong s len levels (l + 1) n ≡ none → (k : ℕ) → l + 1 ≤ k → k < l + 1 + n → RightAt s len levels k) → Dec (l < k) → RightAt s len levels k
+      go t ih (yes d) = ih (t .1) k (omega arith) (omega arith)
+      go t ih (no d) = subst (RightAt s len levels) same (none-right l .0 (seek-is l (nodesFor len l) .1 (t .0)))
+        where
+          same : l ≡ k
+          same = omega arith
+
+  right-levels : (l n : ℕ) → ((k : ℕ) → l ≤ k → k < l + n → RightAt s len levels k) → firstWrong s len levels l n ≡ none
+  unfolding firstWrong
+  right-levels l zero h = refl
+  right-levels l (suc n) h = ap₂ (orAbove l) (seek-is l (nodesFor len l) .0 (none-right l .1 (h l (omega arith) (omega arith)))) (right-levels (l + 1) n (λ k a b. h k (omega arith) (omega arith)))
+
+  pub right-is : (firstWrong s len levels 1 topLevel ≡ none) ↔ Right s len levels
+  right-is = (λ e k a b. levels-right 1 topLevel e k a (omega arith), λ r. right-levels 1 topLevel (λ k a b. r k a (omega arith)))
+
+-- ---- room
+module _ (st : Store) (samples : List ℕ) (levels : ℕ → List ℕ) (l j : ℕ) (n : Numbered st (lentOf samples levels) l j) where
+  pub number-small : j * 32 < 67108864
+  number-small = omega (arith, n .covers, n .sound .len-most, n .sound .capacity-most, mul-le-mul-left {m = 32} {n = span l} j (span-le {l = 1} {k = l} (n .low)))
+
+  pub scan-room : (e : ℕ) → l ≡ 1 → e ≡ min (j * 32 + 32) (st .len) → Run (st .unit) (j * 32) (e - 1) (length samples)
+  scan-room e z ee = record {
+    low = n .sound .unit-least;
+    high = n .sound .unit-most;
+    order = omega (arith, covers);
+    room = omega (arith, stored st samples levels (n .sound) (e - 1 + 1) (omega (arith, covers)));
+  }
+    where
+      covers : j * 32 < st .len
+      covers = subst (λ (k : ℕ). j * span k < st .len) z (n .covers)
+
+  pub join-room : (e : ℕ) (below : List ℕ) → 2 ≤ l → e ≡ min (j * 32 + 32) (nodesFor (st .len) (l - 1)) → below ≡ levels (l - 1) → (j * 32 < e) × (e * nodeSize ≤ length below)
+  join-room e below h ee el = (first, subst (λ (x : List ℕ). e * nodeSize ≤ length x) (sym el) (omega (arith, first, room)))
+    where
+      wide : span l ≡ span (l - 1) * 32
+      wide = ap span (omega arith) ∙ pow-suc 32 (l - 1)
+
+      inside : j * 32 < nodesFor (st .len) (l - 1)
+      inside = covering (st .len) (l - 1) (j * 32) .1 (omega (arith, subst (λ (x : ℕ). j * x < st .len) wide (n .covers)))
+
+      first : j * 32 < e
+      first = omega (arith, inside)
+
+      room : (e - 1) * nodeSize + nodeSize ≤ length (levels (l - 1))
+      room = node-room st (lentOf samples levels) (n .sound) (l - 1) (e - 1) (omega arith) (omega (arith, n .high)) (covering (st .len) (l - 1) (e - 1) .0 (omega (arith, first)))
+
+pub made-samples : (s : ℕ → ℕ) (len : ℕ) (levels : ℕ → List ℕ) (l j e : ℕ) → l ≡ 1 → e ≡ min (j * 32 + 32) len → j * 32 < e → nodeOf s (j * 32) (e - 1 + 1) ≡ madeNode s len levels l j
+unfolding madeNode
+made-samples s len levels l j e z ee h = ap (nodeOf s (j * 32)) ends ∙ sym (ap (λ (k : ℕ). madeNode s len levels k j) z)
+  where
+    ends : e - 1 + 1 ≡ min (j * 32 + 32) len
+    ends = omega arith
+
+pub made-below : (s : ℕ → ℕ) (len : ℕ) (levels : ℕ → List ℕ) (l j e : ℕ) (below : List ℕ) → 2 ≤ l → e ≡ min (j * 32 + 32) (nodesFor len (l - 1)) → below ≡ levels (l - 1) → joinNodes below (j * 32) e ≡ madeNode s len levels l j
+unfolding madeNode
+made-below s len levels zero j e below h ee el = absurd (omega arith)
+made-below s len levels (suc zero) j e below h ee el = absurd (omega arith)
+made-below s len levels (suc (suc l)) j e below h ee el = ap₂ (λ (x : List ℕ) (y : ℕ). joinNodes x (j * 32) y) (el ∙ ap levels down) (ee ∙ ap (λ (k : ℕ). min (j * 32 + 32) (nodesFor len k)) down)
+  where
+    down : suc (suc l) - 1 ≡ suc l
+    down = omega arith

@@ -1,0 +1,81 @@
+-- `whole::made` meets its contract: level 1 from samples, another from the level below. Assumes nothing.
+use Prim.Native.Nat.{_+_, _*_, min}
+use mathlib.Core.Path.{ap, _∙_}
+use native.Mathlib.Omega.{arith}
+use denote.Ref.{now}
+use borrow.Author.Needs.{needs}
+use Rattle.rules.specs.Sample.{sampleOf}
+use Rattle.node.specs.Memory.{levelOf}
+use Rattle.capture.specs.Record.{storeOf}
+use Rattle.whole.proofs.Laws.{number-small, scan-room, join-room, made-samples, made-below}
+use Rattle.whole.proofs.made.Statement.{statement}
+use Rattle.whole.proofs.made.Tie as tie
+
+mul-a : tie.Need-mul-a
+mul-a c =
+    let s = c .before .before .before .before .before in
+    let a = s .args in
+    omega (arith, number-small (storeOf (a .c)) (now (a .samples)) (levelOf (now (a .l1)) (now (a .l2)) (now (a .l3)) (now (a .l4))) (a .level) (a .j) (s .pre))
+
+add-smaller : tie.Need-add-smaller
+add-smaller c =
+    let s = c .before .before .before .before .before .before in
+    let a = s .args in
+    omega (arith, number-small (storeOf (a .c)) (now (a .samples)) (levelOf (now (a .l1)) (now (a .l2)) (now (a .l3)) (now (a .l4))) (a .level) (a .j) (s .pre))
+
+smaller-requires : tie.Need-smaller-requires
+smaller-requires c κs = search needs
+
+sub-scan : tie.Need-sub-scan
+sub-scan c =
+    let s = c .before .before .before .before .before .before .before in
+    let a = s .args in
+    omega (arith, c .smaller .ensures, scan-room (storeOf (a .c)) (now (a .samples)) (levelOf (now (a .l1)) (now (a .l2)) (now (a .l3)) (now (a .l4))) (a .level) (a .j) (s .pre) (c .smaller .result) (c .before .if1 .taken) (c .smaller .ensures) .order)
+
+scan-requires : tie.Need-scan-requires
+scan-requires c κs =
+    let s = c .before .before .before .before .before .before .before in
+    let a = s .args in
+    scan-room (storeOf (a .c)) (now (a .samples)) (levelOf (now (a .l1)) (now (a .l2)) (now (a .l3)) (now (a .l4))) (a .level) (a .j) (s .pre) (c .smaller .result) (c .before .if1 .taken) (c .smaller .ensures)
+
+returns : tie.Need-returns
+returns c =
+    let s = c .before .before .before .before .before .before .before .before in
+    let a = s .args in
+    c .scan .ensures ∙ made-samples (sampleOf (a .c .unitsize) (now (a .samples))) (a .c .len) (levelOf (now (a .l1)) (now (a .l2)) (now (a .l3)) (now (a .l4))) (a .level) (a .j) (c .before .smaller .result) (c .before .before .if1 .taken) (c .before .smaller .ensures) (omega (arith, scan-room (storeOf (a .c)) (now (a .samples)) (levelOf (now (a .l1)) (now (a .l2)) (now (a .l3)) (now (a .l4))) (a .level) (a .j) (s .pre) (c .before .smaller .result) (c .before .before .if1 .taken) (c .before .smaller .ensures) .order))
+
+add-smaller-2 : tie.Need-add-smaller-2
+add-smaller-2 c =
+    let s = c .before .before .before .before .before .before in
+    let a = s .args in
+    omega (arith, number-small (storeOf (a .c)) (now (a .samples)) (levelOf (now (a .l1)) (now (a .l2)) (now (a .l3)) (now (a .l4))) (a .level) (a .j) (s .pre))
+
+sub-nodes-of : tie.Need-sub-nodes-of
+sub-nodes-of c = omega (arith, c .before .before .before .before .before .before .pre .low)
+
+nodes-of-requires : tie.Need-nodes-of-requires
+nodes-of-requires c κs = let p = c .before .before .before .before .before .before .pre in omega (arith, p .high, p .sound .len-most, p .sound .capacity-most)
+
+smaller-requires-2 : tie.Need-smaller-requires-2
+smaller-requires-2 c κs = search needs
+
+sub-level-of : tie.Need-sub-level-of
+sub-level-of c = omega (arith, c .before .before .before .before .before .before .before .before .pre .low)
+
+level-of-requires : tie.Need-level-of-requires
+level-of-requires c κs = search needs
+
+join-nodes-requires : tie.Need-join-nodes-requires
+join-nodes-requires c κs =
+    let s = c .before .before .before .before .before .before .before .before .before in
+    let a = s .args in
+    join-room (storeOf (a .c)) (now (a .samples)) (levelOf (now (a .l1)) (now (a .l2)) (now (a .l3)) (now (a .l4))) (a .level) (a .j) (s .pre) (c .before .smaller2 .result) (now (c .level-of .result)) (omega (arith, s .pre .low, c .before .before .before .if1 .left)) (c .before .smaller2 .ensures ∙ ap (min (a .j * 32 + 32)) (c .before .before .nodes-of .ensures)) (c .level-of .ensures)
+
+returns-2 : tie.Need-returns-2
+returns-2 c =
+    let s = c .before .before .before .before .before .before .before .before .before .before in
+    let a = s .args in
+    c .join-nodes .ensures ∙ made-below (sampleOf (a .c .unitsize) (now (a .samples))) (a .c .len) (levelOf (now (a .l1)) (now (a .l2)) (now (a .l3)) (now (a .l4))) (a .level) (a .j) (c .before .before .smaller2 .result) (now (c .before .level-of .result)) (omega (arith, s .pre .low, c .before .before .before .before .if1 .left)) (c .before .before .smaller2 .ensures ∙ ap (min (a .j * 32 + 32)) (c .before .before .before .nodes-of .ensures)) (c .before .level-of .ensures)
+
+pub made-spec : {M : Type 1} → statement M
+made-spec = tie.close (tie.spec mul-a add-smaller smaller-requires sub-scan scan-requires returns add-smaller-2 sub-nodes-of nodes-of-requires smaller-requires-2 sub-level-of level-of-requires join-nodes-requires returns-2)
