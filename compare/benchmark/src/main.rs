@@ -1,5 +1,6 @@
 //! How fast the unchanged Rust is, and beside it the port. See ../README.md.
 
+mod rattle;
 mod rust;
 mod side;
 mod table;

@@ -1,11 +1,10 @@
 //! The unchanged Rust.
 
-use crate::side::{Side, Timed};
+use crate::side::{timed, Side, Timed};
 use crate::work::{Appends, Bursts, Pushes, Ranges, Row, Samples, Walk};
 use edgewise::capture::{Capture, Node, Snapshot};
 use edgewise::trigger::{Condition, Feeder, TriggerTerm};
 use std::sync::Arc;
-use std::time::Instant;
 
 pub struct Rust {
     snapshot: Snapshot,
@@ -23,13 +22,6 @@ const CLEARED: &str = "allocated in the call, cleared";
 
 fn capture(unit: usize) -> Capture {
     Capture::new(1, 8 * unit)
-}
-
-/// Times a work that gives its count and its sum.
-fn timed(buffers: &'static str, work: impl FnOnce() -> (u64, u64)) -> Option<Timed> {
-    let begun = Instant::now();
-    let (count, sum) = work();
-    Some(Timed { time: begun.elapsed(), count, sum, buffers })
 }
 
 impl Side for Rust {

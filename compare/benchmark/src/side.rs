@@ -2,7 +2,7 @@
 //! a side that lacks an operation leaves its function as it stands here.
 
 use crate::work::{Appends, Bursts, Pushes, Ranges, Row, Samples, Walk};
-use std::time::Duration;
+use std::time::{Duration, Instant};
 
 pub struct Timed {
     pub time: Duration,
@@ -52,7 +52,9 @@ pub trait Side {
     }
 }
 
-/// The port: no operation yet.
-pub struct Rattle;
-
-impl Side for Rattle {}
+/// Times a work that gives its count and its sum.
+pub fn timed(buffers: &'static str, work: impl FnOnce() -> (u64, u64)) -> Option<Timed> {
+    let begun = Instant::now();
+    let (count, sum) = work();
+    Some(Timed { time: begun.elapsed(), count, sum, buffers })
+}

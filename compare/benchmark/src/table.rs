@@ -1,12 +1,13 @@
 //! Times each work on both sides and prints a line for it.
 
+use crate::rattle::Rattle;
 use crate::rust::Rust;
-use crate::side::{Rattle, Side, Timed};
+use crate::side::{Side, Timed};
 use crate::work::Samples;
 use std::time::{Duration, Instant};
 
-/// A side works at least five rounds and this long at each line.
-const LONG: Duration = Duration::from_millis(250);
+/// Each line takes at least five rounds of both sides, and this long.
+const LONG: Duration = Duration::from_millis(600);
 
 pub struct Table {
     pub unit: usize,
@@ -16,7 +17,7 @@ pub struct Table {
 
 impl Table {
     pub fn new(unit: usize) -> Table {
-        Table { unit, rust: Rust::new(), rattle: Rattle }
+        Table { unit, rust: Rust::new(), rattle: Rattle::default() }
     }
 
     pub fn heading() {
@@ -26,6 +27,12 @@ impl Table {
         );
     }
 
+    /// Where the command has arguments, only lines whose name begins with one of them.
+    fn wanted(&self, name: &str) -> bool {
+        let mut words = std::env::args().skip(1).peekable();
+        words.peek().is_none() || words.any(|word| name.starts_with(&word))
+    }
+
     /// Both sides make the capture that the next questions are about.
     pub fn hold(&mut self, samples: &Samples) {
         self.rust.hold(samples);
@@ -33,8 +40,10 @@ impl Table {
     }
 
     pub fn line(&self, name: &str, per: &str, work: impl Fn(&dyn Side) -> Option<Timed>) {
-        let rust = best(|| work(&self.rust));
-        let rattle = best(|| work(&self.rattle));
+        if !self.wanted(name) {
+            return;
+        }
+        let [rust, rattle] = best([&self.rust, &self.rattle], work);
         if let (Some(rust), Some(rattle)) = (&rust, &rattle) {
             let answers = |timed: &Timed| (timed.count, timed.sum);
             assert_eq!(answers(rust), answers(rattle), "{name}: the sides differ");
@@ -56,17 +65,20 @@ impl Table {
     }
 }
 
-/// The fastest of several rounds.
-fn best(round: impl Fn() -> Option<Timed>) -> Option<Timed> {
+/// The fastest of several rounds of each side. The sides take turns, so that both meet the same machine.
+fn best(sides: [&dyn Side; 2], work: impl Fn(&dyn Side) -> Option<Timed>) -> [Option<Timed>; 2] {
     let begun = Instant::now();
-    let mut best = round()?;
+    let mut best = sides.map(&work);
     let mut rounds = 1;
     while rounds < 5 || begun.elapsed() < LONG {
-        let timed = round()?;
-        if timed.time < best.time {
-            best = timed;
+        for (best, side) in best.iter_mut().zip(sides) {
+            let Some(fastest) = best else { continue };
+            match work(side) {
+                Some(timed) if timed.time < fastest.time => *fastest = timed,
+                _ => {}
+            }
         }
         rounds += 1;
     }
-    Some(best)
+    best
 }

@@ -16,6 +16,11 @@ impl List {
         List { asker: Asker::new(), text: String::new(), lent: Lent::default() }
     }
 
+    /// Every line is asked of the port too.
+    pub fn with_port() -> List {
+        List { asker: Asker::with_port(), ..List::new() }
+    }
+
     pub fn asker(&mut self) -> &mut Asker {
         &mut self.asker
     }

@@ -2,6 +2,7 @@
 //! against document 01 on random inputs. See ../README.md.
 
 mod asker;
+mod beside;
 mod check;
 mod digest;
 mod document;
@@ -11,6 +12,7 @@ mod line;
 mod list;
 mod model;
 mod op;
+mod port;
 mod rust;
 mod shapes;
 mod side;
@@ -33,8 +35,12 @@ fn main() -> ExitCode {
         ["model", "--seconds", n, "--seed", s] if number(n).is_some() && number(s).is_some() => {
             model::run(number(n).unwrap(), number(s).unwrap())
         }
+        ["port", "--seconds", n] if number(n).is_some() => beside::run(number(n).unwrap(), 1),
+        ["port", "--seconds", n, "--seed", s] if number(n).is_some() && number(s).is_some() => {
+            beside::run(number(n).unwrap(), number(s).unwrap())
+        }
         _ => {
-            eprintln!("write | check | model --seconds N [--seed N]");
+            eprintln!("write | check | model --seconds N [--seed N] | port --seconds N [--seed N]");
             false
         }
     };

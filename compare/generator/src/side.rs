@@ -1,4 +1,4 @@
-//! Whoever can take a list's lines: the document, the Rust, and later the port.
+//! Whoever can take a list's lines: the document, the Rust, and the port.
 
 use crate::op::Op;
 

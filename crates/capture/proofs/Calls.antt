@@ -17,7 +17,7 @@ use Rattle.lines.specs.Held.{Held}
 use Rattle.node.specs.Memory.{levelOf}
 use Rattle.capture.specs.declared.Sizes.{Sizes}
 use Rattle.capture.specs.Record.{lentNumbers, lentOf, Sized}
-use Rattle.capture.specs.Calls.{needRefusal, memoryNeed, over, unrefused, Source, partOf, chunkEnd, rawOf}
+use Rattle.capture.specs.Calls.{needRefusal, memoryNeed, over, unrefused, Source, partOf, chunkEnd, rawOf, Lies}
 
 -- ---- needs
 pub memory-is : (st : Store) (r : Sizes) → Sized st r → lentNumbers (r .samples) (r .l1) (r .l2) (r .l3) (r .l4) ≡ memoryNeed st
@@ -135,19 +135,32 @@ module _ (st : Store) (bytes : List ℕ) (levels : ℕ → List ℕ) (c : ℕ) w
   abbrev part : List ℕ
   part = partOf (st .unit) bytes (c * chunk) (chunkEnd (st .len) c)
 
-  pub raw-refused : (n : ℕ) → rows ≡ n → (n ≡ 0 → ⊥) → [] ≡ rawOf st bytes levels c
+  raw-refused : (n : ℕ) → rows ≡ n → (n ≡ 0 → ⊥) → [] ≡ rawOf st bytes levels c
   raw-refused n e h = sym (ap (λ (b : Bool). cond b part []) (ne-eqb rows 0 (λ z. h (sym e ∙ z))))
 
-  pub raw-is : rows ≡ 0 → part ≡ rawOf st bytes levels c
+  raw-is : rows ≡ 0 → part ≡ rawOf st bytes levels c
   raw-is e = sym (ap (λ (b : Bool). cond b part []) (eq-eqb rows 0 e))
 
-  pub raw-past : rows ≡ 0 → (st .len + (chunk - 1)) / chunk ≤ c → [] ≡ rawOf st bytes levels c
+  raw-past : rows ≡ 0 → (st .len + (chunk - 1)) / chunk ≤ c → [] ≡ rawOf st bytes levels c
   unfolding partOf
   raw-past e h = ap (λ (k : ℕ). take k (drop (c * chunk * st .unit) bytes)) (sym none) ∙ raw-is e
     where
       none : chunkEnd (st .len) c * st .unit - c * chunk * st .unit ≡ 0
       none = omega (arith, mul-le-mul-right {m = chunkEnd (st .len) c} {n = c * chunk} (st .unit) (omega arith))
 
-  pub raw-part : (e : ℕ) → rows ≡ 0 → e ≡ chunkEnd (st .len) c → take (e * st .unit - c * chunk * st .unit) (drop (c * chunk * st .unit) bytes) ≡ rawOf st bytes levels c
+  nothing : [] ≡ rawOf st bytes levels c → Lies bytes (rawOf st bytes levels c) 0 0
+  nothing e = record { order = omega arith; inside = omega arith; part-is = e }
+
+  pub lies-refused : (n : ℕ) → rows ≡ n → (n ≡ 0 → ⊥) → Lies bytes (rawOf st bytes levels c) 0 0
+  lies-refused n e h = nothing (raw-refused n e h)
+
+  pub lies-past : rows ≡ 0 → (st .len + (chunk - 1)) / chunk ≤ c → Lies bytes (rawOf st bytes levels c) 0 0
+  lies-past e h = nothing (raw-past e h)
+
+  pub lies-part : Sound st (lentOf bytes levels) → (e : ℕ) → rows ≡ 0 → e ≡ chunkEnd (st .len) c → c < (st .len + (chunk - 1)) / chunk → Lies bytes (rawOf st bytes levels c) (c * chunk * st .unit) (e * st .unit)
   unfolding partOf
-  raw-part e z h = ap (λ (k : ℕ). take (k * st .unit - c * chunk * st .unit) (drop (c * chunk * st .unit) bytes)) h ∙ raw-is z
+  lies-part h e z d l = record {
+    order = chunk-forward st c e d l;
+    inside = chunk-ends st bytes levels h c e d;
+    part-is = ap (λ (k : ℕ). take (k * st .unit - c * chunk * st .unit) (drop (c * chunk * st .unit) bytes)) d ∙ raw-is z;
+  }

@@ -79,3 +79,9 @@ chunkEnd len c = min ((c + 1) * chunk) len
 -- "Raw(c) returns chunk c's stored bytes .., empty if c is past the end or 1 or 2 below would apply"
 abbrev pub rawOf : Store → List ℕ → (ℕ → List ℕ) → ℕ → List ℕ
 rawOf st bytes levels c = cond (eqb (storeRefusal st (lentOf bytes levels)) 0) (partOf (st .unit) bytes (c * chunk) (chunkEnd (st .len) c)) []
+
+-- a part of memory, from one place to another
+pub record Lies (bytes part : List ℕ) (from to : ℕ) : Type 0 where
+  pub order : from ≤ to
+  pub inside : to ≤ length bytes
+  pub part-is : take (to - from) (drop from bytes) ≡ part

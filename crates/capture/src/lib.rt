@@ -9,7 +9,7 @@ ghost use Rattle.rules.specs.Answer.{unless};
 ghost use Rattle.rules.specs.Refusal.{unitWrong, markWrong, storeWrong, lentShort, storeRefusal, fresh, getRefusal, copied};
 ghost use Rattle.node.specs.Memory.{levelOf};
 ghost use Rattle.capture.specs.Record.{markOf, storeOf, lentNumbers, lentOf, Small, Sized};
-ghost use Rattle.capture.specs.Calls.{neededOf, needRefusal, memoryNeed, startedOf, gotOf, Source, over, Copies, chunkEnd, rawOf};
+ghost use Rattle.capture.specs.Calls.{neededOf, needRefusal, memoryNeed, startedOf, gotOf, Source, over, Copies, chunkEnd, rawOf, Lies};
 
 // 01's mark: the place of the firing sample, once there is one.
 pub enum Mark {
@@ -285,6 +285,37 @@ fn chunk_end(len: usize, chunk: usize) -> usize
     base + CHUNK
 }
 
+// Where a part of sample memory starts and ends.
+pub struct Part {
+    pub from: usize,
+    pub to: usize,
+}
+
+// 01's Raw(c) as two places: a caller that no slice can be returned to takes the part itself.
+pub fn raw_part<'a>(
+    c: Capture,
+    samples: &[u8],
+    l1: &'a [Mask],
+    l2: &'a [Mask],
+    l3: &'a [Mask],
+    l4: &'a [Mask],
+    chunk: usize,
+) -> Part
+    ensures { λ r. ⌜ Lies (now (samples .entry)) (rawOf (storeOf c) (now (samples .entry)) (levelOf (now (l1 .entry)) (now (l2 .entry)) (now (l3 .entry)) (now (l4 .entry))) chunk) (r .from) (r .to) ⌝ }
+{
+    let n = refusal(c, samples.len(), l1.len(), l2.len(), l3.len(), l4.len());
+    if n != 0 {
+        return Part { from: 0, to: 0 };
+    }
+    if (c.len + (CHUNK - 1)) / CHUNK <= chunk {
+        return Part { from: 0, to: 0 };
+    }
+    Part {
+        from: chunk * CHUNK * c.unitsize,
+        to: chunk_end(c.len, chunk) * c.unitsize,
+    }
+}
+
 // 01's Raw(c): a chunk's stored bytes, empty past the end and where 1 or 2 applies.
 pub fn raw<'s, 'a>(
     c: Capture,
@@ -297,14 +328,8 @@ pub fn raw<'s, 'a>(
 ) -> &'s [u8]
     ensures { λ r. ⌜ now r ≡ rawOf (storeOf c) (now (samples .entry)) (levelOf (now (l1 .entry)) (now (l2 .entry)) (now (l3 .entry)) (now (l4 .entry))) chunk ⌝ }
 {
-    let n = refusal(c, samples.len(), l1.len(), l2.len(), l3.len(), l4.len());
-    if n != 0 {
-        return &samples[..0];
-    }
-    if (c.len + (CHUNK - 1)) / CHUNK <= chunk {
-        return &samples[..0];
-    }
-    let a = chunk * CHUNK * c.unitsize;
-    let e = chunk_end(c.len, chunk) * c.unitsize;
+    let p = raw_part(c, samples, l1, l2, l3, l4, chunk);
+    let a = p.from;
+    let e = p.to;
     &samples[a..e]
 }

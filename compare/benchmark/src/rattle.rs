@@ -1,0 +1,131 @@
+//! The port, over memory that it is lent. Without the static library it has no operation.
+
+use crate::side::{timed, Side, Timed};
+use crate::work::{Appends, Ranges, Samples, Walk};
+use port::{Lent, LentMut, Record};
+use std::cell::RefCell;
+
+#[derive(Default)]
+struct Capture {
+    record: Record,
+    samples: Vec<u8>,
+    levels: [Vec<u16>; 4],
+}
+
+#[derive(Default)]
+pub struct Rattle {
+    held: Capture,
+    /// What is appended to, and where samples are copied: lent again in each round.
+    appended: RefCell<Capture>,
+    output: RefCell<Vec<u16>>,
+}
+
+const NONE: &str = "none";
+const LENT: &str = "lent, filled once before, not cleared";
+
+impl Capture {
+    /// A capture with nothing in it. Memory that is there already stays as it is.
+    fn start(&mut self, unit: usize, capacity: usize) {
+        let mut sizes = [0; 5];
+        assert_eq!(port::needs(8 * unit, capacity, &mut sizes), 0);
+        let [samples, levels @ ..] = sizes;
+        self.samples.resize(samples, 0xA5);
+        for (level, size) in self.levels.iter_mut().zip(levels) {
+            level.resize(size, 0xA5A5);
+        }
+        let mut record = self.record;
+        assert_eq!(port::start(8 * unit, capacity, self.lent(), &mut record), 0);
+        self.record = record;
+    }
+
+    fn append(&mut self, bytes: &[u8]) {
+        let [l1, l2, l3, l4] = &mut self.levels;
+        let lent = LentMut { samples: &mut self.samples, levels: [l1, l2, l3, l4] };
+        assert_eq!(port::append(&mut self.record, lent, bytes), 0);
+    }
+
+    fn lent(&self) -> Lent<'_> {
+        let [l1, l2, l3, l4] = &self.levels;
+        Lent { samples: &self.samples, levels: [l1, l2, l3, l4] }
+    }
+}
+
+impl Side for Rattle {
+    fn hold(&mut self, samples: &Samples) {
+        if port::LINKED {
+            self.held.start(samples.unit, samples.len() as usize);
+            self.held.append(&samples.bytes);
+        }
+    }
+
+    fn append(&self, work: &Appends) -> Option<Timed> {
+        let Samples { unit, bytes } = work.samples;
+        let mut capture = self.appended.borrow_mut();
+        port::LINKED.then(|| capture.start(*unit, work.samples.len() as usize))?;
+        timed(LENT, || {
+            for push in bytes.chunks(work.push * unit) {
+                capture.append(push);
+            }
+            (work.samples.len(), capture.record[2] as u64)
+        })
+    }
+
+    fn next_change(&self, work: &Walk) -> Option<Timed> {
+        let (record, lent) = (&self.held.record, self.held.lent());
+        port::LINKED.then_some(())?;
+        timed(NONE, || {
+            let (mut at, mut count, mut sum) = (0, 0, 0);
+            while port::next_change(record, lent, work.mask, at, &mut at) == 0 {
+                count += 1;
+                sum += at as u64;
+            }
+            (count, sum)
+        })
+    }
+
+    fn prev_change(&self, work: &Walk) -> Option<Timed> {
+        let (record, lent) = (&self.held.record, self.held.lent());
+        port::LINKED.then_some(())?;
+        timed(NONE, || {
+            let (mut at, mut count, mut sum) = (work.len as usize, 0, 0);
+            while port::prev_change(record, lent, work.mask, at, &mut at) == 0 {
+                count += 1;
+                sum += at as u64;
+                at -= 1;
+            }
+            (count, sum)
+        })
+    }
+
+    fn summary(&self, work: &Ranges) -> Option<Timed> {
+        let (record, lent) = (&self.held.record, self.held.lent());
+        port::LINKED.then_some(())?;
+        timed(NONE, || {
+            let mut node = [0; 3];
+            let sum = |&a: &u64| {
+                let b = (a + work.len) as usize;
+                assert_eq!(port::summary(record, lent, a as usize, b, &mut node), 0);
+                node.iter().map(|&n| n as u64).sum::<u64>()
+            };
+            (work.count(), work.starts.iter().map(sum).sum())
+        })
+    }
+
+    fn samples(&self, work: &Ranges) -> Option<Timed> {
+        let (record, lent) = (&self.held.record, self.held.lent());
+        let mut output = self.output.borrow_mut();
+        output.resize(work.len as usize, 0xA5A5);
+        port::LINKED.then_some(())?;
+        timed(LENT, || {
+            let mut copied = 0;
+            let last = |&a: &u64| {
+                let count = work.len as usize;
+                let code = port::samples(record, lent, a as usize, count, &mut output, &mut copied);
+                assert_eq!((code, copied), (0, count));
+                output[count - 1] as u64
+            };
+            let sum = work.starts.iter().map(last).sum();
+            (work.count() * work.len, sum)
+        })
+    }
+}

@@ -1,0 +1,182 @@
+//! The port beside the Rust and the document: the recorded answers, then random captures for a given time.
+
+use crate::document::rules;
+use crate::feed::Feed;
+use crate::groups::GROUPS;
+use crate::line::Numbers;
+use crate::list::{append, List};
+use crate::op::Op;
+use crate::port::Port;
+use crate::shapes::{mask, Size, CHUNK};
+use crate::side::Side;
+use crate::write::{file_name, path};
+use rng::Rng;
+use std::time::{Duration, Instant};
+
+/// Differences shown.
+const SHOWN: usize = 5;
+
+/// Whether the port has all calls of a group. The others are asked as far as it has them.
+const WHOLE_GROUPS: [&str; 2] = ["store", "search"];
+
+pub fn run(seconds: u64, seed: u64) -> bool {
+    if !port::LINKED {
+        println!("no port: `rt staticlib logic_core` makes target/staticlib/liblogic_core.a");
+        return false;
+    }
+    let recorded = GROUPS.iter().map(|group| replay(group.name)).fold(true, |all, good| all & good);
+    recorded & random(seconds, seed)
+}
+
+/// Asks the port every line of a list that it has a call for.
+fn replay(name: &str) -> bool {
+    let file = file_name(name);
+    let Ok(stored) = std::fs::read_to_string(path(name)) else {
+        println!("{file}: can't be read");
+        return false;
+    };
+    let mut port = Port::default();
+    let (mut asked, mut skipped, mut wrong) = (0, 0, 0);
+    // After a recorder's start that the port lacks, the lines are about no capture of its own.
+    let mut lost = false;
+    for (number, line) in stored.lines().enumerate() {
+        let Some(op) = Op::read(&mut Numbers::new(line)) else {
+            continue;
+        };
+        lost = match op {
+            Op::Capture { .. } => false,
+            Op::Start(_) => true,
+            _ => lost,
+        };
+        let scene = matches!(op, Op::Lend(_) | Op::Record(_) | Op::Feeder(_) | Op::Put { .. });
+        let answer = if lost && !scene { None } else { port.take(&op) };
+        if scene {
+            continue;
+        }
+        let Some(answer) = answer else {
+            skipped += 1;
+            continue;
+        };
+        asked += 1;
+        let is = numbers(&op, answer);
+        let mut faults = port.faults();
+        if !line_says(line, &is) {
+            faults.push(format!("the port says {is:?}"));
+        }
+        for fault in &faults {
+            wrong += 1;
+            if wrong <= SHOWN {
+                println!("{file}: line {}, {line}: {fault}", number + 1);
+            }
+        }
+    }
+    println!("{file}: {asked} lines asked of the port, {wrong} wrong, {skipped} skipped");
+    wrong == 0
+}
+
+/// Code, arguments, refusal and values; who decides is left out.
+fn numbers(op: &Op, answer: crate::side::Answer) -> (Vec<u64>, Vec<u64>) {
+    let answer = match answer {
+        Ok(values) => [0].into_iter().chain(values).collect(),
+        Err(number) => vec![number],
+    };
+    (op.numbers(), answer)
+}
+
+fn line_says(line: &str, (asked, answer): &(Vec<u64>, Vec<u64>)) -> bool {
+    let mut numbers = Numbers::new(line);
+    let mut all = Vec::new();
+    while let Some(number) = numbers.next() {
+        all.push(number);
+    }
+    all[..asked.len()] == asked[..] && all[asked.len() + 1..] == answer[..]
+}
+
+fn random(seconds: u64, seed: u64) -> bool {
+    let begun = Instant::now();
+    let mut list = List::with_port();
+    let mut rng = Rng::new(seed);
+    let groups: Vec<_> = GROUPS.iter().filter(|g| WHOLE_GROUPS.contains(&g.name)).collect();
+    let mut longs = 0;
+    while begun.elapsed() < Duration::from_secs(seconds) {
+        let group = rng.pick(&groups);
+        match rng.below(2_000) {
+            0..=1 => {
+                long(&mut list, &mut rng);
+                longs += 1;
+            }
+            2..=9 => (group.random)(&mut list, &mut rng, Size::Big),
+            10..=400 => (group.random)(&mut list, &mut rng, Size::Border),
+            _ => (group.random)(&mut list, &mut rng, Size::Short),
+        }
+        list.text();
+    }
+    let asker = list.asker();
+    for difference in asker.differences.iter().take(SHOWN) {
+        println!("{difference}");
+    }
+    println!(
+        "seed {seed}: {} answers of the port compared, {longs} long captures, {} different; the Rust answers {}, 01 refuses {}",
+        asker.counts.by_port,
+        asker.differences.len(),
+        asker.counts.by_rust,
+        asker.counts.refused,
+    );
+    asker.differences.is_empty()
+}
+
+/// Several chunks, exactly full or one sample short of it, in pushes of many sizes.
+fn long(list: &mut List, rng: &mut Rng) {
+    let channels = rng.pick(&[8, 16]);
+    let unit = rules::unit(channels);
+    let chunks = 1 + rng.below(3);
+    let capacity = chunks * CHUNK + rng.pick(&[0, 0, 1, 31, 32]) - rng.pick(&[0, 0, 1]);
+    let len = capacity - rng.pick(&[0, 1]);
+    list.capture(channels, capacity);
+    let lines = if unit == 1 { 0xFF } else { 0xFFFF };
+    let mut at = 0;
+    while at < len {
+        let count = match rng.below(12) {
+            0..=2 => 3,
+            3..=4 => 32,
+            5..=6 => 4_096,
+            7 => CHUNK - at % CHUNK,
+            8 => 200_000,
+            _ => 1 + rng.below(3_000),
+        };
+        let count = count.min(len - at);
+        at += count;
+        let seed = rng.below(1 << 32);
+        let noise = Feed::Noise { count, seed, mask: lines & mask(rng, 8 * unit) };
+        list.say(Op::Append(match rng.below(3) {
+            0 => Feed::Runs(vec![(count, seed as u16 & lines)]),
+            // At most one piece: a push of its own.
+            1 if count <= 32_768 => Feed::Bytes(noise.pieces(unit).concat()),
+            _ => noise,
+        }));
+    }
+    list.say(Op::Whole);
+    list.say(Op::Run);
+    for _ in 0..12 {
+        let place = near(rng, len);
+        list.say(Op::Next { mask: mask(rng, 8 * unit), from: place });
+        list.say(Op::Prev { mask: mask(rng, 8 * unit), from: place });
+        list.say(Op::Summary { a: place, b: near(rng, len) });
+        list.say(Op::Get(place));
+        list.say(Op::Samples { start: place, count: 40, output: 40 });
+        list.say(Op::Raw(rng.below(chunks + 2)));
+    }
+    let room = capacity - len;
+    for count in [room + 1, room, 1, 0] {
+        list.say(append(channels, &vec![1; count as usize]));
+        list.say(Op::Run);
+    }
+}
+
+/// A place around a chunk's border, around the end, or anywhere.
+fn near(rng: &mut Rng, len: u64) -> u64 {
+    let border = rng.below(len / CHUNK + 2) * CHUNK;
+    let middle = rng.below(len + 2);
+    let place = rng.pick(&[border, len, middle]);
+    (place + rng.below(70)).saturating_sub(35)
+}

@@ -1,0 +1,345 @@
+//! The port as a side, over lent memory that is filled with a pattern first.
+//! Beside it stands what the calls must leave there; whatever else changes is a fault.
+
+use crate::digest::digest;
+use crate::document::{listed, optional, refusals};
+use crate::op::{Lent, Op, Store};
+use crate::side::{Answer, Side};
+use port::{LentMut, Record, NONE};
+
+/// Numbers behind each lent slice that belong to nobody.
+const GUARD: usize = 40;
+
+/// Memory up to this size is compared whole after every call, larger memory now and then.
+const SMALL: usize = 20_000;
+const RARELY: u64 = 50;
+
+#[derive(Clone, Default, PartialEq)]
+struct Memory {
+    samples: Vec<u8>,
+    levels: [Vec<u16>; 4],
+}
+
+#[derive(Default)]
+pub struct Port {
+    record: Record,
+    lent: Lent,
+    memory: Memory,
+    /// What memory must hold.
+    right: Memory,
+    calls: u64,
+    faults: Vec<String>,
+}
+
+impl Side for Port {
+    fn take(&mut self, op: &Op) -> Option<Answer> {
+        match *op {
+            Op::Lend(lent) => self.lend(lent),
+            // Any number but 0 says that there is a mark; without one the last number says nothing.
+            Op::Record(Store { unit, capacity, len, mark }) => {
+                let (marked, mark) = mark.map_or((0, 7), |mark| (3, mark));
+                self.record = [unit, capacity, len, marked, mark].map(|n| n as usize);
+            }
+            Op::Put { level, index, value } => {
+                for memory in [&mut self.memory, &mut self.right] {
+                    memory.levels[level as usize - 1][index as usize] = value;
+                }
+            }
+            _ => {
+                let before = self.record;
+                let answer = self.answer(op)?;
+                if !(matches!(op, Op::Capture { .. } | Op::Append(_)) && answer.is_ok()) {
+                    self.same("record", before, self.record);
+                }
+                self.compare(op.begins());
+                return Some(answer);
+            }
+        }
+        None
+    }
+}
+
+impl Port {
+    /// The faults since the last call of this.
+    pub fn faults(&mut self) -> Vec<String> {
+        std::mem::take(&mut self.faults)
+    }
+
+    fn answer(&mut self, op: &Op) -> Option<Answer> {
+        Some(match *op {
+            Op::Capture { channels, capacity } => self.capture(channels, capacity),
+            Op::Append(ref feed) => {
+                let mut last = Ok(Vec::new());
+                for piece in feed.pieces(self.record[0] as u64) {
+                    last = self.append(&piece);
+                }
+                last
+            }
+            Op::Run => self.run(),
+            Op::Get(i) => {
+                let mut value = 0xA5C3;
+                let code = port::get(&self.record, self.lent(), i as usize, &mut value);
+                self.kept(code, "value", 0xA5C3, value);
+                said(code, || vec![value as u64])
+            }
+            Op::Samples { start, count, output } => self.samples(start, count, output),
+            Op::Raw(chunk) => {
+                let bytes = port::raw(&self.record, self.lent(), chunk as usize);
+                Ok(vec![bytes.len() as u64, digest(bytes.iter().map(|&b| b as u64))])
+            }
+            Op::Whole => {
+                let (mut level, mut number) = (71, 72);
+                let code = port::whole(&self.record, self.lent(), &mut level, &mut number);
+                if code != NONE {
+                    self.same("wrong node", (71, 72), (level, number));
+                }
+                match code {
+                    NONE => Ok(vec![0, level as u64, number as u64]),
+                    _ => said(code, || vec![1]),
+                }
+            }
+            Op::Next { mask, from } => self.place(port::next_change, mask, from),
+            Op::Prev { mask, from } => self.place(port::prev_change, mask, from),
+            Op::Summary { a, b } => {
+                let before = [0xA5C3, 1, 2];
+                let mut node = before;
+                let code =
+                    port::summary(&self.record, self.lent(), a as usize, b as usize, &mut node);
+                self.kept(code, "node", before, node);
+                found(code, node.map(u64::from))
+            }
+            _ => return None,
+        })
+    }
+
+    fn capture(&mut self, channels: u64, capacity: u64) -> Answer {
+        let before = [81, 82, 83, 84, 85];
+        let mut sizes = before;
+        let code = port::needs(channels as usize, capacity as usize, &mut sizes);
+        self.kept(code, "sizes", before, sizes);
+        if code == 0 {
+            let need = refusals::need(1 + (channels > 8) as u64, capacity);
+            let [one, two, three, four] = need.levels;
+            let right = [need.samples, one, two, three, four].map(|n| n as usize);
+            self.same("needs", right, sizes);
+        }
+        let mut record = self.record;
+        let code = port::start(channels as usize, capacity as usize, self.lent(), &mut record);
+        self.kept(code, "record", self.record, record);
+        self.record = record;
+        said(code, || vec![record[0] as u64])
+    }
+
+    fn append(&mut self, bytes: &[u8]) -> Answer {
+        let [unit, _, len, ..] = self.record;
+        let mut record = self.record;
+        let code = port::append(&mut record, self.memory.lent_mut(&self.lent), bytes);
+        self.kept(code, "record", self.record, record);
+        if code == 0 {
+            self.right.append(unit, len, bytes);
+            self.record[2] = len + bytes.len() / unit;
+            self.same("record", self.record, record);
+        }
+        said(code, || vec![record[2] as u64])
+    }
+
+    /// The stored samples by several calls.
+    fn run(&mut self) -> Answer {
+        let [_, _, len, marked, mark] = self.record;
+        let mut piece = vec![0; 65_536];
+        let mut all = Vec::new();
+        while all.len() < len {
+            let mut copied = 0;
+            let (record, count) = (&self.record, piece.len());
+            let code =
+                port::samples(record, self.lent(), all.len(), count, &mut piece, &mut copied);
+            if code != 0 || copied == 0 {
+                self.faults.push(format!("samples of a run: {code}, {copied} copied"));
+                break;
+            }
+            all.extend_from_slice(&piece[..copied]);
+        }
+        let digest = digest(all.into_iter().map(u64::from));
+        let mark = if marked == 0 { 0 } else { mark };
+        Ok(vec![len as u64, (marked != 0) as u64, mark as u64, 0, digest])
+    }
+
+    fn samples(&mut self, start: u64, count: u64, output: u64) -> Answer {
+        let room = output as usize;
+        let before: Vec<u16> = (0..room + GUARD).map(|i| pattern(i) as u16 ^ 0x5A00).collect();
+        let (mut after, mut copied) = (before.clone(), 91);
+        let lent = self.lent();
+        let part = &mut after[..room];
+        let code =
+            port::samples(&self.record, lent, start as usize, count as usize, part, &mut copied);
+        self.kept(code, "count copied", 91, copied);
+        let copied = if code == 0 { copied.min(room) } else { 0 };
+        if before[copied..] != after[copied..] {
+            self.faults.push("output past the copied samples changed".into());
+        }
+        said(code, || listed(&after[..copied]))
+    }
+
+    fn place(
+        &mut self,
+        call: impl Fn(&Record, port::Lent, u16, usize, &mut usize) -> u32,
+        mask: u16,
+        from: u64,
+    ) -> Answer {
+        let mut place = 61;
+        let code = call(&self.record, self.lent(), mask, from as usize, &mut place);
+        self.kept(code, "place", 61, place);
+        found(code, [place as u64])
+    }
+
+    fn lend(&mut self, lent: Lent) {
+        // The last look at a large capture.
+        if self.lent.samples as usize > SMALL {
+            self.compare_lent();
+        }
+        self.lent = lent;
+        for memory in [&mut self.memory, &mut self.right] {
+            memory.make(&lent);
+        }
+    }
+
+    fn lent(&self) -> port::Lent<'_> {
+        let Memory { samples, levels } = &self.memory;
+        let [a, b, c, d] = self.lent.levels.map(|n| n as usize);
+        let [l1, l2, l3, l4] = levels;
+        let levels = [&l1[..a], &l2[..b], &l3[..c], &l4[..d]];
+        port::Lent { samples: &samples[..self.lent.samples as usize], levels }
+    }
+
+    /// What stands behind an out pointer stays unless the call answers.
+    fn kept<T: PartialEq + std::fmt::Debug>(&mut self, code: u32, what: &str, old: T, new: T) {
+        if code != 0 {
+            self.same(what, old, new);
+        }
+    }
+
+    fn same<T: PartialEq + std::fmt::Debug>(&mut self, what: &str, right: T, is: T) {
+        if right != is {
+            self.faults.push(format!("{what} is {is:?} and should be {right:?}"));
+        }
+    }
+
+    /// Holds memory against what it must be: lent memory, or now and then, where another capture begins, all of it.
+    fn compare(&mut self, begins: bool) {
+        self.calls += 1;
+        let seldom = self.calls.is_multiple_of(RARELY);
+        if begins && seldom {
+            let same = self.memory == self.right;
+            self.note(same);
+        } else if seldom || self.lent.samples as usize <= SMALL {
+            self.compare_lent();
+        }
+    }
+
+    fn compare_lent(&mut self) {
+        let bytes = self.lent.samples as usize + GUARD;
+        let level = |l: usize| {
+            let end = self.lent.levels[l] as usize + GUARD;
+            self.memory.levels[l][..end] == self.right.levels[l][..end]
+        };
+        let same = self.memory.samples[..bytes] == self.right.samples[..bytes] && (0..4).all(level);
+        self.note(same);
+    }
+
+    fn note(&mut self, same: bool) {
+        if !same {
+            let place = self.memory.first_difference(&self.right);
+            self.faults.push(format!("memory differs: {place}"));
+            self.right = self.memory.clone();
+        }
+    }
+}
+
+/// The values, or the number of the refusal.
+fn said(code: u32, values: impl FnOnce() -> Vec<u64>) -> Answer {
+    match code {
+        0 => Ok(values()),
+        number => Err(number as u64),
+    }
+}
+
+fn found<const N: usize>(code: u32, values: [u64; N]) -> Answer {
+    match code {
+        NONE => Ok(optional::<N>(None)),
+        _ => said(code, || optional(Some(values))),
+    }
+}
+
+fn pattern(i: usize) -> u8 {
+    (i.wrapping_mul(0x9E37_79B9) >> 13) as u8 ^ 0xC3
+}
+
+impl Memory {
+    /// At least as much as is lent, and the guards.
+    fn make(&mut self, lent: &Lent) {
+        let from = self.samples.len();
+        self.samples.extend((from..lent.samples as usize + GUARD).map(pattern));
+        for (level, &length) in self.levels.iter_mut().zip(&lent.levels) {
+            let from = level.len();
+            let number = |i| pattern(i) as u16 | 0x3900;
+            level.extend((from..length as usize + GUARD).map(number));
+        }
+    }
+
+    fn lent_mut(&mut self, lent: &Lent) -> LentMut<'_> {
+        let [a, b, c, d] = lent.levels.map(|n| n as usize);
+        let [l1, l2, l3, l4] = &mut self.levels;
+        let levels = [&mut l1[..a], &mut l2[..b], &mut l3[..c], &mut l4[..d]];
+        LentMut { samples: &mut self.samples[..lent.samples as usize], levels }
+    }
+
+    /// Document 01's append, node by node from the level below.
+    fn append(&mut self, unit: usize, len: usize, bytes: &[u8]) {
+        let end = len + bytes.len() / unit;
+        self.samples[len * unit..end * unit].copy_from_slice(&bytes[..(end - len) * unit]);
+        if end == len {
+            return;
+        }
+        let mut span = 1;
+        for level in 0..4 {
+            let below = (end - 1) / span + 1;
+            span *= 32;
+            for node in len / span..=(end - 1) / span {
+                let parts = node * 32..below.min(node * 32 + 32);
+                let made = parts.map(|part| self.node(unit, level, part)).reduce(join);
+                let made = made.expect("a touched node covers a sample");
+                self.levels[level][3 * node..3 * node + 3].copy_from_slice(&made);
+            }
+        }
+    }
+
+    /// First, last and toggles of a node; at level 0 of a sample.
+    fn node(&self, unit: usize, level: usize, number: usize) -> [u16; 3] {
+        if level > 0 {
+            let at = &self.levels[level - 1][3 * number..];
+            return [at[0], at[1], at[2]];
+        }
+        let at = &self.samples[number * unit..];
+        let sample = if unit == 1 { at[0] as u16 } else { u16::from_le_bytes([at[0], at[1]]) };
+        [sample, sample, 0]
+    }
+
+    fn first_difference(&self, right: &Memory) -> String {
+        let place = (0..self.samples.len()).find(|&i| self.samples[i] != right.samples[i]);
+        if let Some(i) = place {
+            let (is, should) = (self.samples[i], right.samples[i]);
+            return format!("byte {i} is {is} and should be {should}");
+        }
+        for (level, (is, right)) in self.levels.iter().zip(&right.levels).enumerate() {
+            if let Some(i) = (0..is.len()).find(|&i| is[i] != right[i]) {
+                let level = level + 1;
+                return format!("level {level}, {i} is {} and should be {}", is[i], right[i]);
+            }
+        }
+        "nowhere".into()
+    }
+}
+
+fn join(a: [u16; 3], b: [u16; 3]) -> [u16; 3] {
+    [a[0], b[1], a[2] | b[2] | (a[1] ^ b[0])]
+}

@@ -1,0 +1,102 @@
+//! The port behind its C boundary, include/logic_core.h, made safe: slices for pointers and lengths.
+
+mod calls;
+
+/// Whether the static library is there. Without it no function here may be called.
+pub const LINKED: bool = cfg!(linked);
+
+/// What a call says when it finds nothing, and of levels that are not whole.
+pub const NONE: u32 = 100;
+
+/// unit, capacity, len, whether there is a mark, the mark
+pub type Record = [usize; 5];
+
+/// Lent memory: sample bytes, and the numbers of the levels 1 to 4.
+#[derive(Clone, Copy)]
+pub struct Lent<'a> {
+    pub samples: &'a [u8],
+    pub levels: [&'a [u16]; 4],
+}
+
+pub struct LentMut<'a> {
+    pub samples: &'a mut [u8],
+    pub levels: [&'a mut [u16]; 4],
+}
+
+// Inlined, so that a caller is charged for the call alone.
+#[inline]
+pub fn needs(channels: usize, capacity: usize, sizes: &mut [usize; 5]) -> u32 {
+    unsafe { calls::lc_needs(channels, capacity, sizes) }
+}
+
+/// Calls with the lent memory's pointers and lengths between the arguments before and after them.
+macro_rules! lent {
+    ($call:ident, ($($before:expr),*), $lent:expr, $pointer:ident, ($($after:expr),*)) => {{
+        let [l1, l2, l3, l4] = $lent.levels;
+        unsafe {
+            calls::$call(
+                $($before,)*
+                $lent.samples.$pointer(), $lent.samples.len(),
+                l1.$pointer(), l1.len(), l2.$pointer(), l2.len(),
+                l3.$pointer(), l3.len(), l4.$pointer(), l4.len(),
+                $($after,)*
+            )
+        }
+    }};
+}
+
+#[inline]
+pub fn start(channels: usize, capacity: usize, lent: Lent, record: &mut Record) -> u32 {
+    lent!(lc_start, (channels, capacity), lent, as_ptr, (record))
+}
+
+#[inline]
+pub fn append(record: &mut Record, lent: LentMut, bytes: &[u8]) -> u32 {
+    lent!(lc_append, (record), lent, as_mut_ptr, (bytes.as_ptr(), bytes.len()))
+}
+
+#[inline]
+pub fn get(record: &Record, lent: Lent, i: usize, value: &mut u16) -> u32 {
+    lent!(lc_get, (record), lent, as_ptr, (i, value))
+}
+
+#[inline]
+pub fn samples(
+    record: &Record,
+    lent: Lent,
+    start: usize,
+    count: usize,
+    output: &mut [u16],
+    copied: &mut usize,
+) -> u32 {
+    let (to, room) = (output.as_mut_ptr(), output.len());
+    lent!(lc_samples, (record), lent, as_ptr, (start, count, to, room, copied))
+}
+
+/// The chunk's stored bytes. The two places are checked before they cut.
+#[inline]
+pub fn raw<'a>(record: &Record, lent: Lent<'a>, chunk: usize) -> &'a [u8] {
+    let (mut from, mut to) = (usize::MAX, usize::MAX);
+    lent!(lc_raw, (record), lent, as_ptr, (chunk, &mut from, &mut to));
+    &lent.samples[from..to]
+}
+
+#[inline]
+pub fn whole(record: &Record, lent: Lent, level: &mut usize, number: &mut usize) -> u32 {
+    lent!(lc_whole, (record), lent, as_ptr, (level, number))
+}
+
+#[inline]
+pub fn summary(record: &Record, lent: Lent, a: usize, b: usize, node: &mut [u16; 3]) -> u32 {
+    lent!(lc_summary, (record), lent, as_ptr, (a, b, node))
+}
+
+#[inline]
+pub fn next_change(record: &Record, lent: Lent, mask: u16, from: usize, place: &mut usize) -> u32 {
+    lent!(lc_next_change, (record), lent, as_ptr, (mask, from, place))
+}
+
+#[inline]
+pub fn prev_change(record: &Record, lent: Lent, mask: u16, from: usize, place: &mut usize) -> u32 {
+    lent!(lc_prev_change, (record), lent, as_ptr, (mask, from, place))
+}

@@ -1,0 +1,51 @@
+-- What each call under the boundary answers, over the record's numbers and the lent lists.
+use mathlib.Core.Path.{_≡_}
+use mathlib.Core.List.{List}
+use mathlib.Core.Option.{Option}
+use Prim.Native.Nat.{ℕ, _+_}
+use lib.ListN.{length}
+use Rattle.rules.specs.Sample.{sampleOf}
+use Rattle.rules.specs.Node.{Node, topLevel}
+use Rattle.rules.specs.Answer.{Answer, unless}
+use Rattle.rules.specs.Refusal.{Store, Lent, fresh, storeRefusal, getRefusal, samplesRefusal, copied}
+use Rattle.capture.specs.declared.Capture.{Capture}
+use Rattle.capture.specs.Record.{storeOf, lentOf}
+use Rattle.capture.specs.Calls.{needRefusal, memoryNeed, over, unrefused}
+use Rattle.append.specs.Append.{refusalOf, takenOf, Stored}
+use Rattle.summary.specs.Summary.{summaryOf}
+use Rattle.whole.specs.Wrong.{Place, firstWrong}
+use Rattle.logic_core.specs.Code.{plain, Out}
+use Rattle.logic_core.specs.Record.{number, lenNumber}
+
+abbrev pub neededFor : ℕ → ℕ → Answer Lent
+neededFor channels capacity = unless (needRefusal (fresh channels capacity)) (memoryNeed (fresh channels capacity))
+
+abbrev pub startedFor : ℕ → ℕ → List ℕ → (ℕ → List ℕ) → Answer Store
+startedFor channels capacity samples levels = unless (storeRefusal (fresh channels capacity) (lentOf samples levels)) (fresh channels capacity)
+
+module _ (c : Capture) (samples : List ℕ) (levels : ℕ → List ℕ) where
+  abbrev pub gotFor : ℕ → Answer ℕ
+  gotFor i = unless (getRefusal (storeOf c) (lentOf samples levels) i) (sampleOf (c .unitsize) samples i)
+
+  abbrev pub copyRefusal : ℕ → ℕ → List ℕ → ℕ
+  copyRefusal start count output = samplesRefusal (storeOf c) (lentOf samples levels) start count (length output)
+
+  abbrev pub copiedFor : ℕ → ℕ → List ℕ → Answer ℕ
+  copiedFor start count output = unless (copyRefusal start count output) (copied (c .len) start count)
+
+  abbrev pub summedFor : ℕ → ℕ → Answer (Option Node)
+  summedFor a b = unless (storeRefusal (storeOf c) (lentOf samples levels)) (summaryOf levels (sampleOf (c .unitsize) samples) (c .len) a b)
+
+  abbrev pub wrongFor : Answer (Option Place)
+  wrongFor = unless (storeRefusal (storeOf c) (lentOf samples levels)) (firstWrong (sampleOf (c .unitsize) samples) (c .len) levels 1 topLevel)
+
+-- samples: the count behind a pointer, and the output
+pub record CopiesOut (c : Capture) (samples : List ℕ) (levels : ℕ → List ℕ) (start count : ℕ) (output : List ℕ) (code old new : ℕ) (output′ : List ℕ) : Type 0 where
+  pub count-is : Out number (plain (copiedFor c samples levels start count output)) code old new
+  pub output-is : output′ ≡ over (sampleOf (c .unitsize) samples) start (unrefused (copyRefusal c samples levels start count output) (copied (c .len) start count)) output
+
+-- append: the code, the record's numbers, of which only len changes, and the memory
+pub record AppendsOut (c : Capture) (bytes samples : List ℕ) (levels : ℕ → List ℕ) (code : ℕ) (numbers numbers′ samples′ : List ℕ) (levels′ : ℕ → List ℕ) : Type 0 where
+  pub code-is : code ≡ refusalOf c samples levels bytes
+  pub numbers-are : numbers′ ≡ lenNumber (c .len + takenOf c samples levels bytes) numbers
+  pub memory : Stored (c .unitsize) (c .len) (takenOf c samples levels bytes) bytes samples levels samples′ levels′

@@ -1,0 +1,45 @@
+-- The numbers of a capture's record: unit, capacity, len, whether there is a mark (not 0), the mark. And how answers are written as numbers.
+use mathlib.Core.Bool.{cond}
+use mathlib.Core.List.{List, [], _∷_}
+use mathlib.Core.Option.{Option, none, some}
+use Prim.Native.Nat.{ℕ}
+use lib.Dec.{eqb}
+use lib.ListN.{getD}
+use lib.Seq.{sets}
+use Rattle.rules.specs.Node.{Node}
+use Rattle.rules.specs.Refusal.{Store, Lent}
+use Rattle.capture.specs.declared.Mark.{Mark}
+use Rattle.capture.specs.declared.Mark.the-variants.{Absent, At}
+use Rattle.capture.specs.declared.Capture.{Capture}
+use Rattle.whole.specs.Wrong.{Place}
+
+abbrev pub captureIn : List ℕ → Capture
+captureIn r = record { unitsize = getD r 0 0; capacity = getD r 1 0; len = getD r 2 0; trigger = cond (eqb (getD r 3 0) 0) Absent (At (getD r 4 0)) }
+
+abbrev pub markNumbers : Option ℕ → List ℕ
+markNumbers none = 0 ∷ 0 ∷ []
+markNumbers (some k) = 1 ∷ k ∷ []
+
+abbrev pub storeNumbers : Store → List ℕ → List ℕ
+storeNumbers st old = sets old 0 (st .unit ∷ st .capacity ∷ st .len ∷ markNumbers (st .mark))
+
+-- the count of stored samples
+abbrev pub lenNumber : ℕ → List ℕ → List ℕ
+lenNumber len old = sets old 2 (len ∷ [])
+
+-- bytes of samples, and numbers of the levels 1 to 4
+abbrev pub lentNumbers : Lent → List ℕ → List ℕ
+lentNumbers lent old = sets old 0 (lent .samples ∷ lent .level 1 ∷ lent .level 2 ∷ lent .level 3 ∷ lent .level 4 ∷ [])
+
+abbrev pub nodeNumbers : Node → List ℕ → List ℕ
+nodeNumbers n old = sets old 0 (n .first ∷ n .last ∷ n .toggles ∷ [])
+
+-- a number behind a pointer of its own
+abbrev pub number : ℕ → ℕ → ℕ
+number v old = v
+
+abbrev pub placeLevel : Place → ℕ → ℕ
+placeLevel p old = p .level
+
+abbrev pub placeNumber : Place → ℕ → ℕ
+placeNumber p old = p .number

@@ -1,0 +1,115 @@
+/* The capture of sixteen digital lines: its calls from C. liblogic_core.a holds them (rt staticlib logic_core).
+ *
+ * Each call checks what it is given, ends, and touches nothing but the memory that it is lent. Pointers must be valid for
+ * their lengths and aligned, and what a call writes must overlap nothing else that it gets; that is all a caller owes.
+ *
+ * Codes. Each call but lc_raw gives one:
+ *     0            it is done, and the out pointers hold the answer
+ *     1 .. 20      refused: the number that document 01 gives for the reason; nothing was written anywhere
+ *     100          LC_NONE: there is none; of lc_whole: a node is wrong
+ * A call that gives 1 to 20 has changed neither the record nor the lent memory nor what the out pointers point at; of the
+ * codes 0 and 100, each call says which of them writes.
+ *
+ * Refusals of every call on a record:
+ *     1            a number of the record is out of its range
+ *     2            lent memory is shorter than lc_needs says
+ *
+ * The record is five numbers: unit (bytes a sample, 1 or 2), capacity (samples, 1 to 67108864), len (stored samples),
+ * marked (0: there is no mark), mark (the place of the firing sample; of no meaning where marked is 0).
+ *
+ * Lent memory belongs to the record: sample bytes, and the levels 1 to 4 of the summary tree, uint16_t numbers, three to a
+ * node. Lend the same memory, whole, at every call on the record; nobody else may write in it meanwhile. Lengths count
+ * elements. More than lc_needs says may be lent; what is beyond stays untouched. A slice of length 0 needs any pointer that
+ * is not null.
+ */
+#ifndef LOGIC_CORE_H
+#define LOGIC_CORE_H
+
+#include <stddef.h>
+#include <stdint.h>
+
+#ifdef __cplusplus
+extern "C" {
+#endif
+
+#define LC_NONE 100
+
+/* How much memory a capture takes: sizes becomes bytes of samples, then numbers of the levels 1, 2, 3, 4.
+ * More than 8 channels take 2 bytes a sample, else 1. Refuses with 1 a capacity that is 0 or above 67108864. */
+uint32_t lc_needs(size_t channels, size_t capacity, size_t sizes[5]);
+
+/* Starts a capture with nothing in it: record becomes its numbers. The lent memory is measured, and not written.
+ * Refuses with 1 (the capacity) and 2. */
+uint32_t lc_start(size_t channels, size_t capacity,
+                  const uint8_t *samples, size_t samples_len,
+                  const uint16_t *l1, size_t l1_len, const uint16_t *l2, size_t l2_len,
+                  const uint16_t *l3, size_t l3_len, const uint16_t *l4, size_t l4_len,
+                  size_t record[5]);
+
+/* Appends the whole samples of bytes, low byte first; a leftover byte is dropped. The record's len is the new count, and
+ * no other number of it changes. Refuses with 1, 2, and 8 where the samples do not all fit. */
+uint32_t lc_append(size_t record[5],
+                   uint8_t *samples, size_t samples_len,
+                   uint16_t *l1, size_t l1_len, uint16_t *l2, size_t l2_len,
+                   uint16_t *l3, size_t l3_len, uint16_t *l4, size_t l4_len,
+                   const uint8_t *bytes, size_t bytes_len);
+
+/* The sample at place i. Refuses with 1, 2, and 9 where i is not below len. */
+uint32_t lc_get(const size_t record[5],
+                const uint8_t *samples, size_t samples_len,
+                const uint16_t *l1, size_t l1_len, const uint16_t *l2, size_t l2_len,
+                const uint16_t *l3, size_t l3_len, const uint16_t *l4, size_t l4_len,
+                size_t i, uint16_t *value);
+
+/* Copies the samples from start on, count of them or as many as there are, to output, and says how many in copied.
+ * Output past them is unchanged. Refuses with 1, 2, and 11 where output is shorter than what is to be copied. */
+uint32_t lc_samples(const size_t record[5],
+                    const uint8_t *samples, size_t samples_len,
+                    const uint16_t *l1, size_t l1_len, const uint16_t *l2, size_t l2_len,
+                    const uint16_t *l3, size_t l3_len, const uint16_t *l4, size_t l4_len,
+                    size_t start, size_t count, uint16_t *output, size_t output_len, size_t *copied);
+
+/* The stored bytes of a chunk, 1048576 samples to each: samples[from] up to samples[to], that one not among them.
+ * It has no code: past the end, and where 1 or 2 would apply, the part is empty (from and to are 0). */
+void lc_raw(const size_t record[5],
+            const uint8_t *samples, size_t samples_len,
+            const uint16_t *l1, size_t l1_len, const uint16_t *l2, size_t l2_len,
+            const uint16_t *l3, size_t l3_len, const uint16_t *l4, size_t l4_len,
+            size_t chunk, size_t *from, size_t *to);
+
+/* Whether the levels are right: 0 where each node that covers stored samples is the node of its range (nothing is written);
+ * LC_NONE, with the level and the number of the first that is not, lowest level first. Refuses with 1 and 2. */
+uint32_t lc_whole(const size_t record[5],
+                  const uint8_t *samples, size_t samples_len,
+                  const uint16_t *l1, size_t l1_len, const uint16_t *l2, size_t l2_len,
+                  const uint16_t *l3, size_t l3_len, const uint16_t *l4, size_t l4_len,
+                  size_t *level, size_t *number);
+
+/* The node of the places from a up to b, or up to len: first sample, last sample, and the lines that change inside.
+ * LC_NONE where there is no such place (nothing is written). Refuses with 1 and 2. */
+uint32_t lc_summary(const size_t record[5],
+                    const uint8_t *samples, size_t samples_len,
+                    const uint16_t *l1, size_t l1_len, const uint16_t *l2, size_t l2_len,
+                    const uint16_t *l3, size_t l3_len, const uint16_t *l4, size_t l4_len,
+                    size_t a, size_t b, uint16_t node[3]);
+
+/* The smallest place above from at which a line of the mask differs from the sample before; LC_NONE where there is none
+ * (nothing is written). Any from is allowed. Refuses with 1 and 2. */
+uint32_t lc_next_change(const size_t record[5],
+                        const uint8_t *samples, size_t samples_len,
+                        const uint16_t *l1, size_t l1_len, const uint16_t *l2, size_t l2_len,
+                        const uint16_t *l3, size_t l3_len, const uint16_t *l4, size_t l4_len,
+                        uint16_t mask, size_t from, size_t *place);
+
+/* The same backward: the largest such place, 1 or above, that is not above from. */
+uint32_t lc_prev_change(const size_t record[5],
+                        const uint8_t *samples, size_t samples_len,
+                        const uint16_t *l1, size_t l1_len, const uint16_t *l2, size_t l2_len,
+                        const uint16_t *l3, size_t l3_len, const uint16_t *l4, size_t l4_len,
+                        uint16_t mask, size_t from, size_t *place);
+
+#ifdef __cplusplus
+}
+#endif
+
+#endif
