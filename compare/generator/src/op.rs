@@ -1,5 +1,5 @@
 //! The lines of an answer file without their answers: code and arguments.
-//! answers/README.md says what each of them means.
+//! crates/replay/data/README.md says what each of them means.
 
 use crate::feed::Feed;
 

@@ -1,4 +1,4 @@
-//! Makes the lists and writes them to the folder answers.
+//! Makes the lists and writes them to crates/replay/data, where the program that asks the port reads them.
 
 use crate::groups::GROUPS;
 use crate::list::List;
@@ -44,7 +44,7 @@ pub fn file_name(group: &str) -> String {
 }
 
 pub fn path(group: &str) -> PathBuf {
-    PathBuf::from(env!("CARGO_MANIFEST_DIR")).join("../answers").join(file_name(group))
+    PathBuf::from(env!("CARGO_MANIFEST_DIR")).join("../../crates/replay/data").join(file_name(group))
 }
 
 pub fn write() -> bool {
@@ -81,7 +81,7 @@ mod tests {
         assert!(texts() == make());
     }
 
-    /// What answers/README.md promises a reader with little memory.
+    /// What crates/replay/data/README.md promises a reader with little memory.
     #[test]
     fn fits_a_reader() {
         let most = [4_194_304, 393_216, 12_288, 384, 12, 524_288];
