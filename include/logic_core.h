@@ -25,6 +25,7 @@
 #ifndef LOGIC_CORE_H
 #define LOGIC_CORE_H
 
+#include <stdbool.h>
 #include <stddef.h>
 #include <stdint.h>
 
@@ -107,6 +108,47 @@ uint32_t lc_prev_change(const size_t record[5],
                         const uint16_t *l1, size_t l1_len, const uint16_t *l2, size_t l2_len,
                         const uint16_t *l3, size_t l3_len, const uint16_t *l4, size_t l4_len,
                         uint16_t mask, size_t from, size_t *place);
+
+/* The burst of changes at a place, gaps below max_gap: ends becomes first, last, the jumps made at the end and those made
+ * at the start. A change counts as near up to tolerance; each end jumps at most budget times. LC_NONE where there is no
+ * burst (nothing is written). Refuses with 1 and 2. */
+uint32_t lc_burst_at(const size_t record[5],
+                     const uint8_t *samples, size_t samples_len,
+                     const uint16_t *l1, size_t l1_len, const uint16_t *l2, size_t l2_len,
+                     const uint16_t *l3, size_t l3_len, const uint16_t *l4, size_t l4_len,
+                     uint16_t mask, size_t sample, size_t max_gap, size_t tolerance, size_t budget,
+                     size_t ends[4]);
+
+/* Draws width pixels of a view that begins at place start, spp samples to a pixel: output becomes two numbers for each,
+ * first sample and the lines that change, 0 and 0 where there is no sample. Output past 2 * width is unchanged. Refuses with
+ * 1, 2, 10 where start or spp is infinite or not a number, and 11 where width is above 65536 or output below 2 * width. */
+uint32_t lc_render(const size_t record[5],
+                   const uint8_t *samples, size_t samples_len,
+                   const uint16_t *l1, size_t l1_len, const uint16_t *l2, size_t l2_len,
+                   const uint16_t *l3, size_t l3_len, const uint16_t *l4, size_t l4_len,
+                   double start, double spp, size_t width, uint16_t *output, size_t output_len);
+
+/* Starts a recorder: record becomes its 17 numbers, of which the first five are the record of its capture, and cut becomes
+ * 1 where the samples kept before the trigger were cut at the cap, else 0. The lent memory is measured, and not written.
+ *
+ * The other numbers: limit (samples, 0: none), pre (samples kept before the trigger), waiting (0: it waits for no trigger),
+ * the lines of High, Low, Rising, Falling and Edge terms, known (0: there is no previous sample), the previous sample, the
+ * place of the ring's next slot, and how many samples the ring has kept.
+ *
+ * A term is two bytes: its line, 0 to 15, and its condition, 0 Rising, 1 Falling, 2 Edge, 3 High, 4 Low. Without terms it
+ * records at once. The wish is a fraction of limit to keep before the trigger, or, where seconds is true and limit is 0,
+ * seconds at rate samples a second. The ring needs pre samples' bytes.
+ *
+ * Refuses with 1 and 2; 3 where a term has no such line or condition; 4 where limit is above the capacity; 5 a fraction
+ * without a limit, or seconds with one; 6 where the wish is not a number, or the rate of seconds above 1000000000; 7 where
+ * pre is not below the capacity, or the ring is too short. */
+uint32_t lc_feeder_start(size_t channels, size_t capacity, size_t limit,
+                         const uint8_t *terms, size_t terms_len, bool seconds, double wish, size_t rate,
+                         const uint8_t *samples, size_t samples_len,
+                         const uint16_t *l1, size_t l1_len, const uint16_t *l2, size_t l2_len,
+                         const uint16_t *l3, size_t l3_len, const uint16_t *l4, size_t l4_len,
+                         const uint8_t *ring, size_t ring_len,
+                         size_t record[17], size_t *cut);
 
 #ifdef __cplusplus
 }

@@ -1,8 +1,8 @@
 //! The port, over memory that it is lent. Without the static library it has no operation.
 
 use crate::side::{timed, Side, Timed};
-use crate::work::{Appends, Ranges, Samples, Walk};
-use port::{Lent, LentMut, Record};
+use crate::work::{Appends, Bursts, Ranges, Row, Samples, Walk};
+use port::{Asked, Lent, LentMut, Record};
 use std::cell::RefCell;
 
 #[derive(Default)]
@@ -126,6 +126,39 @@ impl Side for Rattle {
             };
             let sum = work.starts.iter().map(last).sum();
             (work.count() * work.len, sum)
+        })
+    }
+
+    fn burst_at(&self, work: &Bursts) -> Option<Timed> {
+        let (record, lent) = (&self.held.record, self.held.lent());
+        port::LINKED.then_some(())?;
+        timed(NONE, || {
+            let mut ends = [0; 4];
+            let ask = |&place: &u64| {
+                let [sample, max_gap, budget] =
+                    [place, work.max_gap, work.budget].map(|n| n as usize);
+                let asked = Asked { mask: 0xFFFF, sample, max_gap, tolerance: 8, budget };
+                match port::burst_at(record, lent, asked, &mut ends) {
+                    0 => (ends[0] + ends[1]) as u64,
+                    _ => 0,
+                }
+            };
+            (work.places.count(), work.places.starts.iter().map(ask).sum())
+        })
+    }
+
+    fn render(&self, work: &Row) -> Option<Timed> {
+        let (record, lent) = (&self.held.record, self.held.lent());
+        let mut output = self.output.borrow_mut();
+        let (width, room) = (work.width as usize, 2 * work.width as usize);
+        let held = output.len().max(room);
+        output.resize(held, 0xA5A5);
+        port::LINKED.then_some(())?;
+        timed(LENT, || {
+            let row = &mut output[..room];
+            let code = port::render(record, lent, work.start, work.spp, width, row);
+            assert_eq!(code, 0);
+            (work.width, row.iter().map(|&n| n as u64).sum())
         })
     }
 }

@@ -17,7 +17,7 @@ use std::time::{Duration, Instant};
 const SHOWN: usize = 5;
 
 /// Whether the port has all calls of a group. The others are asked as far as it has them.
-const WHOLE_GROUPS: [&str; 2] = ["store", "search"];
+const WHOLE_GROUPS: [&str; 4] = ["store", "search", "burst", "render"];
 
 pub fn run(seconds: u64, seed: u64) -> bool {
     if !port::LINKED {

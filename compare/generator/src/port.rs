@@ -3,9 +3,9 @@
 
 use crate::digest::digest;
 use crate::document::{listed, optional, refusals};
-use crate::op::{Lent, Op, Store};
+use crate::op::{Burst, Lent, Op, Store, View};
 use crate::side::{Answer, Side};
-use port::{LentMut, Record, NONE};
+use port::{Asked, LentMut, Record, NONE};
 
 /// Numbers behind each lent slice that belong to nobody.
 const GUARD: usize = 40;
@@ -108,6 +108,11 @@ impl Port {
                 self.kept(code, "node", before, node);
                 found(code, node.map(u64::from))
             }
+            Op::Burst(burst) => self.burst(burst),
+            Op::Render(view) => self.render(view, listed),
+            Op::RenderDigest(view) => {
+                self.render(view, |row| vec![digest(row.iter().map(|&v| v as u64))])
+            }
             _ => return None,
         })
     }
@@ -166,8 +171,8 @@ impl Port {
 
     fn samples(&mut self, start: u64, count: u64, output: u64) -> Answer {
         let room = output as usize;
-        let before: Vec<u16> = (0..room + GUARD).map(|i| pattern(i) as u16 ^ 0x5A00).collect();
-        let (mut after, mut copied) = (before.clone(), 91);
+        let (before, mut after) = patterned(room);
+        let mut copied = 91;
         let lent = self.lent();
         let part = &mut after[..room];
         let code =
@@ -178,6 +183,30 @@ impl Port {
             self.faults.push("output past the copied samples changed".into());
         }
         said(code, || listed(&after[..copied]))
+    }
+
+    fn burst(&mut self, burst: Burst) -> Answer {
+        let Burst { mask, sample, max_gap, tolerance, budget } = burst;
+        let [sample, max_gap, tolerance, budget] =
+            [sample, max_gap, tolerance, budget].map(|n| n as usize);
+        let asked = Asked { mask, sample, max_gap, tolerance, budget };
+        let before = [51, 52, 53, 54];
+        let mut ends = before;
+        let code = port::burst_at(&self.record, self.lent(), asked, &mut ends);
+        self.kept(code, "burst", before, ends);
+        found(code, ends.map(|n| n as u64))
+    }
+
+    fn render(&mut self, view: View, row: impl Fn(&[u16]) -> Vec<u64>) -> Answer {
+        let (width, room) = (view.width as usize, view.output as usize);
+        let (before, mut after) = patterned(room);
+        let part = &mut after[..room];
+        let code = port::render(&self.record, self.lent(), view.start, view.spp, width, part);
+        let drawn = if code == 0 { (2 * width).min(room) } else { 0 };
+        if before[drawn..] != after[drawn..] {
+            self.faults.push("output past the pixels changed".into());
+        }
+        said(code, || row(&after[..drawn]))
     }
 
     fn place(
@@ -268,6 +297,12 @@ fn found<const N: usize>(code: u32, values: [u64; N]) -> Answer {
         NONE => Ok(optional::<N>(None)),
         _ => said(code, || optional(Some(values))),
     }
+}
+
+/// An output of this length with its guard, as it is and as it stays.
+fn patterned(room: usize) -> (Vec<u16>, Vec<u16>) {
+    let output: Vec<u16> = (0..room + GUARD).map(|i| pattern(i) as u16 ^ 0x5A00).collect();
+    (output.clone(), output)
 }
 
 fn pattern(i: usize) -> u8 {

@@ -60,4 +60,9 @@ questions! {
     lc_summary(a: usize, b: usize, node: *mut [u16; 3]) -> u32;
     lc_next_change(mask: u16, from: usize, place: *mut usize) -> u32;
     lc_prev_change(mask: u16, from: usize, place: *mut usize) -> u32;
+    lc_burst_at(
+        mask: u16, sample: usize, max_gap: usize, tolerance: usize, budget: usize,
+        burst: *mut [usize; 4]
+    ) -> u32;
+    lc_render(start: f64, spp: f64, width: usize, output: *mut u16, output_len: usize) -> u32;
 }

@@ -100,3 +100,32 @@ pub fn next_change(record: &Record, lent: Lent, mask: u16, from: usize, place: &
 pub fn prev_change(record: &Record, lent: Lent, mask: u16, from: usize, place: &mut usize) -> u32 {
     lent!(lc_prev_change, (record), lent, as_ptr, (mask, from, place))
 }
+
+/// What a burst is asked by.
+#[derive(Clone, Copy)]
+pub struct Asked {
+    pub mask: u16,
+    pub sample: usize,
+    pub max_gap: usize,
+    pub tolerance: usize,
+    pub budget: usize,
+}
+
+#[inline]
+pub fn burst_at(record: &Record, lent: Lent, asked: Asked, burst: &mut [usize; 4]) -> u32 {
+    let Asked { mask, sample, max_gap, tolerance, budget } = asked;
+    lent!(lc_burst_at, (record), lent, as_ptr, (mask, sample, max_gap, tolerance, budget, burst))
+}
+
+#[inline]
+pub fn render(
+    record: &Record,
+    lent: Lent,
+    start: f64,
+    spp: f64,
+    width: usize,
+    output: &mut [u16],
+) -> u32 {
+    let (to, room) = (output.as_mut_ptr(), output.len());
+    lent!(lc_render, (record), lent, as_ptr, (start, spp, width, to, room))
+}

@@ -1,27 +1,25 @@
--- Laws of the answer: which row refuses, what no refusal says of memory, and the record of equations in each case.
-use Prim.Native.Nat.{ℕ, suc, _+_, _-_, _*_, _/_, _≤_, _<_}
+-- Laws of the answer: which row refuses, and the record of equations in each case.
+use Prim.Native.Nat.{ℕ, _+_, _*_, _≤_, _<_}
 use mathlib.Core.Path.{_≡_, refl, sym, ap, _∙_, subst⁻¹}
 use mathlib.Core.Bool.{Bool, true, false, cond}
 use mathlib.Core.List.{List, [], _∷_}
 use mathlib.Core.Logic.{_↔_}
-use native.Mathlib.Nat.{mul-le-mul-right, div-add-mod', div-mul-le-self, mod-lt, lt-of-mul-lt-mul-right}
+use native.Mathlib.Nat.{div-mul-le-self}
 use native.Mathlib.Omega.{arith}
-use lib.Dec.{ltb, leb, eqb}
+use lib.Dec.{ltb}
 use lib.ListN.{length}
 use borrow.Author.Tests.{le-ltb, lt-ltb, eq-eqb, ne-eqb, ltb-false}
-use Rattle.rules.specs.Node.{span, nodesFor}
 use Rattle.rules.specs.Sample.{countOf}
-use Rattle.rules.specs.Refusal.{Store, Lent, Row, firstOf, nodeSize, storeWrong, lentShort, storeRows, storeRefusal}
-use Rattle.rules.proofs.Walk.{span-pos}
+use Rattle.rules.specs.Refusal.{Store, Lent, Row, firstOf, storeWrong, lentShort, storeRows, storeRefusal}
 use Rattle.rules.proofs.Refusal.{Sound, MarkInside, rows-passed, row-passed}
-use Rattle.node.specs.Memory.{levelOf}
-use Rattle.rebuild.specs.Room.{Roomy}
+use Rattle.store.specs.Stored.{Stored}
+use Rattle.store.specs.Room.{AppendRoom}
+use Rattle.store.proofs.Fits.{sound-room}
+use Rattle.store.proofs.Stored.{stored-none}
 use Rattle.capture.specs.declared.Capture.{Capture}
-use Rattle.capture.specs.Record.{storeOf, lentOf, lentNumbers}
+use Rattle.capture.specs.Record.{storeOf, lentOf}
 use Rattle.append.specs.declared.Appended.the-variants.{Refused, Done}
-use Rattle.append.specs.Append.{grown, refusalOf, takenOf, Stored, Appends}
-use Rattle.append.specs.Room.{AppendRoom}
-use Rattle.append.proofs.Levels.{stored-none}
+use Rattle.append.specs.Append.{grown, refusalOf, takenOf, Appends}
 
 -- ---- rows 1 and 2, then those of a call
 module _ (st : Store) (lent : Lent) (rest : List Row) where
@@ -41,34 +39,6 @@ module _ (st : Store) (lent : Lent) (rest : List Row) where
       go false true e = absurd (omega arith)
       go false false e = refl
 
--- ---- the lengths of four levels
-pub level-of-map : {A B : Type 0} (f : A → B) (a b c d : A) (l : ℕ) → levelOf (f a) (f b) (f c) (f d) l ≡ f (levelOf a b c d l)
-unfolding levelOf
-level-of-map f a b c d l = go (leb l 1) (eqb l 2) (eqb l 3)
-  where
-    go : (x y z : Bool) → cond x (f a) (cond y (f b) (cond z (f c) (f d))) ≡ f (cond x a (cond y b (cond z c d)))
-    go true y z = refl
-    go false true z = refl
-    go false false true = refl
-    go false false false = refl
-
-pub lent-is : (s l1 l2 l3 l4 : List ℕ) → lentNumbers (length s) (length l1) (length l2) (length l3) (length l4) ≡ lentOf s (levelOf l1 l2 l3 l4)
-lent-is s l1 l2 l3 l4 = λ i. record { samples = length s; level = λ l. level-of-map length l1 l2 l3 l4 l i }
-
--- ---- no refusal, as room
--- each node that starts below the capacity lies among a level's numbers
-node-in : (cap l j n : ℕ) → nodesFor cap l * nodeSize ≤ n → j * span l < cap → j * nodeSize + nodeSize ≤ n
-node-in cap l j n h k = omega (arith, below)
-  where
-    top : cap + (span l - 1) < ((cap + (span l - 1)) / span l + 1) * span l
-    top = omega (arith, div-add-mod' (cap + (span l - 1)) (span l), mod-lt (cap + (span l - 1)) (span-pos l))
-
-    below : suc j < (cap + (span l - 1)) / span l + 1
-    below = lt-of-mul-lt-mul-right (span l) (omega (arith, top, span-pos l))
-
-pub sound-roomy : (st : Store) (s : List ℕ) (lv : ℕ → List ℕ) (len : ℕ) → Sound st (lentOf s lv) → len ≤ st .capacity → Roomy len lv
-sound-roomy st s lv len d h l j p q k = node-in (st .capacity) l j (length (lv l)) (d .level l p q) (omega arith)
-
 pub whole-bytes : (unit : ℕ) (bytes : List ℕ) → countOf unit bytes * unit ≤ length bytes
 whole-bytes unit bytes = div-mul-le-self (length bytes) unit
 
@@ -78,14 +48,7 @@ row-8 c b = record { number = 8; holds = ltb (c .capacity) (c .len + countOf (c 
 
 module _ (c : Capture) (b s : List ℕ) (lv : ℕ → List ℕ) where
   pub room-of : Sound (storeOf c) (lentOf s lv) → c .len + countOf (c .unitsize) b ≤ c .capacity → AppendRoom (c .unitsize) (c .len) (countOf (c .unitsize) b) (length s) lv (length b)
-  room-of d h = record {
-    low = d .unit-least;
-    high = d .unit-most;
-    fits = omega (arith, d .capacity-most);
-    samples = omega (arith, d .samples, mul-le-mul-right (c .unitsize) h);
-    nodes = sound-roomy (storeOf c) s lv (c .len + countOf (c .unitsize) b) d h;
-    bytes = whole-bytes (c .unitsize) b;
-  }
+  room-of d h = record { room = sound-room (storeOf c) s lv (countOf (c .unitsize) b) d h; bytes = whole-bytes (c .unitsize) b }
 
   -- ---- which row refuses
   pub refused-first : (k : ℕ) → k ≡ storeRefusal (storeOf c) (lentOf s lv) → (k ≡ 0 → ⊥) → k ≡ refusalOf c s lv b

@@ -15,14 +15,14 @@ use Rattle.rules.specs.Sample.{sampleOf, countOf}
 use Rattle.rules.specs.Refusal.{nodeSize}
 use Rattle.rules.proofs.Refusal.{Sound, MarkInside}
 use Rattle.node.specs.Memory.{nodeIn, levelOf, Right}
+use Rattle.store.specs.Room.{AppendRoom}
+use Rattle.store.proofs.Bytes.{paste-twice}
+use Rattle.store.proofs.Stored.{RoomOrNone, none-samples, none-levels, level-length, level-rest, samples-length, bytes-rest, old-samples, new-samples, stored-right}
 use Rattle.capture.specs.declared.Capture.{Capture}
 use Rattle.capture.specs.Record.{storeOf, lentOf}
 use Rattle.append.specs.declared.Appended.{Appended}
 use Rattle.append.specs.Append.{numberOf, recordOf, grown, refusalOf, takenOf, Appends}
-use Rattle.append.specs.Room.{AppendRoom}
-use Rattle.append.proofs.Answer.{taken-none, taken-all, passed, passed-room, whole-bytes}
-use Rattle.append.proofs.Bytes.{paste-twice}
-use Rattle.append.proofs.Stored.{RoomOrNone, none-samples, none-levels, level-length, level-rest, samples-length, bytes-rest, old-samples, new-samples, stored-right}
+use Rattle.append.proofs.Answer.{taken-none, taken-all, passed, passed-room}
 use Rattle.append.proofs.append.Reads as append
 
 -- the lent memory
@@ -196,7 +196,7 @@ module _ {c : Capture} {m : Memory} {a b : List ℕ} {v₁ : Appended} {m₁ : M
       equations second .memory .samples-are
       ∙ ap (λ (n : ℕ). paste (m₁ .samples) ((c .len + na) * u) b (n * u)) (takes-all second done₂)
       ∙ ap₂ (λ (x : List ℕ) (at : ℕ). paste x at b (nb * u)) (equations call₁ .memory .samples-are ∙ ap (paste (m .samples) (c .len * u) a) stored) start
-      ∙ paste-twice (m .samples) a b (c .len * u) (nb * u) (omega (arith, room, total)) (whole-bytes u b)
+      ∙ paste-twice (m .samples) a b (c .len * u) (nb * u) (omega (arith, room))
       ∙ ap (paste (m .samples) (c .len * u) (a ++ b)) (sym total)
       ∙ sym (equations both .memory .samples-are ∙ ap (λ (n : ℕ). paste (m .samples) (c .len * u) (a ++ b) (n * u)) (takes-all both both-done))
     where
@@ -210,7 +210,7 @@ module _ {c : Capture} {m : Memory} {a b : List ℕ} {v₁ : Appended} {m₁ : M
       total = ap (λ (n : ℕ). n * u) (counts .1) ∙ omega (arith, counts .0)
 
       room : (c .len + countOf u (a ++ b)) * u ≤ length (m .samples)
-      room = passed-room c (a ++ b) (m .samples) (levels m) (not-refused both both-done) .samples
+      room = passed-room c (a ++ b) (m .samples) (levels m) (not-refused both both-done) .room .samples
 
   pub pieces : SameLeft c m v₂ m₂ w m′
   pieces = record {

@@ -2,13 +2,11 @@
 use mathlib.Core.Path.{_≡_}
 use mathlib.Core.Bool.{cond}
 use mathlib.Core.List.{List}
-use Prim.Native.Nat.{ℕ, _+_, _*_, _≤_}
+use Prim.Native.Nat.{ℕ, _+_}
 use lib.Dec.{eqb}
-use lib.Seq.{paste}
-use Rattle.rules.specs.Node.{Node, topLevel, levelNode}
-use Rattle.rules.specs.Sample.{sampleOf, countOf}
+use Rattle.rules.specs.Sample.{countOf}
 use Rattle.rules.specs.Refusal.{appendRefusal}
-use Rattle.rebuild.specs.Rebuild.{levelAfter}
+use Rattle.store.specs.Stored.{Stored}
 use Rattle.capture.specs.declared.Capture.{Capture}
 use Rattle.capture.specs.Record.{storeOf, lentOf}
 use Rattle.append.specs.declared.Appended.{Appended}
@@ -35,15 +33,6 @@ refusalOf c samples levels bytes = appendRefusal (storeOf c) (lentOf samples lev
 -- how many samples are taken: every whole one of the bytes, and none where a row refuses
 unfoldable pub takenOf : Capture → List ℕ → (ℕ → List ℕ) → List ℕ → ℕ
 takenOf c samples levels bytes = cond (eqb (refusalOf c samples levels bytes) 0) (countOf (c .unitsize) bytes) 0
-
--- the nodes of level 1 that an append makes: each from the samples of its range, `end` of which are stored then
-abbrev pub firstNodes : ℕ → List ℕ → ℕ → ℕ → Node
-firstNodes unit samples end = levelNode (sampleOf unit samples) end 1
-
--- memory once n samples of the bytes have joined len samples of a unit: the bytes, and each level
-pub record Stored (unit len n : ℕ) (bytes samples : List ℕ) (levels : ℕ → List ℕ) (samples′ : List ℕ) (levels′ : ℕ → List ℕ) : Type 0 where
-  pub samples-are : samples′ ≡ paste samples (len * unit) bytes (n * unit)
-  pub levels-are : (l : ℕ) → 1 ≤ l → l ≤ topLevel → levels′ l ≡ levelAfter (firstNodes unit samples′ (len + n)) levels len n l
 
 -- an append of bytes to a capture, over any memory: its answer, and what it leaves
 pub record Appends (c : Capture) (bytes samples : List ℕ) (levels : ℕ → List ℕ) (answer : Appended) (samples′ : List ℕ) (levels′ : ℕ → List ℕ) : Type 0 where

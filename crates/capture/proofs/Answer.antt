@@ -32,7 +32,7 @@ level-lengths l1 l2 l3 l4 l = go (leb l 1) (eqb l 2) (eqb l 3)
     go false false true = refl
     go false false false = refl
 
-lent-same : (samples l1 l2 l3 l4 : List ℕ) → lentNumbers (length samples) (length l1) (length l2) (length l3) (length l4) ≡ lentOf samples (levelOf l1 l2 l3 l4)
+pub lent-same : (samples l1 l2 l3 l4 : List ℕ) → lentNumbers (length samples) (length l1) (length l2) (length l3) (length l4) ≡ lentOf samples (levelOf l1 l2 l3 l4)
 lent-same samples l1 l2 l3 l4 = λ i. record { samples = length samples; level = λ l. level-lengths l1 l2 l3 l4 l i }
 
 -- ---- rows 1 and 2, then a call's own

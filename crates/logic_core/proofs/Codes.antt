@@ -1,25 +1,29 @@
 -- From a call's answer to what the boundary says.
-use mathlib.Core.Path.{_≡_, sym, ap, subst, _∙_}
+use mathlib.Core.Path.{_≡_, refl, sym, ap, subst, _∙_}
 use mathlib.Core.Bool.{Bool, cond}
 use mathlib.Core.List.{List, _∷_}
-use Prim.Native.Nat.{ℕ, _+_}
+use Prim.Native.Nat.{ℕ, zero, suc, _+_}
 use native.Mathlib.Nat.{add-zero}
 use borrow.Author.Tests.{ne-eqb}
-use lib.ListN.{getD, set}
+use lib.Ieee.{Float}
+use lib.ListN.{length, getD, set}
 use lib.Seq.{sets, set-getD}
-use Rattle.rules.specs.Answer.{Answer}
+use Rattle.rules.specs.Answer.{Answer, unless}
 use Rattle.rules.specs.Sample.{sampleOf, countOf}
-use Rattle.rules.specs.Refusal.{copied}
+use Rattle.rules.specs.Refusal.{copied, renderRefusal}
 use Rattle.capture.specs.declared.Mark.{Mark}
 use Rattle.capture.specs.declared.Capture.{Capture}
 use Rattle.capture.specs.declared.Copied.{Copied}
-use Rattle.capture.specs.Record.{markOf, storeOf}
+use Rattle.capture.specs.Record.{markOf, storeOf, lentOf}
 use Rattle.capture.specs.Calls.{Copies, copiedOf, over, unrefused}
+use Rattle.summary.specs.Summary.{summed}
+use Rattle.render.specs.declared.Drawn.{Drawn}
+use Rattle.render.specs.Render.{drawnOf, drawn, Draws}
 use Rattle.append.specs.declared.Appended.{Appended}
 use Rattle.append.specs.Append.{numberOf, recordOf, refusalOf, takenOf, Appends}
 use Rattle.logic_core.specs.Code.{Reply, plain, behind, Out}
 use Rattle.logic_core.specs.Record.{captureIn, markNumbers, storeNumbers, lenNumber, number}
-use Rattle.logic_core.specs.Asked.{copyRefusal, copiedFor, CopiesOut, AppendsOut}
+use Rattle.logic_core.specs.Asked.{viewOf, copyRefusal, copiedFor, drawRefusal, CopiesOut, AppendsOut, DrawsOut}
 
 -- A call's answer r, which means `answerOf r`, is found to be r′: the code and what is written are told of r′.
 module _ {A B X R : Type 0} (write : A → B → B) (reply : Answer X → Reply A) (answerOf : R → Answer X) where
@@ -55,6 +59,21 @@ module _ (bytes : List ℕ) (levels : ℕ → List ℕ) (start count : ℕ) (out
     count-is = told-of number plain copiedOf (λ (x : Capture). copiedFor x bytes levels start count output) code old new d (e .answer-is) g h k;
     output-is = e .output-is ∙ ap (λ (x : Capture). over (sampleOf (x .unitsize) bytes) start (unrefused (copyRefusal x bytes levels start count output) (copied (x .len) start count)) output) d;
   }
+
+-- the code of an answer that has no value
+unless-code : {A : Type 0} (n : ℕ) (a : A) → plain (unless n a) .code ≡ n
+unless-code zero a = refl
+unless-code (suc n) a = refl
+
+module _ (bytes : List ℕ) (levels : ℕ → List ℕ) (start spp : Float) (width : ℕ) (output output′ : List ℕ) where
+  pub draws-told : {c c′ : Capture} {r r′ : Drawn} (code : ℕ)
+      → c ≡ c′ → Draws (summed levels (sampleOf (c .unitsize) bytes)) (storeOf c) (lentOf bytes levels) (viewOf start spp) width output r output′ → r ≡ r′
+      → code ≡ plain (drawnOf r′) .code
+      → DrawsOut c′ bytes levels start spp width output code output′
+  draws-told {c} {c′} {r} {r′} code d e g h = subst (λ (x : Capture). DrawsOut x bytes levels start spp width output code output′) d (record {
+    code-is = h ∙ ap (λ (x : Answer Unit). plain x .code) (ap drawnOf (sym g) ∙ e .answer-is) ∙ unless-code (drawRefusal c bytes levels start spp width output) tt;
+    output-is = e .output-is;
+  })
 
 module _ (bytes samples : List ℕ) (levels : ℕ → List ℕ) (samples′ : List ℕ) (levels′ : ℕ → List ℕ) where
   pub appends-told : {c c′ : Capture} {r r′ : Appended} (code : ℕ) (numbers numbers′ : List ℕ)

@@ -3,17 +3,21 @@ use mathlib.Core.Path.{_≡_}
 use mathlib.Core.List.{List}
 use mathlib.Core.Option.{Option}
 use Prim.Native.Nat.{ℕ, _+_}
+use lib.Ieee.{Float}
 use lib.ListN.{length}
 use Rattle.rules.specs.Sample.{sampleOf}
 use Rattle.rules.specs.Node.{Node, topLevel}
+use Rattle.rules.specs.Pixel.{View}
 use Rattle.rules.specs.Answer.{Answer, unless}
-use Rattle.rules.specs.Refusal.{Store, Lent, fresh, storeRefusal, getRefusal, samplesRefusal, copied}
+use Rattle.rules.specs.Refusal.{Store, Lent, fresh, storeRefusal, getRefusal, samplesRefusal, renderRefusal, copied}
 use Rattle.capture.specs.declared.Capture.{Capture}
 use Rattle.capture.specs.Record.{storeOf, lentOf}
 use Rattle.capture.specs.Calls.{needRefusal, memoryNeed, over, unrefused}
-use Rattle.append.specs.Append.{refusalOf, takenOf, Stored}
-use Rattle.summary.specs.Summary.{summaryOf}
+use Rattle.append.specs.Append.{refusalOf, takenOf}
+use Rattle.store.specs.Stored.{Stored}
+use Rattle.summary.specs.Summary.{summaryOf, summed}
 use Rattle.whole.specs.Wrong.{Place, firstWrong}
+use Rattle.render.specs.Render.{drawn}
 use Rattle.logic_core.specs.Code.{plain, Out}
 use Rattle.logic_core.specs.Record.{number, lenNumber}
 
@@ -22,6 +26,9 @@ neededFor channels capacity = unless (needRefusal (fresh channels capacity)) (me
 
 abbrev pub startedFor : ℕ → ℕ → List ℕ → (ℕ → List ℕ) → Answer Store
 startedFor channels capacity samples levels = unless (storeRefusal (fresh channels capacity) (lentOf samples levels)) (fresh channels capacity)
+
+abbrev pub viewOf : Float → Float → View
+viewOf start spp = record { start = start; spp = spp }
 
 module _ (c : Capture) (samples : List ℕ) (levels : ℕ → List ℕ) where
   abbrev pub gotFor : ℕ → Answer ℕ
@@ -36,6 +43,9 @@ module _ (c : Capture) (samples : List ℕ) (levels : ℕ → List ℕ) where
   abbrev pub summedFor : ℕ → ℕ → Answer (Option Node)
   summedFor a b = unless (storeRefusal (storeOf c) (lentOf samples levels)) (summaryOf levels (sampleOf (c .unitsize) samples) (c .len) a b)
 
+  abbrev pub drawRefusal : Float → Float → ℕ → List ℕ → ℕ
+  drawRefusal start spp width output = renderRefusal (storeOf c) (lentOf samples levels) (viewOf start spp) width (length output)
+
   abbrev pub wrongFor : Answer (Option Place)
   wrongFor = unless (storeRefusal (storeOf c) (lentOf samples levels)) (firstWrong (sampleOf (c .unitsize) samples) (c .len) levels 1 topLevel)
 
@@ -49,3 +59,8 @@ pub record AppendsOut (c : Capture) (bytes samples : List ℕ) (levels : ℕ →
   pub code-is : code ≡ refusalOf c samples levels bytes
   pub numbers-are : numbers′ ≡ lenNumber (c .len + takenOf c samples levels bytes) numbers
   pub memory : Stored (c .unitsize) (c .len) (takenOf c samples levels bytes) bytes samples levels samples′ levels′
+
+-- render: the code, and the output
+pub record DrawsOut (c : Capture) (samples : List ℕ) (levels : ℕ → List ℕ) (start spp : Float) (width : ℕ) (output : List ℕ) (code : ℕ) (output′ : List ℕ) : Type 0 where
+  pub code-is : code ≡ drawRefusal c samples levels start spp width output
+  pub output-is : output′ ≡ drawn (summed levels (sampleOf (c .unitsize) samples)) (viewOf start spp) (c .len) (unrefused (drawRefusal c samples levels start spp width output) width) output

@@ -7,6 +7,7 @@ use lib.Dec.{eqb}
 use lib.ListN.{getD}
 use lib.Seq.{sets}
 use Rattle.rules.specs.Node.{Node}
+use Rattle.rules.specs.Burst.{Burst}
 use Rattle.rules.specs.Refusal.{Store, Lent}
 use Rattle.capture.specs.declared.Mark.{Mark}
 use Rattle.capture.specs.declared.Mark.the-variants.{Absent, At}
@@ -33,6 +34,9 @@ lentNumbers lent old = sets old 0 (lent .samples ∷ lent .level 1 ∷ lent .lev
 
 abbrev pub nodeNumbers : Node → List ℕ → List ℕ
 nodeNumbers n old = sets old 0 (n .first ∷ n .last ∷ n .toggles ∷ [])
+
+abbrev pub burstNumbers : Burst → List ℕ → List ℕ
+burstNumbers b old = sets old 0 (b .first ∷ b .last ∷ b .jumps-end ∷ b .jumps-start ∷ [])
 
 -- a number behind a pointer of its own
 abbrev pub number : ℕ → ℕ → ℕ

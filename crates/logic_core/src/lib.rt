@@ -1,7 +1,10 @@
 // The C boundary: each call of document 01 on numbers and slices, with the contract of the call under it.
 // A record is lent as its five numbers: unit, capacity, len, whether there is a mark, the mark.
 // Each call gives a code: 0; the number of the refusal, which leaves everything as it was; or 100, which is no.
+mod recorder;
+
 use append::Appended;
+use burst::Bursts;
 use capture::Capture;
 use capture::Copied;
 use capture::Got;
@@ -9,6 +12,8 @@ use capture::Mark;
 use capture::Needed;
 use capture::Started;
 use lines::Mask;
+use pixel::View;
+use render::Drawn;
 use search::Found;
 use summary::Summed;
 use whole::Checked;
@@ -17,8 +22,9 @@ ghost use Rattle.node.specs.Memory.{levelOf};
 ghost use Rattle.capture.specs.Record.{storeOf};
 ghost use Rattle.capture.specs.Calls.{rawOf, Lies};
 ghost use Rattle.search.specs.Answer.{nextOf, previousOf};
-ghost use Rattle.logic_core.specs.Record.{captureIn, storeNumbers, lentNumbers, nodeNumbers, number, placeLevel, placeNumber};
-ghost use Rattle.logic_core.specs.Asked.{neededFor, startedFor, gotFor, summedFor, wrongFor, CopiesOut, AppendsOut};
+ghost use Rattle.burst.specs.Answer.{burstOf};
+ghost use Rattle.logic_core.specs.Record.{captureIn, storeNumbers, lentNumbers, nodeNumbers, burstNumbers, number, placeLevel, placeNumber};
+ghost use Rattle.logic_core.specs.Asked.{neededFor, startedFor, gotFor, summedFor, wrongFor, CopiesOut, AppendsOut, DrawsOut};
 ghost use Rattle.logic_core.specs.Code.{plain, perhaps, fault, Out};
 
 const NONE: u32 = 100;
@@ -44,7 +50,7 @@ fn capture_in(numbers: &[usize; 5]) -> Capture
 }
 
 // A number of a refusal as the boundary gives it.
-fn code(n: u8) -> u32
+pub(crate) fn code(n: u8) -> u32
     ensures { λ r. ⌜ r ≡ n ⌝ }
 {
     n as u32
@@ -323,5 +329,82 @@ pub extern "C" fn lc_prev_change<'a>(
             0
         }
         Found::Nothing => NONE,
+    }
+}
+
+// 01's burst_at: first, last, the jumps at the end and at the start, or 100 where there is none. Refuses with 1 and 2.
+#[no_mangle]
+pub extern "C" fn lc_burst_at<'a>(
+    numbers: &[usize; 5],
+    samples: &[u8],
+    l1: &'a [Mask],
+    l2: &'a [Mask],
+    l3: &'a [Mask],
+    l4: &'a [Mask],
+    mask: Mask,
+    sample: usize,
+    max_gap: usize,
+    tolerance: usize,
+    budget: usize,
+    ends: &mut [usize; 4],
+) -> u32
+    ensures { λ r. ⌜ Out burstNumbers (perhaps (burstOf (captureIn (now (numbers .entry))) (now (samples .entry)) (levelOf (now (l1 .entry)) (now (l2 .entry)) (now (l3 .entry)) (now (l4 .entry))) mask sample «max_gap» tolerance budget)) r (now (ends .entry)) (now (ends .exit)) ⌝ }
+{
+    let answer = burst::burst_at(
+        capture_in(numbers),
+        samples,
+        l1,
+        l2,
+        l3,
+        l4,
+        mask,
+        sample,
+        max_gap,
+        tolerance,
+        budget,
+    );
+    match answer {
+        Bursts::Refused(n) => code(n),
+        Bursts::At(b) => {
+            ends[0] = b.first;
+            ends[1] = b.last;
+            ends[2] = b.jumps_end;
+            ends[3] = b.jumps_start;
+            0
+        }
+        Bursts::Nothing => NONE,
+    }
+}
+
+// 01's render: width pixels, two numbers each, at the start of output. Refuses with 1, 2, 10 and 11.
+#[no_mangle]
+pub extern "C" fn lc_render<'a>(
+    numbers: &[usize; 5],
+    samples: &[u8],
+    l1: &'a [Mask],
+    l2: &'a [Mask],
+    l3: &'a [Mask],
+    l4: &'a [Mask],
+    start: f64,
+    spp: f64,
+    width: usize,
+    output: &mut [Mask],
+) -> u32
+    ensures { λ r. ⌜ DrawsOut (captureIn (now (numbers .entry))) (now (samples .entry)) (levelOf (now (l1 .entry)) (now (l2 .entry)) (now (l3 .entry)) (now (l4 .entry))) start spp width (now (output .entry)) r (now (output .exit)) ⌝ }
+{
+    let answer = render::render(
+        capture_in(numbers),
+        samples,
+        l1,
+        l2,
+        l3,
+        l4,
+        View { start, spp },
+        width,
+        output,
+    );
+    match answer {
+        Drawn::Refused(n) => code(n),
+        Drawn::Done => 0,
     }
 }

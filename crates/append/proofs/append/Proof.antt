@@ -7,7 +7,8 @@ use Rattle.rules.specs.Refusal.{Store, Lent, storeRefusal}
 use Rattle.rules.proofs.Refusal.{Sound, sound}
 use Rattle.node.specs.Memory.{levelOf}
 use Rattle.capture.specs.Record.{storeOf, lentOf}
-use Rattle.append.proofs.Answer.{lent-is, room-of, refused-first, refused-full, refused-none, appends-refused, appends-done}
+use Rattle.capture.proofs.Answer.{lent-same}
+use Rattle.append.proofs.Answer.{room-of, refused-first, refused-full, refused-none, appends-refused, appends-done}
 use Rattle.append.proofs.append.Statement.{statement}
 use Rattle.append.proofs.append.Tie as tie
 
@@ -24,7 +25,7 @@ lent-at c =
 checked : (c : tie.After-refusal) → c .refusal .result ≡ storeRefusal (store-at c) (lent-at c)
 checked c =
     let a = c .before .before .before .before .before .before .before .args in
-    c .refusal .ensures ∙ ap (storeRefusal (storeOf (a .c))) (lent-is (now (a .samples)) (now (a .l1)) (now (a .l2)) (now (a .l3)) (now (a .l4)))
+    c .refusal .ensures ∙ ap (storeRefusal (storeOf (a .c))) (lent-same (now (a .samples)) (now (a .l1)) (now (a .l2)) (now (a .l3)) (now (a .l4)))
 
 -- past the first test rows 1 and 2 do not hold
 passed : (c : tie.Else1) → storeRefusal (store-at (c .before)) (lent-at (c .before)) ≡ 0

@@ -1,0 +1,38 @@
+-- Two runs, seen by a viewer of chosen lines v. 01: Lists of pushes.
+-- A run is a function from places to samples, s, and its length, len.
+use mathlib.Core.Path.{_≡_}
+use mathlib.Core.List.{List, map}
+use mathlib.Core.Option.{Option, none, some}
+use Prim.Native.Nat.{ℕ, _<_}
+use lib.Bits.{bitAnd}
+use Rattle.rules.specs.Node.{Node, cut}
+use Rattle.rules.specs.Search.{next, previous, summary}
+use Rattle.rules.specs.Burst.{burst}
+use Rattle.rules.specs.Pixel.{View, render}
+
+-- "A mask within it has no other bit."
+abbrev pub Within : ℕ → ℕ → Type 0
+Within mask v = bitAnd mask v ≡ mask
+
+-- "Cutting down takes first, last and toggles AND that mask; none stays none."
+abbrev pub cutSummary : ℕ → Option Node → Option Node
+cutSummary v none = none
+cutSummary v (some n) = some (cut v n)
+
+-- the same of pixels, of which each is first and toggles
+abbrev pub cutPixels : ℕ → List ℕ → List ℕ
+cutPixels v row = map (λ x. bitAnd x v) row
+
+module _ (v : ℕ) (s₁ : ℕ → ℕ) (len₁ : ℕ) (s₂ : ℕ → ℕ) (len₂ : ℕ) where
+  -- "the same length .. and the same chosen lines at every sample"
+  pub record Same : Type 0 where
+    pub len : len₁ ≡ len₂
+    pub lines : (i : ℕ) → i < len₁ → bitAnd (s₁ i) v ≡ bitAnd (s₂ i) v
+
+  -- "the same summaries and pixels cut down to those lines, and the same next, previous and burst answers, jumps included, for every mask within them"
+  pub record Alike : Type 0 where
+    pub summaries : (a b : ℕ) → cutSummary v (summary s₁ len₁ a b) ≡ cutSummary v (summary s₂ len₂ a b)
+    pub pixels : (view : View) (width : ℕ) → cutPixels v (render s₁ len₁ view width) ≡ cutPixels v (render s₂ len₂ view width)
+    pub nexts : (mask : ℕ) → Within mask v → (from : ℕ) → next s₁ len₁ mask from ≡ next s₂ len₂ mask from
+    pub previouses : (mask : ℕ) → Within mask v → (from : ℕ) → previous s₁ len₁ mask from ≡ previous s₂ len₂ mask from
+    pub bursts : (mask : ℕ) → Within mask v → (sample gap tolerance budget : ℕ) → burst s₁ len₁ mask sample gap tolerance budget ≡ burst s₂ len₂ mask sample gap tolerance budget

@@ -1,0 +1,395 @@
+// Bursts: a run of changes whose gaps are all below a bound, found by searches and grown by jumps.
+use capture::Capture;
+use lines::Mask;
+use search::Found;
+use search::next_change;
+use search::prev_change;
+ghost use mathlib.Core.Path.{_≡_};
+ghost use Prim.Native.Nat.{_-_, _≤_, _<_, min};
+ghost use lib.Dec.{ltb};
+ghost use Rattle.rules.specs.Burst.{sum, jump, sideIf, nearer, leftWith, rightWith, pairOf};
+ghost use Rattle.node.specs.Memory.{levelOf};
+ghost use Rattle.search.specs.Answer.{foundOf};
+ghost use Rattle.burst.specs.Answer.{burstAs, burstOf, placeOf, changeAs, endAs, sideAs, back, fore, reachOf, furtherOf, Passed, Behind, Ahead};
+
+// The first and last change of a burst, and the jumps made at its end and at its start.
+pub struct Burst {
+    pub first: usize,
+    pub last: usize,
+    pub jumps_end: usize,
+    pub jumps_start: usize,
+}
+
+pub enum Bursts {
+    Refused(u8),
+    At(Burst),
+    Nothing,
+}
+
+// What a search finds.
+enum Change {
+    At(usize),
+    Nothing,
+}
+
+// An end of a burst, and the jumps that led there.
+struct End {
+    place: usize,
+    jumps: usize,
+}
+
+// Two neighbouring changes, after how far the nearer one is from the place asked.
+enum Side {
+    Pair(usize, usize, usize),
+    Nothing,
+}
+
+// Above 2^64 − 1 a sum counts as that.
+fn sum_of(a: usize, b: usize) -> usize
+    ensures { λ r. ⌜ r ≡ sum a b ⌝ }
+{
+    if 18446744073709551615 - a < b {
+        18446744073709551615
+    } else {
+        a + b
+    }
+}
+
+fn least(a: usize, b: usize) -> usize
+    ensures { λ r. ⌜ r ≡ min a b ⌝ }
+{
+    if a < b { a } else { b }
+}
+
+fn less(a: usize, b: usize) -> usize
+    ensures { λ r. ⌜ r ≡ a - b ⌝ }
+{
+    if a < b { 0 } else { a - b }
+}
+
+// What a search of a store that is not refused finds.
+fn change_of(found: Found) -> Change
+    ensures { λ r. ⌜ changeAs r ≡ placeOf (foundOf found) ⌝ }
+{
+    match found {
+        Found::At(i) => Change::At(i),
+        Found::Nothing => Change::Nothing,
+        Found::Refused(_) => Change::Nothing,
+    }
+}
+
+// The previous change, of a store that is not refused.
+fn previous<'a>(
+    c: Capture,
+    samples: &[u8],
+    l1: &'a [Mask],
+    l2: &'a [Mask],
+    l3: &'a [Mask],
+    l4: &'a [Mask],
+    mask: Mask,
+    from: usize,
+) -> Change
+    requires { ⌜ Passed c (now samples) (levelOf (now l1) (now l2) (now l3) (now l4)) ⌝ }
+    ensures { λ r. ⌜ Behind (back c (now (samples .entry)) (levelOf (now (l1 .entry)) (now (l2 .entry)) (now (l3 .entry)) (now (l4 .entry))) mask) from (changeAs r) ⌝ }
+{
+    change_of(prev_change(c, samples, l1, l2, l3, l4, mask, from))
+}
+
+// The next change.
+fn next<'a>(
+    c: Capture,
+    samples: &[u8],
+    l1: &'a [Mask],
+    l2: &'a [Mask],
+    l3: &'a [Mask],
+    l4: &'a [Mask],
+    mask: Mask,
+    from: usize,
+) -> Change
+    requires { ⌜ Passed c (now samples) (levelOf (now l1) (now l2) (now l3) (now l4)) ⌝ }
+    ensures { λ r. ⌜ Ahead (fore c (now (samples .entry)) (levelOf (now (l1 .entry)) (now (l2 .entry)) (now (l3 .entry)) (now (l4 .entry))) mask) from (changeAs r) ⌝ }
+{
+    change_of(next_change(c, samples, l1, l2, l3, l4, mask, from))
+}
+
+// What an end may jump to: the furthest change within the gap, or at the start the earliest.
+fn reach<'a>(
+    c: Capture,
+    samples: &[u8],
+    l1: &'a [Mask],
+    l2: &'a [Mask],
+    l3: &'a [Mask],
+    l4: &'a [Mask],
+    mask: Mask,
+    gap: usize,
+    start: bool,
+    place: usize,
+) -> Change
+    requires { ⌜ Passed c (now samples) (levelOf (now l1) (now l2) (now l3) (now l4)) × (2 ≤ gap) ⌝ }
+    ensures { λ r. ⌜ changeAs r ≡ reachOf (back c (now (samples .entry)) (levelOf (now (l1 .entry)) (now (l2 .entry)) (now (l3 .entry)) (now (l4 .entry))) mask) (fore c (now (samples .entry)) (levelOf (now (l1 .entry)) (now (l2 .entry)) (now (l3 .entry)) (now (l4 .entry))) mask) gap start place ⌝ }
+{
+    if start {
+        return next(c, samples, l1, l2, l3, l4, mask, less(place, gap));
+    }
+    previous(c, samples, l1, l2, l3, l4, mask, sum_of(place, gap - 1))
+}
+
+// Whether e lies further out than an end.
+fn further(start: bool, place: usize, e: usize) -> bool
+    ensures { λ r. ⌜ r ≡ furtherOf start place e ⌝ }
+{
+    if start { e < place } else { place < e }
+}
+
+// The last change of a burst, or its first: jumps from a place, at most as many as the budget.
+fn end_of<'a>(
+    c: Capture,
+    samples: &[u8],
+    l1: &'a [Mask],
+    l2: &'a [Mask],
+    l3: &'a [Mask],
+    l4: &'a [Mask],
+    mask: Mask,
+    gap: usize,
+    budget: usize,
+    start: bool,
+    from: usize,
+) -> End
+    requires { ⌜ Passed c (now samples) (levelOf (now l1) (now l2) (now l3) (now l4)) × (2 ≤ gap) ⌝ }
+    ensures { λ r. ⌜ endAs r ≡ jump (reachOf (back c (now (samples .entry)) (levelOf (now (l1 .entry)) (now (l2 .entry)) (now (l3 .entry)) (now (l4 .entry))) mask) (fore c (now (samples .entry)) (levelOf (now (l1 .entry)) (now (l2 .entry)) (now (l3 .entry)) (now (l4 .entry))) mask) gap start) (furtherOf start) budget from 0 ⌝ }
+{
+    let mut place = from;
+    let mut jumps = 0;
+    while jumps < budget {
+        let change = reach(c, samples, l1, l2, l3, l4, mask, gap, start, place);
+        let Change::At(e) = change else {
+            return End { place, jumps };
+        };
+        if !further(start, place, e) {
+            return End { place, jumps };
+        }
+        place = e;
+        jumps += 1;
+    }
+    End { place, jumps }
+}
+
+// Two neighbouring changes as a side, if their gap is below the bound.
+fn side_of(gap: usize, distance: usize, first: usize, last: usize) -> Side
+    requires { ⌜ first ≤ last ⌝ }
+    ensures { λ r. ⌜ sideAs r ≡ sideIf (ltb (last - first) gap) (record { distance = distance; first = first; last = last }) ⌝ }
+{
+    if last - first < gap {
+        return Side::Pair(distance, first, last);
+    }
+    Side::Nothing
+}
+
+// The previous change p of the place asked, and the change before it.
+fn left_side<'a>(
+    c: Capture,
+    samples: &[u8],
+    l1: &'a [Mask],
+    l2: &'a [Mask],
+    l3: &'a [Mask],
+    l4: &'a [Mask],
+    mask: Mask,
+    gap: usize,
+    tolerance: usize,
+    sample: usize,
+    p: usize,
+) -> Side
+    requires { ⌜ Passed c (now samples) (levelOf (now l1) (now l2) (now l3) (now l4)) × (1 ≤ p) × (p ≤ sample) ⌝ }
+    ensures { λ r. ⌜ sideAs r ≡ leftWith gap tolerance sample p ((back c (now (samples .entry)) (levelOf (now (l1 .entry)) (now (l2 .entry)) (now (l3 .entry)) (now (l4 .entry))) mask) (p - 1)) ⌝ }
+{
+    if tolerance < sample - p {
+        return Side::Nothing;
+    }
+    let change = previous(c, samples, l1, l2, l3, l4, mask, p - 1);
+    let Change::At(q) = change else {
+        return Side::Nothing;
+    };
+    side_of(gap, sample - p, q, p)
+}
+
+// The next change n of the place asked, and the change after it.
+fn right_side<'a>(
+    c: Capture,
+    samples: &[u8],
+    l1: &'a [Mask],
+    l2: &'a [Mask],
+    l3: &'a [Mask],
+    l4: &'a [Mask],
+    mask: Mask,
+    gap: usize,
+    tolerance: usize,
+    sample: usize,
+    n: usize,
+) -> Side
+    requires { ⌜ Passed c (now samples) (levelOf (now l1) (now l2) (now l3) (now l4)) × (sample < n) ⌝ }
+    ensures { λ r. ⌜ sideAs r ≡ rightWith gap tolerance sample n ((fore c (now (samples .entry)) (levelOf (now (l1 .entry)) (now (l2 .entry)) (now (l3 .entry)) (now (l4 .entry))) mask) n) ⌝ }
+{
+    if tolerance < n - sample {
+        return Side::Nothing;
+    }
+    let change = next(c, samples, l1, l2, l3, l4, mask, n);
+    let Change::At(r) = change else {
+        return Side::Nothing;
+    };
+    side_of(gap, n - sample, n, r)
+}
+
+// The nearer side, left at equal distance.
+fn nearer_of(l: Side, r: Side) -> Side
+    ensures { λ s. ⌜ sideAs s ≡ nearer (sideAs l) (sideAs r) ⌝ }
+{
+    match l {
+        Side::Nothing => r,
+        Side::Pair(dl, _, _) => match r {
+            Side::Nothing => l,
+            Side::Pair(dr, _, _) => {
+                if dl <= dr {
+                    return l;
+                }
+                r
+            }
+        },
+    }
+}
+
+// The pair of neighbouring changes to grow from.
+fn pair_of<'a>(
+    c: Capture,
+    samples: &[u8],
+    l1: &'a [Mask],
+    l2: &'a [Mask],
+    l3: &'a [Mask],
+    l4: &'a [Mask],
+    mask: Mask,
+    gap: usize,
+    tolerance: usize,
+    sample: usize,
+) -> Side
+    requires { ⌜ Passed c (now samples) (levelOf (now l1) (now l2) (now l3) (now l4)) ⌝ }
+    ensures { λ r. ⌜ sideAs r ≡ pairOf (back c (now (samples .entry)) (levelOf (now (l1 .entry)) (now (l2 .entry)) (now (l3 .entry)) (now (l4 .entry))) mask) (fore c (now (samples .entry)) (levelOf (now (l1 .entry)) (now (l2 .entry)) (now (l3 .entry)) (now (l4 .entry))) mask) gap tolerance sample ((back c (now (samples .entry)) (levelOf (now (l1 .entry)) (now (l2 .entry)) (now (l3 .entry)) (now (l4 .entry))) mask) sample) ((fore c (now (samples .entry)) (levelOf (now (l1 .entry)) (now (l2 .entry)) (now (l3 .entry)) (now (l4 .entry))) mask) sample) ⌝ }
+{
+    let before = previous(c, samples, l1, l2, l3, l4, mask, sample);
+    let after = next(c, samples, l1, l2, l3, l4, mask, sample);
+    match before {
+        Change::Nothing => match after {
+            Change::Nothing => Side::Nothing,
+            Change::At(n) => right_side(
+                c,
+                samples,
+                l1,
+                l2,
+                l3,
+                l4,
+                mask,
+                gap,
+                tolerance,
+                sample,
+                n,
+            ),
+        },
+        Change::At(p) => match after {
+            Change::Nothing => left_side(
+                c,
+                samples,
+                l1,
+                l2,
+                l3,
+                l4,
+                mask,
+                gap,
+                tolerance,
+                sample,
+                p,
+            ),
+            Change::At(n) => {
+                if n - p < gap {
+                    return Side::Pair(0, p, n);
+                }
+                let l = left_side(c, samples, l1, l2, l3, l4, mask, gap, tolerance, sample, p);
+                let r = right_side(c, samples, l1, l2, l3, l4, mask, gap, tolerance, sample, n);
+                nearer_of(l, r)
+            }
+        },
+    }
+}
+
+// 01's burst_at: the burst at a place, none, or 1 or 2. Theorems, in proofs/Answers.antt: burst-right, that on right levels
+// it is the rules' burst; jumps-within, that neither count is above the budget.
+pub fn burst_at<'a>(
+    c: Capture,
+    samples: &[u8],
+    l1: &'a [Mask],
+    l2: &'a [Mask],
+    l3: &'a [Mask],
+    l4: &'a [Mask],
+    mask: Mask,
+    sample: usize,
+    max_gap: usize,
+    tolerance: usize,
+    budget: usize,
+) -> Bursts
+    ensures { λ r. ⌜ burstAs r ≡ burstOf c (now (samples .entry)) (levelOf (now (l1 .entry)) (now (l2 .entry)) (now (l3 .entry)) (now (l4 .entry))) mask sample «max_gap» tolerance budget ⌝ }
+{
+    let number = capture::refusal(c, samples.len(), l1.len(), l2.len(), l3.len(), l4.len());
+    if number != 0 {
+        return Bursts::Refused(number);
+    }
+    if c.len == 0 {
+        return Bursts::Nothing;
+    }
+    if max_gap < 2 {
+        return Bursts::Nothing;
+    }
+    let side = pair_of(
+        c,
+        samples,
+        l1,
+        l2,
+        l3,
+        l4,
+        mask,
+        max_gap,
+        least(tolerance, max_gap - 1),
+        sample,
+    );
+    let Side::Pair(_, first, last) = side else {
+        return Bursts::Nothing;
+    };
+    let end = end_of(
+        c,
+        samples,
+        l1,
+        l2,
+        l3,
+        l4,
+        mask,
+        max_gap,
+        budget,
+        false,
+        last,
+    );
+    let start = end_of(
+        c,
+        samples,
+        l1,
+        l2,
+        l3,
+        l4,
+        mask,
+        max_gap,
+        budget,
+        true,
+        first,
+    );
+    Bursts::At(Burst {
+        first: start.place,
+        last: end.place,
+        jumps_end: end.jumps,
+        jumps_start: start.jumps,
+    })
+}

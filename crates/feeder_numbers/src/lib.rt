@@ -1,0 +1,172 @@
+// A recorder's record as 17 numbers, for a caller that has no records. The first five are its store's.
+use capture::Capture;
+use capture::Mark;
+use feeder::Armed;
+use feeder::Feeder;
+use lines::Mask;
+use terms::Masks;
+use terms::Previous;
+ghost use mathlib.Core.Path.{_≡_};
+ghost use Rattle.capture.specs.Record.{markOf};
+ghost use Rattle.terms.specs.Terms.{asMasks, previousOf};
+ghost use Rattle.feeder.specs.Record.{armedAs, recorderOf};
+ghost use Rattle.feeder_numbers.specs.Numbers.{markIn, maskIn, masksIn, armedIn, previousIn, feederFrom, markedNumber, markNumber, waitsNumber, masksOf, recorderNumbers};
+
+fn mark_in(marked: usize, mark: usize) -> Mark
+    ensures { λ r. ⌜ r ≡ markIn marked mark ⌝ }
+{
+    if marked == 0 {
+        return Mark::Absent;
+    }
+    Mark::At(mark)
+}
+
+// The lines of a number: what is above them is dropped.
+fn mask_in(n: usize) -> Mask
+    ensures { λ r. ⌜ r ≡ maskIn n ⌝ }
+{
+    (n % 65536) as u16
+}
+
+fn masks_in(high: usize, low: usize, rising: usize, falling: usize, edge: usize) -> Masks
+    ensures { λ r. ⌜ r ≡ masksIn high low rising falling edge ⌝ }
+{
+    Masks {
+        high: mask_in(high),
+        low: mask_in(low),
+        rising: mask_in(rising),
+        falling: mask_in(falling),
+        edge: mask_in(edge),
+    }
+}
+
+fn armed_in(armed: usize, masks: Masks) -> Armed
+    ensures { λ r. ⌜ r ≡ armedIn armed masks ⌝ }
+{
+    if armed == 0 {
+        return Armed::Unarmed;
+    }
+    Armed::Waiting(masks)
+}
+
+fn previous_in(known: usize, v: usize) -> Previous
+    ensures { λ r. ⌜ r ≡ previousIn known v ⌝ }
+{
+    if known == 0 {
+        return Previous::Nothing;
+    }
+    Previous::Sample(mask_in(v))
+}
+
+// The record of a recorder from its numbers.
+pub fn feeder_in(numbers: &[usize; 17]) -> Feeder
+    ensures { λ r. ⌜ r ≡ feederFrom (now (numbers .entry)) ⌝ }
+{
+    let capture = Capture {
+        unitsize: numbers[0],
+        capacity: numbers[1],
+        len: numbers[2],
+        trigger: mark_in(numbers[3], numbers[4]),
+    };
+    let masks = masks_in(
+        numbers[8],
+        numbers[9],
+        numbers[10],
+        numbers[11],
+        numbers[12],
+    );
+    Feeder {
+        capture,
+        limit: numbers[5],
+        pre: numbers[6],
+        masks: armed_in(numbers[7], masks),
+        prev: previous_in(numbers[13], numbers[14]),
+        place: numbers[15],
+        kept: numbers[16],
+    }
+}
+
+// Whether there is a mark, and where.
+fn marked(m: Mark) -> usize
+    ensures { λ r. ⌜ r ≡ markedNumber (markOf m) ⌝ }
+{
+    match m {
+        Mark::Absent => 0,
+        Mark::At(_) => 1,
+    }
+}
+
+fn mark_place(m: Mark) -> usize
+    ensures { λ r. ⌜ r ≡ markNumber (markOf m) ⌝ }
+{
+    match m {
+        Mark::Absent => 0,
+        Mark::At(k) => k,
+    }
+}
+
+// Whether it waits, and for what.
+fn waits(a: Armed) -> usize
+    ensures { λ r. ⌜ r ≡ waitsNumber (armedAs a) ⌝ }
+{
+    match a {
+        Armed::Unarmed => 0,
+        Armed::Waiting(_) => 1,
+    }
+}
+
+fn masks_of(a: Armed) -> Masks
+    ensures { λ r. ⌜ asMasks r ≡ masksOf (armedAs a) ⌝ }
+{
+    match a {
+        Armed::Unarmed => masks_in(0, 0, 0, 0, 0),
+        Armed::Waiting(m) => m,
+    }
+}
+
+// Whether there is a previous sample, and which.
+fn known(p: Previous) -> usize
+    ensures { λ r. ⌜ r ≡ markedNumber (previousOf p) ⌝ }
+{
+    match p {
+        Previous::Nothing => 0,
+        Previous::Sample(_) => 1,
+    }
+}
+
+fn sample_of(p: Previous) -> usize
+    ensures { λ r. ⌜ r ≡ markNumber (previousOf p) ⌝ }
+{
+    match p {
+        Previous::Nothing => 0,
+        Previous::Sample(v) => v as usize,
+    }
+}
+
+// The numbers become a recorder's.
+pub fn put_feeder(numbers: &mut [usize; 17], f: Feeder)
+    ensures { λ _. ⌜ now (numbers .exit) ≡ recorderNumbers (recorderOf f) (now (numbers .entry)) ⌝ }
+{
+    let c = f.capture;
+    let mark = c.trigger;
+    let armed = f.masks;
+    let masks = masks_of(armed);
+    let prev = f.prev;
+    numbers[0] = c.unitsize;
+    numbers[1] = c.capacity;
+    numbers[2] = c.len;
+    numbers[3] = marked(mark);
+    numbers[4] = mark_place(mark);
+    numbers[5] = f.limit;
+    numbers[6] = f.pre;
+    numbers[7] = waits(armed);
+    numbers[8] = masks.high as usize;
+    numbers[9] = masks.low as usize;
+    numbers[10] = masks.rising as usize;
+    numbers[11] = masks.falling as usize;
+    numbers[12] = masks.edge as usize;
+    numbers[13] = known(prev);
+    numbers[14] = sample_of(prev);
+    numbers[15] = f.place;
+    numbers[16] = f.kept;
+}

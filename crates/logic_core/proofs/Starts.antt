@@ -1,0 +1,45 @@
+-- From the answer of a recorder's start to what the boundary says.
+use mathlib.Core.Path.{_≡_, ap, ap₂, _∙_}
+use mathlib.Core.Bool.{Bool}
+use mathlib.Core.List.{List}
+use Prim.Native.Nat.{ℕ}
+use lib.Ieee.{Float}
+use lib.ListN.{length}
+use Rattle.rules.specs.Answer.{Answer}
+use Rattle.rules.specs.Refusal.{Lent}
+use Rattle.capture.specs.Record.{lentOf}
+use Rattle.terms.specs.declared.Terms.{Terms}
+use Rattle.terms.specs.Terms.{termsOf}
+use Rattle.term_bytes.specs.Bytes.{termsIn}
+use Rattle.feeder.specs.declared.Pretrigger.{Pretrigger}
+use Rattle.feeder.specs.declared.Started.{Started}
+use Rattle.feeder.specs.Start.{Begun, startedOf, startOf}
+use Rattle.feeder.proofs.Begun.{start-rule}
+use Rattle.logic_core.specs.Code.{plain, behind, Out}
+use Rattle.logic_core.specs.Recorder.{wishIn, begunNumbers, cutNumber, begunFor}
+use Rattle.logic_core.proofs.Codes.{told}
+
+module _ (channels capacity limit : ℕ) (bytes : List ℕ) (seconds : Bool) (x : Float) (rate : ℕ) (samples : List ℕ) (levels : ℕ → List ℕ) (ring : List ℕ) where
+  abbrev answer : Answer Begun
+  answer = begunFor channels capacity limit bytes seconds x rate samples levels ring
+
+  -- the call over the terms that the bytes come to
+  begun-is : {terms : Terms} {wish : Pretrigger} {lent : Lent} (r : Started)
+      → lent ≡ lentOf samples levels → terms ≡ termsOf (termsIn bytes) → wish ≡ wishIn seconds x
+      → startedOf r ≡ startOf channels capacity limit terms wish rate lent (length ring)
+      → startedOf r ≡ answer
+  begun-is {terms} {wish} r d e f g =
+      g
+      ∙ ap (λ (l : Lent). startOf channels capacity limit terms wish rate l (length ring)) d
+      ∙ ap₂ (λ (t : Terms) (w : Pretrigger). startOf channels capacity limit t w rate (lentOf samples levels) (length ring)) e f
+      ∙ start-rule channels capacity limit (termsIn bytes) (wishIn seconds x) rate (lentOf samples levels) (length ring)
+
+  pub starts-told : {terms : Terms} {wish : Pretrigger} {lent : Lent} {r r′ : Started} (code : ℕ) (numbers numbers′ : List ℕ) (cut cut′ : ℕ)
+      → lent ≡ lentOf samples levels → terms ≡ termsOf (termsIn bytes) → wish ≡ wishIn seconds x
+      → startedOf r ≡ startOf channels capacity limit terms wish rate lent (length ring)
+      → r ≡ r′
+      → code ≡ plain (startedOf r′) .code
+      → numbers′ ≡ behind begunNumbers (plain (startedOf r′) .written) numbers
+      → cut′ ≡ behind cutNumber (plain (startedOf r′) .written) cut
+      → Out begunNumbers (plain answer) code numbers numbers′ × Out cutNumber (plain answer) code cut cut′
+  starts-told {terms} {wish} {lent} {r} {r′} code numbers numbers′ cut cut′ d e f g h k m n = (told begunNumbers plain startedOf code numbers numbers′ (begun-is r d e f g) h k m, told cutNumber plain startedOf code cut cut′ (begun-is r d e f g) h k n)

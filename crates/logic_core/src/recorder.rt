@@ -1,0 +1,71 @@
+// The recorder's calls. Its record is lent as 17 numbers, of which the first five are its store's: questions take those.
+use crate::code;
+use feeder::Pretrigger;
+use feeder::Started;
+use lines::Mask;
+ghost use mathlib.Core.Path.{_≡_};
+ghost use mathlib.Core.Bool.{Bool};
+ghost use Rattle.node.specs.Memory.{levelOf};
+ghost use Rattle.logic_core.specs.Code.{plain, Out};
+ghost use Rattle.logic_core.specs.Recorder.{flagNumber, wishIn, begunNumbers, cutNumber, begunFor};
+
+// Yes or no as a number.
+fn flag(b: bool) -> usize
+    ensures { λ r. ⌜ r ≡ flagNumber b ⌝ }
+{
+    if b { 1 } else { 0 }
+}
+
+fn wish_in(seconds: bool, wish: f64) -> Pretrigger
+    ensures { λ r. ⌜ r ≡ wishIn seconds wish ⌝ }
+{
+    if seconds {
+        return Pretrigger::Seconds(wish);
+    }
+    Pretrigger::Fraction(wish)
+}
+
+// 01's start of a recorder. Terms are two bytes each. Refuses with 1 to 7.
+#[no_mangle]
+pub extern "C" fn lc_feeder_start<'a>(
+    channels: usize,
+    capacity: usize,
+    limit: usize,
+    terms: &[u8],
+    seconds: bool,
+    wish: f64,
+    rate: usize,
+    samples: &[u8],
+    l1: &'a [Mask],
+    l2: &'a [Mask],
+    l3: &'a [Mask],
+    l4: &'a [Mask],
+    ring: &[u8],
+    numbers: &mut [usize; 17],
+    cut: &mut usize,
+) -> u32
+    ensures { λ r. ⌜ Out begunNumbers (plain (begunFor channels capacity limit (now (terms .entry)) seconds wish rate (now (samples .entry)) (levelOf (now (l1 .entry)) (now (l2 .entry)) (now (l3 .entry)) (now (l4 .entry))) (now (ring .entry)))) r (now (numbers .entry)) (now (numbers .exit)) × Out cutNumber (plain (begunFor channels capacity limit (now (terms .entry)) seconds wish rate (now (samples .entry)) (levelOf (now (l1 .entry)) (now (l2 .entry)) (now (l3 .entry)) (now (l4 .entry))) (now (ring .entry)))) r (now (cut .entry)) (now (cut .exit)) ⌝ }
+{
+    let answer = feeder::start(
+        channels,
+        capacity,
+        limit,
+        term_bytes::terms_in(terms),
+        wish_in(seconds, wish),
+        rate,
+        samples,
+        l1,
+        l2,
+        l3,
+        l4,
+        ring,
+    );
+    match answer {
+        Started::Refused(n) => code(n),
+        Started::Fresh(f, was_cut) => {
+            feeder_numbers::put_feeder(numbers, f);
+            *cut = flag(was_cut);
+            0
+        }
+    }
+}

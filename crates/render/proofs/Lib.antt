@@ -1,0 +1,4 @@
+pub mod Inside
+pub mod Row
+pub mod Refusals
+pub mod Answers

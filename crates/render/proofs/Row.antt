@@ -1,0 +1,104 @@
+-- Laws of a row of pixels: what the loop over the pixels knows, what stands after them, and that summaries which agree on stored ranges draw the same.
+use Prim.Native.Nat.{ℕ, zero, suc, _+_, _*_, _≤_, _<_}
+use mathlib.Core.Path.{_≡_, refl, sym, ap, ap₂, _∙_}
+use mathlib.Core.List.{List, [], _∷_, _++_}
+use mathlib.Core.Option.{Option, none, some}
+use native.Mathlib.Nat.{add-zero}
+use native.Mathlib.Numerals.{add-one}
+use native.Mathlib.Omega.{arith}
+use lib.ListN.{length, take, drop, set, length-append, length-drop}
+use lib.Seq.{sets-eq, take-at, drop-at, drop-drop}
+use Rattle.rules.specs.Node.{Node}
+use Rattle.rules.specs.Pixel.{View, Range, edge, pixelRange, shown, rowBy}
+use Rattle.render.specs.Render.{drawn, pixelNode, Inside}
+use Rattle.render.proofs.Inside.{inside}
+
+module _ (node : ℕ → ℕ → Node) where
+  -- ---- one pixel
+  shown-append : (r : Option Range) (a b : List ℕ) → shown node r (a ++ b) ≡ shown node r a ++ b
+  shown-append none a b = refl
+  shown-append (some r) a b = refl
+
+  shown-length : (r : Option Range) (rest : List ℕ) → length (shown node r rest) ≡ suc (suc (length rest))
+  shown-length none rest = refl
+  shown-length (some r) rest = refl
+
+  shown-is : (r : Option Range) (n : Node) → n ≡ pixelNode node r → n .first ∷ n .toggles ∷ [] ≡ shown node r []
+  shown-is none n e = ap (λ (m : Node). m .first ∷ m .toggles ∷ []) e
+  shown-is (some r) n e = ap (λ (m : Node). m .first ∷ m .toggles ∷ []) e
+
+  -- ---- a row
+  module _ (v : View) (len : ℕ) where
+    length-row : (px n : ℕ) → length (rowBy node v len px n) ≡ 2 * n
+    unfolding rowBy
+    length-row px zero = refl
+    length-row px (suc n) = shown-length (pixelRange v len px) (rowBy node v len (px + 1) n) ∙ omega (arith, length-row (px + 1) n)
+
+    -- one pixel more
+    row-last : (px n : ℕ) → rowBy node v len px (suc n) ≡ rowBy node v len px n ++ shown node (pixelRange v len (px + n)) []
+    unfolding rowBy
+    row-last px zero = ap (λ (k : ℕ). shown node (pixelRange v len k) []) (sym (add-zero px))
+    row-last px (suc n) =
+        ap (shown node (pixelRange v len px)) (row-last (px + 1) n ∙ ap (λ (k : ℕ). rowBy node v len (px + 1) n ++ shown node (pixelRange v len k) []) next)
+        ∙ shown-append (pixelRange v len px) (rowBy node v len (px + 1) n) (shown node (pixelRange v len (px + suc n)) [])
+      where
+        next : px + 1 + n ≡ px + suc n
+        next = omega arith
+
+    -- ---- output, of which the first pixels are drawn
+    pub drawn-none : (output : List ℕ) → output ≡ drawn node v len 0 output
+    unfolding drawn rowBy
+    drawn-none output = refl
+
+    drawn-length : (k : ℕ) (output : List ℕ) → 2 * k ≤ length output → length (drawn node v len k output) ≡ length output
+    unfolding drawn
+    drawn-length k output h = length-append (rowBy node v len 0 k) (drop (2 * k) output) ∙ omega (arith, length-row 0 k, length-drop (2 * k) output)
+
+    pub drawn-turn : (px : ℕ) (n : Node) (output now : List ℕ) → 2 * px + 2 ≤ length output → now ≡ drawn node v len px output → n ≡ pixelNode node (pixelRange v len px) → set (set now (2 * px) (n .first)) (2 * px + 1) (n .toggles) ≡ drawn node v len (px + 1) output
+    unfolding drawn
+    drawn-turn px n output now h e en =
+        ap (λ (k : ℕ). set (set now (2 * px) (n .first)) k (n .toggles)) (add-one (2 * px))
+        ∙ sets-eq (n .first ∷ n .toggles ∷ []) now (2 * px) (omega (arith, ap length e, drawn-length px output (omega arith)))
+        ∙ ap₂ (λ (a b : List ℕ). a ++ (n .first ∷ n .toggles ∷ []) ++ b) before after
+        ∙ ap (λ (a : List ℕ). row ++ a ++ drop (2 * (px + 1)) output) (shown-is (pixelRange v len px) n en)
+        ∙ ap (λ (a : List ℕ). a ++ drop (2 * (px + 1)) output) (ap (λ (k : ℕ). row ++ shown node (pixelRange v len k) []) here ∙ sym (row-last 0 px) ∙ ap (rowBy node v len 0) (sym (add-one px)))
+      where
+        row : List ℕ
+        row = rowBy node v len 0 px
+
+        before : take (2 * px) now ≡ row
+        before = ap (take (2 * px)) e ∙ take-at row (drop (2 * px) output) (2 * px) (length-row 0 px)
+
+        here : px ≡ 0 + px
+        here = omega arith
+
+        two : 2 * px + 2 ≡ 2 * (px + 1)
+        two = omega arith
+
+        after : drop (2 * px + 2) now ≡ drop (2 * (px + 1)) output
+        after =
+            sym (drop-drop 2 (2 * px) now)
+            ∙ ap (drop 2) (ap (drop (2 * px)) e ∙ drop-at row (drop (2 * px) output) (2 * px) (length-row 0 px))
+            ∙ drop-drop 2 (2 * px) output
+            ∙ ap (λ (k : ℕ). drop k output) two
+
+    -- past the pixels
+    pub drawn-rest : (k : ℕ) (output : List ℕ) → drop (2 * k) (drawn node v len k output) ≡ drop (2 * k) output
+    unfolding drawn
+    drawn-rest k output = drop-at (rowBy node v len 0 k) (drop (2 * k) output) (2 * k) (length-row 0 k)
+
+module _ (node node′ : ℕ → ℕ → Node) (v : View) (len : ℕ) (same : (a b : ℕ) → a < b → b ≤ len → node a b ≡ node′ a b) where
+  shown-same : (r : Option Range) (rest : List ℕ) → Inside r len → shown node r rest ≡ shown node′ r rest
+  shown-same none rest i = refl
+  shown-same (some r) rest i = ap (λ (n : Node). n .first ∷ n .toggles ∷ rest) (same (r .from) (r .to) (i .0) (i .1))
+
+  row-same : (px n : ℕ) → rowBy node v len px n ≡ rowBy node′ v len px n
+  unfolding rowBy
+  row-same px zero = refl
+  row-same px (suc n) =
+      shown-same (pixelRange v len px) (rowBy node v len (px + 1) n) (inside (edge v px) (edge v (px + 1)) len)
+      ∙ ap (shown node′ (pixelRange v len px)) (row-same (px + 1) n)
+
+  pub drawn-same : (k : ℕ) (output : List ℕ) → drawn node v len k output ≡ drawn node′ v len k output
+  unfolding drawn
+  drawn-same k output = ap (λ (a : List ℕ). a ++ drop (2 * k) output) (row-same 0 k)

@@ -1,0 +1,59 @@
+-- What render answers and what it leaves in output, whatever memory holds. 01: Burst and render; Where each number is checked, 1, 2, 10 and 11.
+use mathlib.Core.Path.{_≡_}
+use mathlib.Core.Bool.{not, _||_}
+use mathlib.Core.List.{List, [], _∷_, _++_}
+use mathlib.Core.Option.{Option, none, some}
+use Prim.Native.Nat.{ℕ, _*_, _≤_, _<_}
+use lib.Dec.{ltb}
+use lib.Ieee.Scale.{finite}
+use lib.ListN.{length, drop}
+use Rattle.rules.specs.Node.{Node, leaf}
+use Rattle.rules.specs.Pixel.{View, Range, rowBy}
+use Rattle.rules.specs.Answer.{Answer, refused, given, unless}
+use Rattle.rules.specs.Refusal.{Store, Lent, Row, mostPixels, renderRefusal}
+use Rattle.rules.proofs.Refusal.{Sound}
+use Rattle.capture.specs.Calls.{unrefused}
+use Rattle.render.specs.declared.Drawn.{Drawn}
+use Rattle.render.specs.declared.Drawn.the-variants.{Refused, Done}
+
+-- 01's number of a refusal; a drawing has no value of its own
+abbrev pub drawnOf : Drawn → Answer Unit
+drawnOf (Refused n) = refused n
+drawnOf Done = given tt
+
+-- "Output past what is .. drawn is unchanged": k pixels, two numbers each, and after them what output had
+unfoldable pub drawn : (ℕ → ℕ → Node) → View → ℕ → ℕ → List ℕ → List ℕ
+drawn node v len k output = rowBy node v len 0 k ++ drop (2 * k) output
+
+-- a render by a summary of ranges: the refusal's number, and the pixels in output, none of them where a row refuses
+pub record Draws (node : ℕ → ℕ → Node) (st : Store) (lent : Lent) (v : View) (width : ℕ) (output : List ℕ) (r : Drawn) (output′ : List ℕ) : Type 0 where
+  pub answer-is : drawnOf r ≡ unless (renderRefusal st lent v width (length output)) tt
+  pub output-is : output′ ≡ drawn node v (st .len) (unrefused (renderRefusal st lent v width (length output)) width) output
+
+-- ---- rows 10 and 11: renderRefusal's own, which decide where rows 1 and 2 let pass (`Refusals.view-rows`)
+abbrev pub viewRows : View → ℕ → ℕ → List Row
+viewRows v width output =
+    record { number = 10; holds = not (finite (v .start)) || not (finite (v .spp)) }
+    ∷ record { number = 11; holds = ltb mostPixels width || ltb output (2 * width) }
+    ∷ []
+
+-- ---- one pixel
+-- the node that a pixel shows the first and the toggles of
+abbrev pub pixelNode : (ℕ → ℕ → Node) → Option Range → Node
+pixelNode node none = leaf 0
+pixelNode node (some r) = node (r .from) (r .to)
+
+-- a range of stored places, or none
+abbrev pub Inside : Option Range → ℕ → Type 0
+Inside none len = Unit
+Inside (some r) len = (r .from < r .to) × (r .to ≤ len)
+
+pub record Covered (st : Store) (lent : Lent) (range : Option Range) : Type 0 where
+  pub sound : Sound st lent
+  pub inside : Inside range (st .len)
+
+-- ---- all pixels
+pub record Drawable (st : Store) (lent : Lent) (width output : ℕ) : Type 0 where
+  pub sound : Sound st lent
+  pub most : width ≤ mostPixels
+  pub room : 2 * width ≤ output

@@ -1,0 +1,123 @@
+// A view of a capture drawn as pixels, by the levels. 01: Burst and render.
+use capture::Capture;
+use capture::refusal;
+use float::is_finite;
+use lines::Mask;
+use node::Node;
+use pixel::Pixel;
+use pixel::View;
+use pixel::pixel_range;
+use summary::summary_in;
+ghost use mathlib.Core.Path.{_≡_};
+ghost use lib.ListN.{length};
+ghost use Rattle.rules.specs.Sample.{sampleOf};
+ghost use Rattle.rules.specs.Refusal.{firstOf};
+ghost use Rattle.node.specs.Memory.{asNode, levelOf};
+ghost use Rattle.capture.specs.Record.{storeOf, lentOf};
+ghost use Rattle.pixel.specs.Ranges.{viewAs, rangeAs};
+ghost use Rattle.summary.specs.Summary.{summed};
+ghost use Rattle.render.specs.Render.{viewRows, pixelNode, drawn, Draws, Covered, Drawable};
+
+const MOST_PIXELS: usize = 65536;
+
+// Rows 10 and 11: the number of the first that holds, or 0.
+fn view_refusal(view: View, width: usize, output: usize) -> u8
+    ensures { λ r. ⌜ r ≡ firstOf (viewRows (viewAs view) width output) ⌝ }
+{
+    if !is_finite(view.start) {
+        return 10;
+    }
+    if !is_finite(view.spp) {
+        return 10;
+    }
+    if MOST_PIXELS < width {
+        return 11;
+    }
+    if output < 2 * width {
+        return 11;
+    }
+    0
+}
+
+// What a pixel shows: its range's node, or zeros where it has no range.
+fn pixel_node<'a>(
+    c: Capture,
+    samples: &[u8],
+    l1: &'a [Mask],
+    l2: &'a [Mask],
+    l3: &'a [Mask],
+    l4: &'a [Mask],
+    p: Pixel,
+) -> Node
+    requires { ⌜ Covered (storeOf c) (lentOf (now samples) (levelOf (now l1) (now l2) (now l3) (now l4))) (rangeAs p) ⌝ }
+    ensures { λ r. ⌜ asNode r ≡ pixelNode (summed (levelOf (now (l1 .entry)) (now (l2 .entry)) (now (l3 .entry)) (now (l4 .entry))) (sampleOf (c .unitsize) (now (samples .entry)))) (rangeAs p) ⌝ }
+{
+    match p {
+        Pixel::Blank => Node::leaf(0),
+        Pixel::Span(a, b) => summary_in(c, samples, l1, l2, l3, l4, a as usize, b as usize),
+    }
+}
+
+// The first 2 × width numbers of output become the pixels' first and toggles.
+fn draw<'a>(
+    c: Capture,
+    samples: &[u8],
+    l1: &'a [Mask],
+    l2: &'a [Mask],
+    l3: &'a [Mask],
+    l4: &'a [Mask],
+    view: View,
+    width: usize,
+    output: &mut [Mask],
+)
+    requires { ⌜ Drawable (storeOf c) (lentOf (now samples) (levelOf (now l1) (now l2) (now l3) (now l4))) width (length (now output)) ⌝ }
+    ensures { λ _. ⌜ now (output .exit) ≡ drawn (summed (levelOf (now (l1 .entry)) (now (l2 .entry)) (now (l3 .entry)) (now (l4 .entry))) (sampleOf (c .unitsize) (now (samples .entry)))) (viewAs view) (c .len) width (now (output .entry)) ⌝ }
+{
+    let mut px = 0;
+    while px < width {
+        let n = pixel_node(
+            c,
+            samples,
+            l1,
+            l2,
+            l3,
+            l4,
+            pixel_range(view, px as u64, c.len as u64),
+        );
+        output[2 * px] = n.first;
+        output[2 * px + 1] = n.mask;
+        px += 1;
+    }
+}
+
+pub enum Drawn {
+    Refused(u8),
+    Done,
+}
+
+// 01's render(view, width, output): width pixels drawn, or 1, 2, 10 or 11 and nothing drawn.
+// By `Answers.render-right` they are the rule's where levels are right.
+pub fn render<'a>(
+    c: Capture,
+    samples: &[u8],
+    l1: &'a [Mask],
+    l2: &'a [Mask],
+    l3: &'a [Mask],
+    l4: &'a [Mask],
+    view: View,
+    width: usize,
+    output: &mut [Mask],
+) -> Drawn
+    ensures { λ r. ⌜ Draws (summed (levelOf (now (l1 .entry)) (now (l2 .entry)) (now (l3 .entry)) (now (l4 .entry))) (sampleOf (c .unitsize) (now (samples .entry)))) (storeOf c) (lentOf (now (samples .entry)) (levelOf (now (l1 .entry)) (now (l2 .entry)) (now (l3 .entry)) (now (l4 .entry)))) (viewAs view) width (now (output .entry)) r (now (output .exit)) ⌝ }
+{
+    let n = refusal(c, samples.len(), l1.len(), l2.len(), l3.len(), l4.len());
+    if n != 0 {
+        return Drawn::Refused(n);
+    }
+    let k = view_refusal(view, width, output.len());
+    if k != 0 {
+        return Drawn::Refused(k);
+    }
+    draw(c, samples, l1, l2, l3, l4, view, width, output);
+    Drawn::Done
+}

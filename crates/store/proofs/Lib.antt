@@ -1,0 +1,5 @@
+pub mod Bytes
+pub mod Chunks
+pub mod Levels
+pub mod Fits
+pub mod Stored

@@ -1,0 +1,120 @@
+// Samples join the stored ones in lent memory, and the nodes above them are made anew. The calls that store are above.
+use lines::Mask;
+use rebuild::rebuild_above;
+use rebuild::rebuild_first;
+ghost use mathlib.Core.Path.{_≡_};
+ghost use mathlib.Core.List.{_++_};
+ghost use Prim.Native.Nat.{_+_, _-_, _/_, _≤_, min};
+ghost use lib.ListN.{length};
+ghost use lib.Seq.{paste};
+ghost use Rattle.rules.specs.Node.{span};
+ghost use Rattle.node.specs.Memory.{levelOf};
+ghost use Rattle.rebuild.specs.Rebuild.{putNodes, touched};
+ghost use Rattle.store.specs.Stored.{firstNodes, LevelsAfter, Stored};
+ghost use Rattle.store.specs.Room.{ChunksRoom, StoreRoom, AppendRoom, PartsRoom};
+
+const CHUNK: usize = 1048576;
+
+// n samples of the bytes join the len stored ones, and every level is made anew above them.
+pub fn append_samples(
+    samples: &mut [u8],
+    l1: &mut [Mask],
+    l2: &mut [Mask],
+    l3: &mut [Mask],
+    l4: &mut [Mask],
+    unitsize: usize,
+    len: usize,
+    n: usize,
+    bytes: &[u8],
+)
+    requires { ⌜ AppendRoom unitsize len n (length (now samples)) (levelOf (now l1) (now l2) (now l3) (now l4)) (length (now bytes)) ⌝ }
+    ensures { λ _. ⌜ Stored unitsize len n (now (bytes .entry)) (now (samples .entry)) (levelOf (now (l1 .entry)) (now (l2 .entry)) (now (l3 .entry)) (now (l4 .entry))) (now (samples .exit)) (levelOf (now (l1 .exit)) (now (l2 .exit)) (now (l3 .exit)) (now (l4 .exit))) ⌝ }
+{
+    let e = n * unitsize;
+    copy_at(samples, len * unitsize, &bytes[..e]);
+    rebuild_levels(&samples[..], l1, l2, l3, l4, unitsize, len, n);
+}
+
+// The same with n samples that come in three runs of bytes, one behind the other.
+pub fn append_parts(
+    samples: &mut [u8],
+    l1: &mut [Mask],
+    l2: &mut [Mask],
+    l3: &mut [Mask],
+    l4: &mut [Mask],
+    unitsize: usize,
+    len: usize,
+    n: usize,
+    a: &[u8],
+    b: &[u8],
+    c: &[u8],
+)
+    requires { ⌜ PartsRoom unitsize len n (length (now samples)) (levelOf (now l1) (now l2) (now l3) (now l4)) (length (now a)) (length (now b)) (length (now c)) ⌝ }
+    ensures { λ _. ⌜ Stored unitsize len n (now (a .entry) ++ now (b .entry) ++ now (c .entry)) (now (samples .entry)) (levelOf (now (l1 .entry)) (now (l2 .entry)) (now (l3 .entry)) (now (l4 .entry))) (now (samples .exit)) (levelOf (now (l1 .exit)) (now (l2 .exit)) (now (l3 .exit)) (now (l4 .exit))) ⌝ }
+{
+    let first = len * unitsize;
+    let second = first + a.len();
+    let third = second + b.len();
+    copy_at(samples, first, a);
+    copy_at(samples, second, b);
+    copy_at(samples, third, c);
+    rebuild_levels(&samples[..], l1, l2, l3, l4, unitsize, len, n);
+}
+
+// The bytes of src go to dst, from at on.
+fn copy_at(dst: &mut [u8], at: usize, src: &[u8])
+    requires { ⌜ at + length (now src) ≤ length (now dst) ⌝ }
+    ensures { λ _. ⌜ now (dst .exit) ≡ paste (now (dst .entry)) at (now (src .entry)) (length (now (src .entry))) ⌝ }
+{
+    let mut i = 0;
+    while i < src.len() {
+        dst[at + i] = src[i];
+        i += 1;
+    }
+}
+
+// n samples stand behind the first len: every node that covers one of them is made anew, each level from the one below.
+fn rebuild_levels(
+    samples: &[u8],
+    l1: &mut [Mask],
+    l2: &mut [Mask],
+    l3: &mut [Mask],
+    l4: &mut [Mask],
+    unitsize: usize,
+    len: usize,
+    n: usize,
+)
+    requires { ⌜ StoreRoom unitsize len n (length (now samples)) (levelOf (now l1) (now l2) (now l3) (now l4)) ⌝ }
+    ensures { λ _. ⌜ LevelsAfter unitsize len n (now (samples .entry)) (levelOf (now (l1 .entry)) (now (l2 .entry)) (now (l3 .entry)) (now (l4 .entry))) (levelOf (now (l1 .exit)) (now (l2 .exit)) (now (l3 .exit)) (now (l4 .exit))) ⌝ }
+{
+    if n == 0 {
+        return;
+    }
+    rebuild_chunks(samples, l1, unitsize, len, len + n);
+    let top = len + n - 1;
+    rebuild_above(&l1[..], l2, 1, len, top);
+    rebuild_above(&l2[..], l3, 2, len, top);
+    rebuild_above(&l3[..], l4, 3, len, top);
+}
+
+// The nodes of level 1 that cover one of the places len to end, end not among them, each chunk's from its part of the samples.
+fn rebuild_chunks(samples: &[u8], l1: &mut [Mask], unitsize: usize, len: usize, end: usize)
+    requires { ⌜ ChunksRoom unitsize len end (length (now samples)) (length (now l1)) ⌝ }
+    ensures { λ _. ⌜ now (l1 .exit) ≡ putNodes (firstNodes unitsize (now (samples .entry)) end) (now (l1 .entry)) (len / span 1) (touched len (end - 1) 1) ⌝ }
+{
+    let mut p = len;
+    while p < end {
+        let base = p - p % CHUNK;
+        let stop = lesser(base + CHUNK, end);
+        let a = base * unitsize;
+        let e = stop * unitsize;
+        rebuild_first(&samples[a..e], l1, unitsize, base, p / 32, stop - 1);
+        p = stop;
+    }
+}
+
+fn lesser(a: usize, b: usize) -> usize
+    ensures { λ r. ⌜ r ≡ min a b ⌝ }
+{
+    if a < b { a } else { b }
+}
