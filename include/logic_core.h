@@ -6,7 +6,7 @@
  * Codes. Each call but lc_raw gives one:
  *     0            it is done, and the out pointers hold the answer
  *     1 .. 20      refused: the number that document 01 gives for the reason; nothing was written anywhere
- *     100          LC_NONE: there is none; of lc_whole: a node is wrong
+ *     100          LC_NONE: there is none; of lc_whole: a node is wrong; of lc_push: the recording is complete
  * A call that gives 1 to 20 has changed neither the record nor the lent memory nor what the out pointers point at; of the
  * codes 0 and 100, each call says which of them writes.
  *
@@ -149,6 +149,16 @@ uint32_t lc_feeder_start(size_t channels, size_t capacity, size_t limit,
                          const uint16_t *l3, size_t l3_len, const uint16_t *l4, size_t l4_len,
                          const uint8_t *ring, size_t ring_len,
                          size_t record[17], size_t *cut);
+
+/* Pushes the whole samples of bytes, low byte first; a leftover byte is dropped. While the recorder waits they go to the
+ * ring; from the sample that fires on, with those kept before it, they go to the capture, up to limit. Gives 0 while it goes
+ * on and LC_NONE once it is complete, and in both cases the record's numbers are the new ones. Refuses with 1, 2, and 8
+ * where what is to be stored does not all fit. */
+uint32_t lc_push(size_t record[17],
+                 uint8_t *samples, size_t samples_len,
+                 uint16_t *l1, size_t l1_len, uint16_t *l2, size_t l2_len,
+                 uint16_t *l3, size_t l3_len, uint16_t *l4, size_t l4_len,
+                 uint8_t *ring, size_t ring_len, const uint8_t *bytes, size_t bytes_len);
 
 #ifdef __cplusplus
 }

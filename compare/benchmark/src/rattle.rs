@@ -1,8 +1,8 @@
 //! The port, over memory that it is lent. Without the static library it has no operation.
 
 use crate::side::{timed, Side, Timed};
-use crate::work::{Appends, Bursts, Ranges, Row, Samples, Walk};
-use port::{Asked, Lent, LentMut, Record};
+use crate::work::{Appends, Bursts, Pushes, Ranges, Row, Samples, Walk};
+use port::{Asked, Feeder, Lent, LentMut, Record, Settings};
 use std::cell::RefCell;
 
 #[derive(Default)]
@@ -18,6 +18,7 @@ pub struct Rattle {
     /// What is appended to, and where samples are copied: lent again in each round.
     appended: RefCell<Capture>,
     output: RefCell<Vec<u16>>,
+    ring: RefCell<Vec<u8>>,
 }
 
 const NONE: &str = "none";
@@ -44,6 +45,23 @@ impl Capture {
         assert_eq!(port::append(&mut self.record, lent, bytes), 0);
     }
 
+    /// A recorder over this memory that keeps `pre` samples and waits for line 0 to rise, or waits for nothing.
+    fn record(&self, unit: usize, capacity: usize, armed: bool, pre: u64, ring: &[u8]) -> Feeder {
+        let terms: &[u8] = if armed { &[0, 0] } else { &[] };
+        let (channels, rate) = (8 * unit, pre as usize);
+        let settings =
+            Settings { channels, capacity, limit: 0, terms, seconds: true, wish: 1.0, rate };
+        let (mut feeder, mut cut) = ([0; 17], 0);
+        assert_eq!(port::feeder_start(settings, self.lent(), ring, &mut feeder, &mut cut), 0);
+        feeder
+    }
+
+    fn push(&mut self, feeder: &mut Feeder, ring: &mut [u8], bytes: &[u8]) {
+        let [l1, l2, l3, l4] = &mut self.levels;
+        let lent = LentMut { samples: &mut self.samples, levels: [l1, l2, l3, l4] };
+        assert_eq!(port::push(feeder, lent, ring, bytes), 0);
+    }
+
     fn lent(&self) -> Lent<'_> {
         let [l1, l2, l3, l4] = &self.levels;
         Lent { samples: &self.samples, levels: [l1, l2, l3, l4] }
@@ -67,6 +85,22 @@ impl Side for Rattle {
                 capture.append(push);
             }
             (work.samples.len(), capture.record[2] as u64)
+        })
+    }
+
+    fn push(&self, work: &Pushes) -> Option<Timed> {
+        let Samples { unit, bytes } = work.samples;
+        let mut capture = self.appended.borrow_mut();
+        let capacity = work.samples.len() as usize;
+        port::LINKED.then(|| capture.start(*unit, capacity))?;
+        let mut ring = self.ring.borrow_mut();
+        ring.resize(work.pre as usize * unit, 0xA5);
+        let mut feeder = capture.record(*unit, capacity, work.armed, work.pre, &ring);
+        timed(LENT, || {
+            for push in bytes.chunks(work.push * unit) {
+                capture.push(&mut feeder, &mut ring, push);
+            }
+            (work.samples.len(), feeder[2] as u64)
         })
     }
 

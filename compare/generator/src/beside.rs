@@ -16,9 +16,6 @@ use std::time::{Duration, Instant};
 /// Differences shown.
 const SHOWN: usize = 5;
 
-/// Whether the port has all calls of a group. The others are asked as far as it has them.
-const WHOLE_GROUPS: [&str; 4] = ["store", "search", "burst", "render"];
-
 pub fn run(seconds: u64, seed: u64) -> bool {
     if !port::LINKED {
         println!("no port: `rt staticlib logic_core` makes target/staticlib/liblogic_core.a");
@@ -37,19 +34,12 @@ fn replay(name: &str) -> bool {
     };
     let mut port = Port::default();
     let (mut asked, mut skipped, mut wrong) = (0, 0, 0);
-    // After a recorder's start that the port lacks, the lines are about no capture of its own.
-    let mut lost = false;
     for (number, line) in stored.lines().enumerate() {
         let Some(op) = Op::read(&mut Numbers::new(line)) else {
             continue;
         };
-        lost = match op {
-            Op::Capture { .. } => false,
-            Op::Start(_) => true,
-            _ => lost,
-        };
         let scene = matches!(op, Op::Lend(_) | Op::Record(_) | Op::Feeder(_) | Op::Put { .. });
-        let answer = if lost && !scene { None } else { port.take(&op) };
+        let answer = port.take(&op);
         if scene {
             continue;
         }
@@ -96,10 +86,9 @@ fn random(seconds: u64, seed: u64) -> bool {
     let begun = Instant::now();
     let mut list = List::with_port();
     let mut rng = Rng::new(seed);
-    let groups: Vec<_> = GROUPS.iter().filter(|g| WHOLE_GROUPS.contains(&g.name)).collect();
     let mut longs = 0;
     while begun.elapsed() < Duration::from_secs(seconds) {
-        let group = rng.pick(&groups);
+        let group = &GROUPS[rng.below(GROUPS.len() as u64) as usize];
         match rng.below(2_000) {
             0..=1 => {
                 long(&mut list, &mut rng);

@@ -1,28 +1,28 @@
 //! The port as a side, over lent memory that is filled with a pattern first.
 //! Beside it stands what the calls must leave there; whatever else changes is a fault.
 
+mod memory;
+mod recorder;
+
 use crate::digest::digest;
 use crate::document::{listed, optional, refusals};
-use crate::op::{Burst, Lent, Op, Store, View};
+use crate::op::{Burst, Lent, Op, Recorder, Store, View};
 use crate::side::{Answer, Side};
-use port::{Asked, LentMut, Record, NONE};
-
-/// Numbers behind each lent slice that belong to nobody.
-const GUARD: usize = 40;
+use memory::{pattern, Memory, GUARD};
+use port::{Asked, Record, NONE};
+use recorder::Recording;
 
 /// Memory up to this size is compared whole after every call, larger memory now and then.
 const SMALL: usize = 20_000;
 const RARELY: u64 = 50;
 
-#[derive(Clone, Default, PartialEq)]
-struct Memory {
-    samples: Vec<u8>,
-    levels: [Vec<u16>; 4],
-}
-
 #[derive(Default)]
 pub struct Port {
     record: Record,
+    /// A recorder's numbers behind its store's.
+    own: [usize; 12],
+    /// What the recorder, if the record is one's, was given.
+    recording: Option<Recording>,
     lent: Lent,
     memory: Memory,
     /// What memory must hold.
@@ -40,16 +40,23 @@ impl Side for Port {
                 let (marked, mark) = mark.map_or((0, 7), |mark| (3, mark));
                 self.record = [unit, capacity, len, marked, mark].map(|n| n as usize);
             }
+            Op::Feeder(Recorder { limit, pre, kept, place }) => {
+                let [limit, pre, kept, place] = [limit, pre, kept, place].map(|n| n as usize);
+                let [at_limit, at_pre, .., at_place, at_kept] = &mut self.own;
+                (*at_limit, *at_pre, *at_place, *at_kept) = (limit, pre, place, kept);
+            }
             Op::Put { level, index, value } => {
                 for memory in [&mut self.memory, &mut self.right] {
                     memory.levels[level as usize - 1][index as usize] = value;
                 }
             }
             _ => {
-                let before = self.record;
+                let before = (self.record, self.own);
                 let answer = self.answer(op)?;
-                if !(matches!(op, Op::Capture { .. } | Op::Append(_)) && answer.is_ok()) {
-                    self.same("record", before, self.record);
+                let changes =
+                    matches!(op, Op::Capture { .. } | Op::Append(_) | Op::Start(_) | Op::Push(_));
+                if !(changes && answer.is_ok()) {
+                    self.same("record", before, (self.record, self.own));
                 }
                 self.compare(op.begins());
                 return Some(answer);
@@ -75,6 +82,15 @@ impl Port {
                 }
                 last
             }
+            Op::Start(ref settings) => self.start(settings),
+            Op::Push(ref feed) => {
+                let mut last = Ok(Vec::new());
+                for piece in feed.pieces(self.record[0] as u64) {
+                    last = self.push(&piece);
+                }
+                last
+            }
+            Op::State => self.state(),
             Op::Run => self.run(),
             Op::Get(i) => {
                 let mut value = 0xA5C3;
@@ -131,6 +147,9 @@ impl Port {
         let mut record = self.record;
         let code = port::start(channels as usize, capacity as usize, self.lent(), &mut record);
         self.kept(code, "record", self.record, record);
+        if code == 0 {
+            self.recording = None;
+        }
         self.record = record;
         said(code, || vec![record[0] as u64])
     }
@@ -138,7 +157,7 @@ impl Port {
     fn append(&mut self, bytes: &[u8]) -> Answer {
         let [unit, _, len, ..] = self.record;
         let mut record = self.record;
-        let code = port::append(&mut record, self.memory.lent_mut(&self.lent), bytes);
+        let code = port::append(&mut record, self.memory.lent_mut(&self.lent).0, bytes);
         self.kept(code, "record", self.record, record);
         if code == 0 {
             self.right.append(unit, len, bytes);
@@ -166,7 +185,8 @@ impl Port {
         }
         let digest = digest(all.into_iter().map(u64::from));
         let mark = if marked == 0 { 0 } else { mark };
-        Ok(vec![len as u64, (marked != 0) as u64, mark as u64, 0, digest])
+        let armed = self.recording.is_some() && self.waits();
+        Ok(vec![len as u64, (marked != 0) as u64, mark as u64, armed as u64, digest])
     }
 
     fn samples(&mut self, start: u64, count: u64, output: u64) -> Answer {
@@ -233,7 +253,7 @@ impl Port {
     }
 
     fn lent(&self) -> port::Lent<'_> {
-        let Memory { samples, levels } = &self.memory;
+        let Memory { samples, levels, .. } = &self.memory;
         let [a, b, c, d] = self.lent.levels.map(|n| n as usize);
         let [l1, l2, l3, l4] = levels;
         let levels = [&l1[..a], &l2[..b], &l3[..c], &l4[..d]];
@@ -271,7 +291,10 @@ impl Port {
             let end = self.lent.levels[l] as usize + GUARD;
             self.memory.levels[l][..end] == self.right.levels[l][..end]
         };
-        let same = self.memory.samples[..bytes] == self.right.samples[..bytes] && (0..4).all(level);
+        let ring = self.lent.ring as usize + GUARD;
+        let same = self.memory.samples[..bytes] == self.right.samples[..bytes]
+            && self.memory.ring[..ring] == self.right.ring[..ring]
+            && (0..4).all(level);
         self.note(same);
     }
 
@@ -303,78 +326,4 @@ fn found<const N: usize>(code: u32, values: [u64; N]) -> Answer {
 fn patterned(room: usize) -> (Vec<u16>, Vec<u16>) {
     let output: Vec<u16> = (0..room + GUARD).map(|i| pattern(i) as u16 ^ 0x5A00).collect();
     (output.clone(), output)
-}
-
-fn pattern(i: usize) -> u8 {
-    (i.wrapping_mul(0x9E37_79B9) >> 13) as u8 ^ 0xC3
-}
-
-impl Memory {
-    /// At least as much as is lent, and the guards.
-    fn make(&mut self, lent: &Lent) {
-        let from = self.samples.len();
-        self.samples.extend((from..lent.samples as usize + GUARD).map(pattern));
-        for (level, &length) in self.levels.iter_mut().zip(&lent.levels) {
-            let from = level.len();
-            let number = |i| pattern(i) as u16 | 0x3900;
-            level.extend((from..length as usize + GUARD).map(number));
-        }
-    }
-
-    fn lent_mut(&mut self, lent: &Lent) -> LentMut<'_> {
-        let [a, b, c, d] = lent.levels.map(|n| n as usize);
-        let [l1, l2, l3, l4] = &mut self.levels;
-        let levels = [&mut l1[..a], &mut l2[..b], &mut l3[..c], &mut l4[..d]];
-        LentMut { samples: &mut self.samples[..lent.samples as usize], levels }
-    }
-
-    /// Document 01's append, node by node from the level below.
-    fn append(&mut self, unit: usize, len: usize, bytes: &[u8]) {
-        let end = len + bytes.len() / unit;
-        self.samples[len * unit..end * unit].copy_from_slice(&bytes[..(end - len) * unit]);
-        if end == len {
-            return;
-        }
-        let mut span = 1;
-        for level in 0..4 {
-            let below = (end - 1) / span + 1;
-            span *= 32;
-            for node in len / span..=(end - 1) / span {
-                let parts = node * 32..below.min(node * 32 + 32);
-                let made = parts.map(|part| self.node(unit, level, part)).reduce(join);
-                let made = made.expect("a touched node covers a sample");
-                self.levels[level][3 * node..3 * node + 3].copy_from_slice(&made);
-            }
-        }
-    }
-
-    /// First, last and toggles of a node; at level 0 of a sample.
-    fn node(&self, unit: usize, level: usize, number: usize) -> [u16; 3] {
-        if level > 0 {
-            let at = &self.levels[level - 1][3 * number..];
-            return [at[0], at[1], at[2]];
-        }
-        let at = &self.samples[number * unit..];
-        let sample = if unit == 1 { at[0] as u16 } else { u16::from_le_bytes([at[0], at[1]]) };
-        [sample, sample, 0]
-    }
-
-    fn first_difference(&self, right: &Memory) -> String {
-        let place = (0..self.samples.len()).find(|&i| self.samples[i] != right.samples[i]);
-        if let Some(i) = place {
-            let (is, should) = (self.samples[i], right.samples[i]);
-            return format!("byte {i} is {is} and should be {should}");
-        }
-        for (level, (is, right)) in self.levels.iter().zip(&right.levels).enumerate() {
-            if let Some(i) = (0..is.len()).find(|&i| is[i] != right[i]) {
-                let level = level + 1;
-                return format!("level {level}, {i} is {} and should be {}", is[i], right[i]);
-            }
-        }
-        "nowhere".into()
-    }
-}
-
-fn join(a: [u16; 3], b: [u16; 3]) -> [u16; 3] {
-    [a[0], b[1], a[2] | b[2] | (a[1] ^ b[0])]
 }

@@ -44,7 +44,9 @@ pub fn file_name(group: &str) -> String {
 }
 
 pub fn path(group: &str) -> PathBuf {
-    PathBuf::from(env!("CARGO_MANIFEST_DIR")).join("../../crates/replay/data").join(file_name(group))
+    PathBuf::from(env!("CARGO_MANIFEST_DIR"))
+        .join("../../crates/replay/data")
+        .join(file_name(group))
 }
 
 pub fn write() -> bool {

@@ -9,7 +9,7 @@ macro_rules! calls {
         }
         #[cfg(not(linked))]
         mod missing {
-            use super::Record;
+            use super::{Feeder, Record};
             $(pub unsafe fn $name($(_: $type),*) -> $result {
                 unreachable!("the port isn't linked")
             })*
@@ -20,7 +20,7 @@ macro_rules! calls {
 #[cfg(not(linked))]
 pub use missing::*;
 
-use crate::Record;
+use crate::{Feeder, Record};
 
 /// Declares a question: the record and the lent memory, then its own arguments.
 macro_rules! questions {
@@ -40,6 +40,21 @@ macro_rules! questions {
                 l1: *mut u16, l1_len: usize, l2: *mut u16, l2_len: usize,
                 l3: *mut u16, l3_len: usize, l4: *mut u16, l4_len: usize,
                 bytes: *const u8, bytes_len: usize,
+            ) -> u32;
+            lc_feeder_start(
+                channels: usize, capacity: usize, limit: usize,
+                terms: *const u8, terms_len: usize, seconds: bool, wish: f64, rate: usize,
+                samples: *const u8, samples_len: usize,
+                l1: *const u16, l1_len: usize, l2: *const u16, l2_len: usize,
+                l3: *const u16, l3_len: usize, l4: *const u16, l4_len: usize,
+                ring: *const u8, ring_len: usize, record: *mut Feeder, cut: *mut usize,
+            ) -> u32;
+            lc_push(
+                record: *mut Feeder,
+                samples: *mut u8, samples_len: usize,
+                l1: *mut u16, l1_len: usize, l2: *mut u16, l2_len: usize,
+                l3: *mut u16, l3_len: usize, l4: *mut u16, l4_len: usize,
+                ring: *mut u8, ring_len: usize, bytes: *const u8, bytes_len: usize,
             ) -> u32;
             $($name(
                 record: *const Record,

@@ -5,11 +5,14 @@ mod calls;
 /// Whether the static library is there. Without it no function here may be called.
 pub const LINKED: bool = cfg!(linked);
 
-/// What a call says when it finds nothing, and of levels that are not whole.
+/// What a call says when it finds nothing, of levels that are not whole, and of a recording that is complete.
 pub const NONE: u32 = 100;
 
 /// unit, capacity, len, whether there is a mark, the mark
 pub type Record = [usize; 5];
+
+/// A recorder's: its capture's five, limit, pre, waiting, the five masks, known, previous, ring place, kept
+pub type Feeder = [usize; 17];
 
 /// Lent memory: sample bytes, and the numbers of the levels 1 to 4.
 #[derive(Clone, Copy)]
@@ -48,6 +51,47 @@ macro_rules! lent {
 #[inline]
 pub fn start(channels: usize, capacity: usize, lent: Lent, record: &mut Record) -> u32 {
     lent!(lc_start, (channels, capacity), lent, as_ptr, (record))
+}
+
+/// What a recorder is started with. Terms are two bytes each: line and condition.
+#[derive(Clone, Copy)]
+pub struct Settings<'a> {
+    pub channels: usize,
+    pub capacity: usize,
+    pub limit: usize,
+    pub terms: &'a [u8],
+    pub seconds: bool,
+    pub wish: f64,
+    pub rate: usize,
+}
+
+#[inline]
+pub fn feeder_start(
+    settings: Settings,
+    lent: Lent,
+    ring: &[u8],
+    feeder: &mut Feeder,
+    cut: &mut usize,
+) -> u32 {
+    let Settings { channels, capacity, limit, terms, seconds, wish, rate } = settings;
+    lent!(
+        lc_feeder_start,
+        (channels, capacity, limit, terms.as_ptr(), terms.len(), seconds, wish, rate),
+        lent,
+        as_ptr,
+        (ring.as_ptr(), ring.len(), feeder, cut)
+    )
+}
+
+#[inline]
+pub fn push(feeder: &mut Feeder, lent: LentMut, ring: &mut [u8], bytes: &[u8]) -> u32 {
+    lent!(
+        lc_push,
+        (feeder),
+        lent,
+        as_mut_ptr,
+        (ring.as_mut_ptr(), ring.len(), bytes.as_ptr(), bytes.len())
+    )
 }
 
 #[inline]

@@ -1,12 +1,12 @@
 -- The chosen lines of a run answer what the run answers, cut down; a mask within them sees no difference.
-use mathlib.Core.Path.{_≡_, refl, sym, ap, ap₂, _∙_, fun-ext}
+use mathlib.Core.Path.{_≡_, refl, ap, ap₂, _∙_, fun-ext}
 use mathlib.Core.Bool.{Bool, true, false, cond, not}
 use mathlib.Core.List.{List, _∷_}
 use mathlib.Core.Option.{Option, none, some}
 use Prim.Native.Nat.{ℕ, zero, suc, _+_, _-_, min}
-use lib.Bits.{bitAnd, and-comm}
+use lib.Bits.{and-comm}
 use lib.Dec.{ltb, eqb}
-use Rattle.rules.specs.Node.{Node, nodeOf, cut}
+use Rattle.rules.specs.Node.{Node, nodeOf}
 use Rattle.rules.specs.Search.{changed, seek, up, down, next, previous, summary}
 use Rattle.rules.specs.Burst.{burst, burstBy}
 use Rattle.rules.specs.Pixel.{View, Range, pixelRange, shown, rowBy, render}

@@ -1,9 +1,8 @@
 -- Laws of jumps: what a loop that makes them knows, at either end, and that there are never more than the budget.
 use Prim.Native.Nat.{ℕ, zero, suc, _+_, _-_, _≤_, _<_}
-use mathlib.Core.Path.{_≡_, refl, sym, ap, ap₂, _∙_}
+use mathlib.Core.Path.{_≡_, sym, ap, ap₂, _∙_}
 use mathlib.Core.Bool.{Bool, true, false, cond}
 use mathlib.Core.Option.{Option, none, some}
-use native.Mathlib.Nat.{le-refl}
 use native.Mathlib.Numerals.{add-one}
 use native.Mathlib.Omega.{arith}
 use Rattle.rules.specs.Burst.{End, jump, jumped}
@@ -56,12 +55,11 @@ module _ (reach : ℕ → Option ℕ) (further : ℕ → ℕ → Bool) (budget s
         spent : budget - n ≡ 0
         spent = omega arith
 
--- "each equal to the definition's jumps and at most budget"
 module _ (reach : ℕ → Option ℕ) (further : ℕ → ℕ → Bool) where
-  pub jumps-most : (budget p n : ℕ) → jump reach further budget p n .jumps ≤ n + budget
+  jumps-more : (budget p n : ℕ) → jump reach further budget p n .jumps ≤ n + budget
   unfolding jump
-  jumps-most zero p n = omega arith
-  jumps-most (suc budget) p n = go (reach p) (λ e. jumps-most budget e (suc n))
+  jumps-more zero p n = omega arith
+  jumps-more (suc budget) p n = go (reach p) (λ e. jumps-more budget e (suc n))
     where
       go : (o : Option ℕ) → ((e : ℕ) → jump reach further budget e (suc n) .jumps ≤ suc n + budget) → jumped further p n o (λ (e : ℕ). jump reach further budget e (suc n)) .jumps ≤ n + suc budget
       go none ih = omega arith
@@ -70,3 +68,6 @@ module _ (reach : ℕ → Option ℕ) (further : ℕ → ℕ → Bool) where
           by : (b : Bool) → jump reach further budget e (suc n) .jumps ≤ suc n + budget → cond b (jump reach further budget e (suc n)) (record { place = p; jumps = n }) .jumps ≤ n + suc budget
           by true h = omega arith
           by false h = omega arith
+
+  pub jumps-most : (budget p : ℕ) → jump reach further budget p 0 .jumps ≤ budget
+  jumps-most budget p = omega (arith, jumps-more budget p 0)

@@ -1,6 +1,6 @@
 pub mod Answers
+pub mod Grown
 pub mod Jumps
 pub mod Pairs
 pub mod Rows
-pub mod Searches
 pub mod Sides

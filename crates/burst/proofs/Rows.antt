@@ -3,6 +3,7 @@ use Prim.Native.Nat.{ℕ}
 use mathlib.Core.Path.{_≡_, _∙_}
 use mathlib.Core.List.{List}
 use mathlib.Core.Option.{Option}
+use native.Mathlib.Omega.{arith}
 use lib.ListN.{length}
 use Rattle.rules.specs.Answer.{refused, given}
 use Rattle.rules.specs.Burst.{Burst, burstBy}
@@ -11,18 +12,19 @@ use Rattle.node.specs.Memory.{levelOf}
 use Rattle.capture.specs.declared.Capture.{Capture}
 use Rattle.capture.specs.Record.{storeOf, lentNumbers}
 use Rattle.capture.proofs.Answer.{refused-is, given-is, rows-are}
-use Rattle.burst.specs.Answer.{back, fore, Passed, burstOf}
+use Rattle.search.proofs.Asked.{asked-stored}
+use Rattle.burst.specs.Answer.{back, fore, Filled, burstOf}
 
 module _ (c : Capture) (samples l1 l2 l3 l4 : List ℕ) (number : ℕ) (is : number ≡ storeRefusal (storeOf c) (lentNumbers (length samples) (length l1) (length l2) (length l3) (length l4))) where
   abbrev levels : ℕ → List ℕ
   levels = levelOf l1 l2 l3 l4
 
-  pub passed : number ≡ 0 → Passed c samples levels
-  passed z = record { none-refused = rows-are (storeOf c) samples l1 l2 l3 l4 number is ∙ z }
+  pub filled : number ≡ 0 → (c .len ≡ 0 → ⊥) → Filled (c .unitsize) (c .len) samples levels
+  filled z h = record { stored = asked-stored c samples l1 l2 l3 l4 number is z; some-stored = omega arith }
 
   module _ (mask sample gap tolerance budget : ℕ) where
     abbrev burst-in : Option Burst
-    burst-in = burstBy (back c samples levels mask) (fore c samples levels mask) (c .len) sample gap tolerance budget
+    burst-in = burstBy (back (c .unitsize) (c .len) samples levels mask) (fore (c .unitsize) (c .len) samples levels mask) (c .len) sample gap tolerance budget
 
     pub burst-refused : (number ≡ 0 → ⊥) → refused number ≡ burstOf c samples levels mask sample gap tolerance budget
     unfolding burstOf
@@ -30,4 +32,4 @@ module _ (c : Capture) (samples l1 l2 l3 l4 : List ℕ) (number : ℕ) (is : num
 
     pub burst-given : number ≡ 0 → (b : Option Burst) → b ≡ burst-in → given b ≡ burstOf c samples levels mask sample gap tolerance budget
     unfolding burstOf
-    burst-given z b e = given-is burst-in _ b (passed z .none-refused) e
+    burst-given z b e = given-is burst-in _ b (rows-are (storeOf c) samples l1 l2 l3 l4 number is ∙ z) e

@@ -12,11 +12,15 @@ pub record SideBy (distance tolerance : ℕ) (side : ℕ → Option Side) (with 
   pub alone : none ≡ with none
   pub beyond : (q : ℕ) → cond (leb distance tolerance) (side q) none ≡ with (some q)
 
-pub left-is : (gap tolerance sample p : ℕ) → SideBy (sample - p) tolerance (λ (q : ℕ). sideIf (ltb (p - q) gap) (record { distance = sample - p; first = q; last = p })) (leftWith gap tolerance sample p)
-left-is gap tolerance sample p = record { alone = refl; beyond = λ q. refl }
+module _ (gap tolerance sample d : ℕ) where
+  abbrev sideAt : ℕ → ℕ → ℕ → Option Side
+  sideAt distance first last = sideIf (ltb (last - first) gap) (record { distance = distance; first = first; last = last })
 
-pub right-is : (gap tolerance sample n : ℕ) → SideBy (n - sample) tolerance (λ (r : ℕ). sideIf (ltb (r - n) gap) (record { distance = n - sample; first = n; last = r })) (rightWith gap tolerance sample n)
-right-is gap tolerance sample n = record { alone = refl; beyond = λ r. refl }
+  pub left-is : (p : ℕ) → d ≡ sample - p → SideBy d tolerance (λ (q : ℕ). sideAt d q p) (leftWith gap tolerance sample p)
+  left-is p e = record { alone = refl; beyond = λ q. ap (λ (x : ℕ). cond (leb x tolerance) (sideAt x q p) none) e }
+
+  pub right-is : (n : ℕ) → d ≡ n - sample → SideBy d tolerance (λ (r : ℕ). sideAt d n r) (rightWith gap tolerance sample n)
+  right-is n e = record { alone = refl; beyond = λ r. ap (λ (x : ℕ). cond (leb x tolerance) (sideAt x n r) none) e }
 
 module _ {distance tolerance : ℕ} {side : ℕ → Option Side} {with : Option ℕ → Option Side} (s : SideBy distance tolerance side with) where
   pub side-far : (o : Option ℕ) → tolerance < distance → none ≡ with o

@@ -1,9 +1,8 @@
 -- What burst_at answers, over the nodes that memory holds. 01: Burst and render.
-use mathlib.Core.Path.{_≡_}
 use mathlib.Core.Bool.{Bool, true, false}
 use mathlib.Core.List.{List}
 use mathlib.Core.Option.{Option, none, some}
-use Prim.Native.Nat.{ℕ, _-_, _≤_, _<_}
+use Prim.Native.Nat.{ℕ, _-_, _<_}
 use lib.Dec.{ltb}
 use Rattle.rules.specs.Answer.{Answer, refused, given, unless}
 use Rattle.rules.specs.Burst as rule
@@ -12,6 +11,7 @@ use Rattle.rules.specs.Walk.{nextWalk, previousWalk, allLevels}
 use Rattle.node.specs.Memory.{readerOf}
 use Rattle.capture.specs.declared.Capture.{Capture}
 use Rattle.capture.specs.Record.{storeOf, lentOf}
+use Rattle.search.specs.Part.{Stored}
 use Rattle.burst.specs.declared.Burst.{Burst}
 use Rattle.burst.specs.declared.Bursts.{Bursts}
 use Rattle.burst.specs.declared.Bursts.the-variants as bursts
@@ -38,11 +38,11 @@ sideAs side.Nothing = none
 sideAs (side.Pair d f l) = some (record { distance = d; first = f; last = l })
 
 -- the two searches of a burst, as memory answers them
-abbrev pub back : Capture → List ℕ → (ℕ → List ℕ) → ℕ → ℕ → Option ℕ
-back c samples levels mask from = previousWalk allLevels (readerOf (c .unitsize) samples levels) (c .len) mask from .found
+abbrev pub back : ℕ → ℕ → List ℕ → (ℕ → List ℕ) → ℕ → ℕ → Option ℕ
+back unit len samples levels mask from = previousWalk allLevels (readerOf unit samples levels) len mask from .found
 
-abbrev pub fore : Capture → List ℕ → (ℕ → List ℕ) → ℕ → ℕ → Option ℕ
-fore c samples levels mask from = nextWalk allLevels (readerOf (c .unitsize) samples levels) (c .len) mask from .found
+abbrev pub fore : ℕ → ℕ → List ℕ → (ℕ → List ℕ) → ℕ → ℕ → Option ℕ
+fore unit len samples levels mask from = nextWalk allLevels (readerOf unit samples levels) len mask from .found
 
 -- a call's place, if it gives one
 abbrev pub placeOf : Answer (Option ℕ) → Option ℕ
@@ -58,20 +58,17 @@ abbrev pub furtherOf : Bool → ℕ → ℕ → Bool
 furtherOf true p e = ltb e p
 furtherOf false p e = ltb p e
 
--- rows 1 and 2 do not refuse
-pub record Passed (c : Capture) (samples : List ℕ) (levels : ℕ → List ℕ) : Type 0 where
-  pub none-refused : storeRefusal (storeOf c) (lentOf samples levels) ≡ 0
+-- "if both exist and n − p < max_gap, the pair is (p,n)"
+abbrev pub between : ℕ → Option ℕ → Option ℕ → Option rule.Side
+between gap none n = none
+between gap (some p) none = none
+between gap (some p) (some n) = rule.sideIf (ltb (n - p) gap) (record { distance = 0; first = p; last = n })
 
--- what a search found, and where that lies
-pub record Behind (search : ℕ → Option ℕ) (from : ℕ) (found : Option ℕ) : Type 0 where
-  pub is : found ≡ search from
-  pub low : (i : ℕ) → found ≡ some i → 1 ≤ i
-  pub high : (i : ℕ) → found ≡ some i → i ≤ from
-
-pub record Ahead (search : ℕ → Option ℕ) (from : ℕ) (found : Option ℕ) : Type 0 where
-  pub is : found ≡ search from
-  pub above : (i : ℕ) → found ≡ some i → from < i
+-- a capture of at least one sample lies in memory
+pub record Filled (unit len : ℕ) (samples : List ℕ) (levels : ℕ → List ℕ) : Type 0 where
+  pub stored : Stored unit len samples levels
+  pub some-stored : 0 < len
 
 unfoldable pub burstOf : Capture → List ℕ → (ℕ → List ℕ) → ℕ → ℕ → ℕ → ℕ → ℕ → Answer (Option rule.Burst)
 burstOf c samples levels mask sample gap tolerance budget =
-    unless (storeRefusal (storeOf c) (lentOf samples levels)) (rule.burstBy (back c samples levels mask) (fore c samples levels mask) (c .len) sample gap tolerance budget)
+    unless (storeRefusal (storeOf c) (lentOf samples levels)) (rule.burstBy (back (c .unitsize) (c .len) samples levels mask) (fore (c .unitsize) (c .len) samples levels mask) (c .len) sample gap tolerance budget)

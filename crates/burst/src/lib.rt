@@ -2,15 +2,15 @@
 use capture::Capture;
 use lines::Mask;
 use search::Found;
-use search::next_change;
-use search::prev_change;
+use search::next_from;
+use search::prev_from;
 ghost use mathlib.Core.Path.{_≡_};
-ghost use Prim.Native.Nat.{_-_, _≤_, _<_, min};
+ghost use Prim.Native.Nat.{_-_, _≤_, min};
 ghost use lib.Dec.{ltb};
-ghost use Rattle.rules.specs.Burst.{sum, jump, sideIf, nearer, leftWith, rightWith, pairOf};
+ghost use Rattle.rules.specs.Burst.{sum, jump, sideIf, nearer, leftOf, rightOf, pairOf};
 ghost use Rattle.node.specs.Memory.{levelOf};
 ghost use Rattle.search.specs.Answer.{foundOf};
-ghost use Rattle.burst.specs.Answer.{burstAs, burstOf, placeOf, changeAs, endAs, sideAs, back, fore, reachOf, furtherOf, Passed, Behind, Ahead};
+ghost use Rattle.burst.specs.Answer.{burstAs, burstOf, placeOf, changeAs, endAs, sideAs, back, fore, reachOf, furtherOf, between, Filled};
 
 // The first and last change of a burst, and the jumps made at its end and at its start.
 pub struct Burst {
@@ -61,13 +61,14 @@ fn least(a: usize, b: usize) -> usize
     if a < b { a } else { b }
 }
 
+// 0 where b is more, as in the definitions.
 fn less(a: usize, b: usize) -> usize
     ensures { λ r. ⌜ r ≡ a - b ⌝ }
 {
     if a < b { 0 } else { a - b }
 }
 
-// What a search of a store that is not refused finds.
+// The place of an answer that is no refusal.
 fn change_of(found: Found) -> Change
     ensures { λ r. ⌜ changeAs r ≡ placeOf (foundOf found) ⌝ }
 {
@@ -78,60 +79,69 @@ fn change_of(found: Found) -> Change
     }
 }
 
-// The previous change, of a store that is not refused.
+// The previous change.
 fn previous<'a>(
-    c: Capture,
     samples: &[u8],
     l1: &'a [Mask],
     l2: &'a [Mask],
     l3: &'a [Mask],
     l4: &'a [Mask],
+    unitsize: usize,
+    len: usize,
     mask: Mask,
     from: usize,
 ) -> Change
-    requires { ⌜ Passed c (now samples) (levelOf (now l1) (now l2) (now l3) (now l4)) ⌝ }
-    ensures { λ r. ⌜ Behind (back c (now (samples .entry)) (levelOf (now (l1 .entry)) (now (l2 .entry)) (now (l3 .entry)) (now (l4 .entry))) mask) from (changeAs r) ⌝ }
+    requires { ⌜ Filled unitsize len (now samples) (levelOf (now l1) (now l2) (now l3) (now l4)) ⌝ }
+    ensures { λ r. ⌜ changeAs r ≡ back unitsize len (now (samples .entry)) (levelOf (now (l1 .entry)) (now (l2 .entry)) (now (l3 .entry)) (now (l4 .entry))) mask from ⌝ }
 {
-    change_of(prev_change(c, samples, l1, l2, l3, l4, mask, from))
+    let start = least(from, len - 1);
+    change_of(prev_from(samples, l1, l2, l3, l4, unitsize, len, mask, start))
 }
 
 // The next change.
 fn next<'a>(
-    c: Capture,
     samples: &[u8],
     l1: &'a [Mask],
     l2: &'a [Mask],
     l3: &'a [Mask],
     l4: &'a [Mask],
+    unitsize: usize,
+    len: usize,
     mask: Mask,
     from: usize,
 ) -> Change
-    requires { ⌜ Passed c (now samples) (levelOf (now l1) (now l2) (now l3) (now l4)) ⌝ }
-    ensures { λ r. ⌜ Ahead (fore c (now (samples .entry)) (levelOf (now (l1 .entry)) (now (l2 .entry)) (now (l3 .entry)) (now (l4 .entry))) mask) from (changeAs r) ⌝ }
+    requires { ⌜ Filled unitsize len (now samples) (levelOf (now l1) (now l2) (now l3) (now l4)) ⌝ }
+    ensures { λ r. ⌜ changeAs r ≡ fore unitsize len (now (samples .entry)) (levelOf (now (l1 .entry)) (now (l2 .entry)) (now (l3 .entry)) (now (l4 .entry))) mask from ⌝ }
 {
-    change_of(next_change(c, samples, l1, l2, l3, l4, mask, from))
+    if len - 1 <= from {
+        return Change::Nothing;
+    }
+    change_of(next_from(samples, l1, l2, l3, l4, unitsize, len, mask, from))
 }
 
 // What an end may jump to: the furthest change within the gap, or at the start the earliest.
 fn reach<'a>(
-    c: Capture,
     samples: &[u8],
     l1: &'a [Mask],
     l2: &'a [Mask],
     l3: &'a [Mask],
     l4: &'a [Mask],
+    unitsize: usize,
+    len: usize,
     mask: Mask,
     gap: usize,
     start: bool,
     place: usize,
 ) -> Change
-    requires { ⌜ Passed c (now samples) (levelOf (now l1) (now l2) (now l3) (now l4)) × (2 ≤ gap) ⌝ }
-    ensures { λ r. ⌜ changeAs r ≡ reachOf (back c (now (samples .entry)) (levelOf (now (l1 .entry)) (now (l2 .entry)) (now (l3 .entry)) (now (l4 .entry))) mask) (fore c (now (samples .entry)) (levelOf (now (l1 .entry)) (now (l2 .entry)) (now (l3 .entry)) (now (l4 .entry))) mask) gap start place ⌝ }
+    requires { ⌜ Filled unitsize len (now samples) (levelOf (now l1) (now l2) (now l3) (now l4)) × (2 ≤ gap) ⌝ }
+    ensures { λ r. ⌜ changeAs r ≡ reachOf (back unitsize len (now (samples .entry)) (levelOf (now (l1 .entry)) (now (l2 .entry)) (now (l3 .entry)) (now (l4 .entry))) mask) (fore unitsize len (now (samples .entry)) (levelOf (now (l1 .entry)) (now (l2 .entry)) (now (l3 .entry)) (now (l4 .entry))) mask) gap start place ⌝ }
 {
     if start {
-        return next(c, samples, l1, l2, l3, l4, mask, less(place, gap));
+        let from = less(place, gap);
+        return next(samples, l1, l2, l3, l4, unitsize, len, mask, from);
     }
-    previous(c, samples, l1, l2, l3, l4, mask, sum_of(place, gap - 1))
+    let to = sum_of(place, gap - 1);
+    previous(samples, l1, l2, l3, l4, unitsize, len, mask, to)
 }
 
 // Whether e lies further out than an end.
@@ -143,25 +153,38 @@ fn further(start: bool, place: usize, e: usize) -> bool
 
 // The last change of a burst, or its first: jumps from a place, at most as many as the budget.
 fn end_of<'a>(
-    c: Capture,
     samples: &[u8],
     l1: &'a [Mask],
     l2: &'a [Mask],
     l3: &'a [Mask],
     l4: &'a [Mask],
+    unitsize: usize,
+    len: usize,
     mask: Mask,
     gap: usize,
     budget: usize,
     start: bool,
     from: usize,
 ) -> End
-    requires { ⌜ Passed c (now samples) (levelOf (now l1) (now l2) (now l3) (now l4)) × (2 ≤ gap) ⌝ }
-    ensures { λ r. ⌜ endAs r ≡ jump (reachOf (back c (now (samples .entry)) (levelOf (now (l1 .entry)) (now (l2 .entry)) (now (l3 .entry)) (now (l4 .entry))) mask) (fore c (now (samples .entry)) (levelOf (now (l1 .entry)) (now (l2 .entry)) (now (l3 .entry)) (now (l4 .entry))) mask) gap start) (furtherOf start) budget from 0 ⌝ }
+    requires { ⌜ Filled unitsize len (now samples) (levelOf (now l1) (now l2) (now l3) (now l4)) × (2 ≤ gap) ⌝ }
+    ensures { λ r. ⌜ endAs r ≡ jump (reachOf (back unitsize len (now (samples .entry)) (levelOf (now (l1 .entry)) (now (l2 .entry)) (now (l3 .entry)) (now (l4 .entry))) mask) (fore unitsize len (now (samples .entry)) (levelOf (now (l1 .entry)) (now (l2 .entry)) (now (l3 .entry)) (now (l4 .entry))) mask) gap start) (furtherOf start) budget from 0 ⌝ }
 {
     let mut place = from;
     let mut jumps = 0;
     while jumps < budget {
-        let change = reach(c, samples, l1, l2, l3, l4, mask, gap, start, place);
+        let change = reach(
+            samples,
+            l1,
+            l2,
+            l3,
+            l4,
+            unitsize,
+            len,
+            mask,
+            gap,
+            start,
+            place,
+        );
         let Change::At(e) = change else {
             return End { place, jumps };
         };
@@ -176,67 +199,90 @@ fn end_of<'a>(
 
 // Two neighbouring changes as a side, if their gap is below the bound.
 fn side_of(gap: usize, distance: usize, first: usize, last: usize) -> Side
-    requires { ⌜ first ≤ last ⌝ }
     ensures { λ r. ⌜ sideAs r ≡ sideIf (ltb (last - first) gap) (record { distance = distance; first = first; last = last }) ⌝ }
 {
-    if last - first < gap {
+    if less(last, first) < gap {
         return Side::Pair(distance, first, last);
     }
     Side::Nothing
 }
 
-// The previous change p of the place asked, and the change before it.
+// The change before the place asked and the one after it, if their gap is below the bound.
+fn between(gap: usize, before: Change, after: Change) -> Side
+    ensures { λ r. ⌜ sideAs r ≡ between gap (changeAs before) (changeAs after) ⌝ }
+{
+    let Change::At(p) = before else {
+        return Side::Nothing;
+    };
+    let Change::At(n) = after else {
+        return Side::Nothing;
+    };
+    side_of(gap, 0, p, n)
+}
+
+// The change before the place asked, and the change before that.
 fn left_side<'a>(
-    c: Capture,
     samples: &[u8],
     l1: &'a [Mask],
     l2: &'a [Mask],
     l3: &'a [Mask],
     l4: &'a [Mask],
+    unitsize: usize,
+    len: usize,
     mask: Mask,
     gap: usize,
     tolerance: usize,
     sample: usize,
-    p: usize,
+    before: Change,
 ) -> Side
-    requires { ⌜ Passed c (now samples) (levelOf (now l1) (now l2) (now l3) (now l4)) × (1 ≤ p) × (p ≤ sample) ⌝ }
-    ensures { λ r. ⌜ sideAs r ≡ leftWith gap tolerance sample p ((back c (now (samples .entry)) (levelOf (now (l1 .entry)) (now (l2 .entry)) (now (l3 .entry)) (now (l4 .entry))) mask) (p - 1)) ⌝ }
+    requires { ⌜ Filled unitsize len (now samples) (levelOf (now l1) (now l2) (now l3) (now l4)) ⌝ }
+    ensures { λ r. ⌜ sideAs r ≡ leftOf (back unitsize len (now (samples .entry)) (levelOf (now (l1 .entry)) (now (l2 .entry)) (now (l3 .entry)) (now (l4 .entry))) mask) (fore unitsize len (now (samples .entry)) (levelOf (now (l1 .entry)) (now (l2 .entry)) (now (l3 .entry)) (now (l4 .entry))) mask) gap tolerance sample (changeAs before) ⌝ }
 {
-    if tolerance < sample - p {
+    let Change::At(p) = before else {
+        return Side::Nothing;
+    };
+    let distance = less(sample, p);
+    if tolerance < distance {
         return Side::Nothing;
     }
-    let change = previous(c, samples, l1, l2, l3, l4, mask, p - 1);
+    let from = less(p, 1);
+    let change = previous(samples, l1, l2, l3, l4, unitsize, len, mask, from);
     let Change::At(q) = change else {
         return Side::Nothing;
     };
-    side_of(gap, sample - p, q, p)
+    side_of(gap, distance, q, p)
 }
 
-// The next change n of the place asked, and the change after it.
+// The change after the place asked, and the change after that.
 fn right_side<'a>(
-    c: Capture,
     samples: &[u8],
     l1: &'a [Mask],
     l2: &'a [Mask],
     l3: &'a [Mask],
     l4: &'a [Mask],
+    unitsize: usize,
+    len: usize,
     mask: Mask,
     gap: usize,
     tolerance: usize,
     sample: usize,
-    n: usize,
+    after: Change,
 ) -> Side
-    requires { ⌜ Passed c (now samples) (levelOf (now l1) (now l2) (now l3) (now l4)) × (sample < n) ⌝ }
-    ensures { λ r. ⌜ sideAs r ≡ rightWith gap tolerance sample n ((fore c (now (samples .entry)) (levelOf (now (l1 .entry)) (now (l2 .entry)) (now (l3 .entry)) (now (l4 .entry))) mask) n) ⌝ }
+    requires { ⌜ Filled unitsize len (now samples) (levelOf (now l1) (now l2) (now l3) (now l4)) ⌝ }
+    ensures { λ r. ⌜ sideAs r ≡ rightOf (back unitsize len (now (samples .entry)) (levelOf (now (l1 .entry)) (now (l2 .entry)) (now (l3 .entry)) (now (l4 .entry))) mask) (fore unitsize len (now (samples .entry)) (levelOf (now (l1 .entry)) (now (l2 .entry)) (now (l3 .entry)) (now (l4 .entry))) mask) gap tolerance sample (changeAs after) ⌝ }
 {
-    if tolerance < n - sample {
+    let Change::At(n) = after else {
+        return Side::Nothing;
+    };
+    let distance = less(n, sample);
+    if tolerance < distance {
         return Side::Nothing;
     }
-    let change = next(c, samples, l1, l2, l3, l4, mask, n);
+    let change = next(samples, l1, l2, l3, l4, unitsize, len, mask, n);
     let Change::At(r) = change else {
         return Side::Nothing;
     };
-    side_of(gap, n - sample, n, r)
+    side_of(gap, distance, n, r)
 }
 
 // The nearer side, left at equal distance.
@@ -259,63 +305,56 @@ fn nearer_of(l: Side, r: Side) -> Side
 
 // The pair of neighbouring changes to grow from.
 fn pair_of<'a>(
-    c: Capture,
     samples: &[u8],
     l1: &'a [Mask],
     l2: &'a [Mask],
     l3: &'a [Mask],
     l4: &'a [Mask],
+    unitsize: usize,
+    len: usize,
     mask: Mask,
     gap: usize,
     tolerance: usize,
     sample: usize,
 ) -> Side
-    requires { ⌜ Passed c (now samples) (levelOf (now l1) (now l2) (now l3) (now l4)) ⌝ }
-    ensures { λ r. ⌜ sideAs r ≡ pairOf (back c (now (samples .entry)) (levelOf (now (l1 .entry)) (now (l2 .entry)) (now (l3 .entry)) (now (l4 .entry))) mask) (fore c (now (samples .entry)) (levelOf (now (l1 .entry)) (now (l2 .entry)) (now (l3 .entry)) (now (l4 .entry))) mask) gap tolerance sample ((back c (now (samples .entry)) (levelOf (now (l1 .entry)) (now (l2 .entry)) (now (l3 .entry)) (now (l4 .entry))) mask) sample) ((fore c (now (samples .entry)) (levelOf (now (l1 .entry)) (now (l2 .entry)) (now (l3 .entry)) (now (l4 .entry))) mask) sample) ⌝ }
+    requires { ⌜ Filled unitsize len (now samples) (levelOf (now l1) (now l2) (now l3) (now l4)) ⌝ }
+    ensures { λ r. ⌜ sideAs r ≡ pairOf (back unitsize len (now (samples .entry)) (levelOf (now (l1 .entry)) (now (l2 .entry)) (now (l3 .entry)) (now (l4 .entry))) mask) (fore unitsize len (now (samples .entry)) (levelOf (now (l1 .entry)) (now (l2 .entry)) (now (l3 .entry)) (now (l4 .entry))) mask) gap tolerance sample ((back unitsize len (now (samples .entry)) (levelOf (now (l1 .entry)) (now (l2 .entry)) (now (l3 .entry)) (now (l4 .entry))) mask) sample) ((fore unitsize len (now (samples .entry)) (levelOf (now (l1 .entry)) (now (l2 .entry)) (now (l3 .entry)) (now (l4 .entry))) mask) sample) ⌝ }
 {
-    let before = previous(c, samples, l1, l2, l3, l4, mask, sample);
-    let after = next(c, samples, l1, l2, l3, l4, mask, sample);
-    match before {
-        Change::Nothing => match after {
-            Change::Nothing => Side::Nothing,
-            Change::At(n) => right_side(
-                c,
-                samples,
-                l1,
-                l2,
-                l3,
-                l4,
-                mask,
-                gap,
-                tolerance,
-                sample,
-                n,
-            ),
-        },
-        Change::At(p) => match after {
-            Change::Nothing => left_side(
-                c,
-                samples,
-                l1,
-                l2,
-                l3,
-                l4,
-                mask,
-                gap,
-                tolerance,
-                sample,
-                p,
-            ),
-            Change::At(n) => {
-                if n - p < gap {
-                    return Side::Pair(0, p, n);
-                }
-                let l = left_side(c, samples, l1, l2, l3, l4, mask, gap, tolerance, sample, p);
-                let r = right_side(c, samples, l1, l2, l3, l4, mask, gap, tolerance, sample, n);
-                nearer_of(l, r)
-            }
-        },
+    let before = previous(samples, l1, l2, l3, l4, unitsize, len, mask, sample);
+    let after = next(samples, l1, l2, l3, l4, unitsize, len, mask, sample);
+    let near = between(gap, before, after);
+    if let Side::Pair(_, _, _) = near {
+        return near;
     }
+    let l = left_side(
+        samples,
+        l1,
+        l2,
+        l3,
+        l4,
+        unitsize,
+        len,
+        mask,
+        gap,
+        tolerance,
+        sample,
+        before,
+    );
+    let r = right_side(
+        samples,
+        l1,
+        l2,
+        l3,
+        l4,
+        unitsize,
+        len,
+        mask,
+        gap,
+        tolerance,
+        sample,
+        after,
+    );
+    nearer_of(l, r)
 }
 
 // 01's burst_at: the burst at a place, none, or 1 or 2. Theorems, in proofs/Answers.antt: burst-right, that on right levels
@@ -339,19 +378,22 @@ pub fn burst_at<'a>(
     if number != 0 {
         return Bursts::Refused(number);
     }
-    if c.len == 0 {
+    let unitsize = c.unitsize;
+    let len = c.len;
+    if len == 0 {
         return Bursts::Nothing;
     }
     if max_gap < 2 {
         return Bursts::Nothing;
     }
     let side = pair_of(
-        c,
         samples,
         l1,
         l2,
         l3,
         l4,
+        unitsize,
+        len,
         mask,
         max_gap,
         least(tolerance, max_gap - 1),
@@ -361,12 +403,13 @@ pub fn burst_at<'a>(
         return Bursts::Nothing;
     };
     let end = end_of(
-        c,
         samples,
         l1,
         l2,
         l3,
         l4,
+        unitsize,
+        len,
         mask,
         max_gap,
         budget,
@@ -374,12 +417,13 @@ pub fn burst_at<'a>(
         last,
     );
     let start = end_of(
-        c,
         samples,
         l1,
         l2,
         l3,
         l4,
+        unitsize,
+        len,
         mask,
         max_gap,
         budget,

@@ -1,2 +1,3 @@
 pub mod Codes
 mod Starts
+mod Told

@@ -27,7 +27,7 @@ ghost use Rattle.logic_core.specs.Record.{captureIn, storeNumbers, lentN
 ghost use Rattle.logic_core.specs.Asked.{neededFor, startedFor, gotFor, summedFor, wrongFor, CopiesOut, AppendsOut, DrawsOut};
 ghost use Rattle.logic_core.specs.Code.{plain, perhaps, fault, Out};
 
-const NONE: u32 = 100;
+pub(crate) const NONE: u32 = 100;
 
 // The record of a capture from its numbers.
 fn capture_in(numbers: &[usize; 5]) -> Capture

@@ -1,13 +1,16 @@
 // The recorder's calls. Its record is lent as 17 numbers, of which the first five are its store's: questions take those.
+use crate::NONE;
 use crate::code;
 use feeder::Pretrigger;
 use feeder::Started;
+use feeder_push::Pushed;
 use lines::Mask;
 ghost use mathlib.Core.Path.{_≡_};
 ghost use mathlib.Core.Bool.{Bool};
 ghost use Rattle.node.specs.Memory.{levelOf};
 ghost use Rattle.logic_core.specs.Code.{plain, Out};
-ghost use Rattle.logic_core.specs.Recorder.{flagNumber, wishIn, begunNumbers, cutNumber, begunFor};
+ghost use Rattle.feeder_numbers.specs.Numbers.{feederFrom};
+ghost use Rattle.logic_core.specs.Recorder.{flagNumber, wishIn, begunNumbers, cutNumber, begunFor, PushesOut};
 
 // Yes or no as a number.
 fn flag(b: bool) -> usize
@@ -66,6 +69,35 @@ pub extern "C" fn lc_feeder_start<'a>(
             feeder_numbers::put_feeder(numbers, f);
             *cut = flag(was_cut);
             0
+        }
+    }
+}
+
+// 01's push: 0 while it goes on, 100 once it is complete. Refuses with 1, 2 and 8.
+#[no_mangle]
+pub extern "C" fn lc_push(
+    numbers: &mut [usize; 17],
+    samples: &mut [u8],
+    l1: &mut [Mask],
+    l2: &mut [Mask],
+    l3: &mut [Mask],
+    l4: &mut [Mask],
+    ring: &mut [u8],
+    bytes: &[u8],
+) -> u32
+    ensures { λ r. ⌜ PushesOut (feederFrom (now (numbers .entry))) (now (bytes .entry)) (now (samples .entry)) (levelOf (now (l1 .entry)) (now (l2 .entry)) (now (l3 .entry)) (now (l4 .entry))) (now (ring .entry)) r (now (numbers .entry)) (now (numbers .exit)) (now (samples .exit)) (levelOf (now (l1 .exit)) (now (l2 .exit)) (now (l3 .exit)) (now (l4 .exit))) (now (ring .exit)) ⌝ }
+{
+    let f = feeder_numbers::feeder_in(&*numbers);
+    let answer = feeder_push::push(f, samples, l1, l2, l3, l4, ring, bytes);
+    match answer {
+        Pushed::Refused(n, _) => code(n),
+        Pushed::GoingOn(next) => {
+            feeder_numbers::put_feeder(numbers, next);
+            0
+        }
+        Pushed::Complete(next) => {
+            feeder_numbers::put_feeder(numbers, next);
+            NONE
         }
     }
 }

@@ -5,7 +5,7 @@ use mathlib.Core.Bool.{Bool, true, false, cond}
 use mathlib.Core.Logic.{_⊎_, inl, inr}
 use mathlib.Core.List.{List}
 use native.Mathlib.Nat.{add-zero, pow-suc, mul-le-mul-right, lt-of-mul-lt-mul-right, div-add-mod', mod-lt}
-use native.Mathlib.Decide.{decLe, decLt}
+use native.Mathlib.Decide.{decLe, decLt, ℕ-discrete}
 use native.Mathlib.Omega.{arith}
 use borrow.Author.Tests.{eq-eqb, ne-eqb}
 use lib.Dec.{eqb}
@@ -14,7 +14,7 @@ use Rattle.rules.specs.Node.{Node, join, nodeOf, span, topLevel, levelNode}
 use Rattle.rules.specs.Refusal.{nodeSize}
 use Rattle.rules.proofs.Node.{node-join, node-same}
 use Rattle.rules.proofs.Walk.{span-pos}
-use Rattle.node.specs.Memory.{nodeIn, Right}
+use Rattle.node.specs.Memory.{nodeIn, Right, RightAt}
 use Rattle.rebuild.specs.Rebuild.{putNodes, joinOver, madeOver, touched, built, levelAfter}
 use Rattle.rebuild.specs.Room.{Roomy}
 use Rattle.rebuild.proofs.Nodes.{length-puts, puts-rest, puts-other, puts-at}
@@ -167,3 +167,42 @@ module _ (first : ℕ → Node) (levels : ℕ → List ℕ) (len n l : ℕ) wher
       pick true = refl
       pick false = built-puts first levels len (len + n - 1) l (λ x. getD x k 0 ≡ getD (levels l) k 0) refl
           (λ f. puts-rest f (touched len (len + n - 1) l) (levels l) (len / span l) k (apart (len / span l) ((len + n - 1) / span l) h))
+
+-- ---- right levels, before and after
+-- levels that are right for samples are right for others that agree with them
+pub right-same : (s t : ℕ → ℕ) (levels : ℕ → List ℕ) (len : ℕ) → ((i : ℕ) → i < len → s i ≡ t i) → Right s len levels → Right t len levels
+right-same s t levels len agree right l p q j h =
+    right l p q j h ∙ node-same s t (j * span l) (min (suc j * span l) len) (omega (arith, span-pos l)) (λ i a b. agree i (omega arith))
+
+-- once n samples have joined len, and the nodes of level 1 are made from them
+module _ (s t : ℕ → ℕ) (levels : ℕ → List ℕ) (len n : ℕ) (room : (n ≡ 0 → ⊥) → Roomy (len + n) levels) (agree : (i : ℕ) → i < len → s i ≡ t i) (right : Right s len levels) where
+  abbrev first-of : ℕ → Node
+  first-of = levelNode t (len + n) 1
+
+  none-right : n ≡ 0 → Right t (len + n) (λ l. levelAfter first-of levels len n l)
+  none-right e l p q =
+      subst (λ (x : List ℕ). RightAt t (len + n) (λ _. x) l) (sym (after-none first-of levels len n l e))
+      (subst (λ (k : ℕ). Right t k levels) same (right-same s t levels len agree right) l p q)
+    where
+      same : len ≡ len + n
+      same = omega arith
+
+  some-right : (n ≡ 0 → ⊥) → Right t (len + n) (λ l. levelAfter first-of levels len n l)
+  some-right e l p q =
+      subst (λ (x : List ℕ). RightAt t (len + n) (λ _. x) l) (sym (after-some first-of levels len n l e))
+      (subst (λ (k : ℕ). Right t k (built first-of levels len (len + n - 1))) end made-right l p q)
+    where
+      end : suc (len + n - 1) ≡ len + n
+      end = omega arith
+
+      made-right : Right t (suc (len + n - 1)) (built first-of levels len (len + n - 1))
+      made-right =
+          built-right s t levels len (len + n - 1) (omega (arith, end)) (λ k j a c h. room e k j a c (omega (arith, end))) agree right first-of
+          (λ j _ _. ap (λ (k : ℕ). levelNode t k 1 j) (sym end))
+
+  pub after-right : Right t (len + n) (λ l. levelAfter first-of levels len n l)
+  after-right = pick (ℕ-discrete n 0)
+    where
+      pick : Dec (n ≡ 0) → Right t (len + n) (λ l. levelAfter first-of levels len n l)
+      pick (yes e) = none-right e
+      pick (no e) = some-right e

@@ -9,9 +9,9 @@ use native.Mathlib.Omega.{arith}
 use lib.ListN.{length, take, drop, set, length-append, length-drop}
 use lib.Seq.{sets-eq, take-at, drop-at, drop-drop}
 use Rattle.rules.specs.Node.{Node}
-use Rattle.rules.specs.Pixel.{View, Range, edge, pixelRange, shown, rowBy}
-use Rattle.render.specs.Render.{drawn, pixelNode, Inside}
-use Rattle.render.proofs.Inside.{inside}
+use Rattle.rules.specs.Pixel.{View, Range, pixelRange, shown, rowBy}
+use Rattle.rules.proofs.Row.{row-length, row-same}
+use Rattle.render.specs.Render.{drawn, pixelNode}
 
 module _ (node : ℕ → ℕ → Node) where
   -- ---- one pixel
@@ -19,21 +19,12 @@ module _ (node : ℕ → ℕ → Node) where
   shown-append none a b = refl
   shown-append (some r) a b = refl
 
-  shown-length : (r : Option Range) (rest : List ℕ) → length (shown node r rest) ≡ suc (suc (length rest))
-  shown-length none rest = refl
-  shown-length (some r) rest = refl
-
   shown-is : (r : Option Range) (n : Node) → n ≡ pixelNode node r → n .first ∷ n .toggles ∷ [] ≡ shown node r []
   shown-is none n e = ap (λ (m : Node). m .first ∷ m .toggles ∷ []) e
   shown-is (some r) n e = ap (λ (m : Node). m .first ∷ m .toggles ∷ []) e
 
   -- ---- a row
   module _ (v : View) (len : ℕ) where
-    length-row : (px n : ℕ) → length (rowBy node v len px n) ≡ 2 * n
-    unfolding rowBy
-    length-row px zero = refl
-    length-row px (suc n) = shown-length (pixelRange v len px) (rowBy node v len (px + 1) n) ∙ omega (arith, length-row (px + 1) n)
-
     -- one pixel more
     row-last : (px n : ℕ) → rowBy node v len px (suc n) ≡ rowBy node v len px n ++ shown node (pixelRange v len (px + n)) []
     unfolding rowBy
@@ -52,7 +43,7 @@ module _ (node : ℕ → ℕ → Node) where
 
     drawn-length : (k : ℕ) (output : List ℕ) → 2 * k ≤ length output → length (drawn node v len k output) ≡ length output
     unfolding drawn
-    drawn-length k output h = length-append (rowBy node v len 0 k) (drop (2 * k) output) ∙ omega (arith, length-row 0 k, length-drop (2 * k) output)
+    drawn-length k output h = length-append (rowBy node v len 0 k) (drop (2 * k) output) ∙ omega (arith, row-length node v len 0 k, length-drop (2 * k) output)
 
     pub drawn-turn : (px : ℕ) (n : Node) (output now : List ℕ) → 2 * px + 2 ≤ length output → now ≡ drawn node v len px output → n ≡ pixelNode node (pixelRange v len px) → set (set now (2 * px) (n .first)) (2 * px + 1) (n .toggles) ≡ drawn node v len (px + 1) output
     unfolding drawn
@@ -67,7 +58,7 @@ module _ (node : ℕ → ℕ → Node) where
         row = rowBy node v len 0 px
 
         before : take (2 * px) now ≡ row
-        before = ap (take (2 * px)) e ∙ take-at row (drop (2 * px) output) (2 * px) (length-row 0 px)
+        before = ap (take (2 * px)) e ∙ take-at row (drop (2 * px) output) (2 * px) (row-length node v len 0 px)
 
         here : px ≡ 0 + px
         here = omega arith
@@ -78,27 +69,15 @@ module _ (node : ℕ → ℕ → Node) where
         after : drop (2 * px + 2) now ≡ drop (2 * (px + 1)) output
         after =
             sym (drop-drop 2 (2 * px) now)
-            ∙ ap (drop 2) (ap (drop (2 * px)) e ∙ drop-at row (drop (2 * px) output) (2 * px) (length-row 0 px))
+            ∙ ap (drop 2) (ap (drop (2 * px)) e ∙ drop-at row (drop (2 * px) output) (2 * px) (row-length node v len 0 px))
             ∙ drop-drop 2 (2 * px) output
             ∙ ap (λ (k : ℕ). drop k output) two
 
     -- past the pixels
     pub drawn-rest : (k : ℕ) (output : List ℕ) → drop (2 * k) (drawn node v len k output) ≡ drop (2 * k) output
     unfolding drawn
-    drawn-rest k output = drop-at (rowBy node v len 0 k) (drop (2 * k) output) (2 * k) (length-row 0 k)
+    drawn-rest k output = drop-at (rowBy node v len 0 k) (drop (2 * k) output) (2 * k) (row-length node v len 0 k)
 
-module _ (node node′ : ℕ → ℕ → Node) (v : View) (len : ℕ) (same : (a b : ℕ) → a < b → b ≤ len → node a b ≡ node′ a b) where
-  shown-same : (r : Option Range) (rest : List ℕ) → Inside r len → shown node r rest ≡ shown node′ r rest
-  shown-same none rest i = refl
-  shown-same (some r) rest i = ap (λ (n : Node). n .first ∷ n .toggles ∷ rest) (same (r .from) (r .to) (i .0) (i .1))
-
-  row-same : (px n : ℕ) → rowBy node v len px n ≡ rowBy node′ v len px n
-  unfolding rowBy
-  row-same px zero = refl
-  row-same px (suc n) =
-      shown-same (pixelRange v len px) (rowBy node v len (px + 1) n) (inside (edge v px) (edge v (px + 1)) len)
-      ∙ ap (shown node′ (pixelRange v len px)) (row-same (px + 1) n)
-
-  pub drawn-same : (k : ℕ) (output : List ℕ) → drawn node v len k output ≡ drawn node′ v len k output
-  unfolding drawn
-  drawn-same k output = ap (λ (a : List ℕ). a ++ drop (2 * k) output) (row-same 0 k)
+pub drawn-same : (node node′ : ℕ → ℕ → Node) (v : View) (len : ℕ) → ((a b : ℕ) → a < b → b ≤ len → node a b ≡ node′ a b) → (k : ℕ) (output : List ℕ) → drawn node v len k output ≡ drawn node′ v len k output
+unfolding drawn
+drawn-same node node′ v len same k output = ap (λ (a : List ℕ). a ++ drop (2 * k) output) (row-same node node′ v len same 0 k)

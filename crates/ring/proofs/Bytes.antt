@@ -6,10 +6,10 @@ use native.Mathlib.Nat.{zero-add, add-mul, mul-le-mul-right}
 use native.Mathlib.Decide.{decLt}
 use native.Mathlib.Omega.{arith}
 use borrow.Author.Tests.{ne-eqb, eq-eqb}
-use lib.ListN.{length, take, drop, set, length-take, length-drop, length-append}
+use lib.ListN.{length, take, drop, getD, set, length-take, length-drop, length-append}
 use lib.Seq.{drop-drop, drop-append-add, take-at, drop-at, length-take-le, set-split}
 use Rattle.rules.specs.Sample.{sampleOf, listFrom}
-use Rattle.rules.proofs.Sample.{list-length, list-append, list-take, list-drop, sample-take, from-take, from-append, from-drop, from-after}
+use Rattle.rules.proofs.Sample.{list-length, list-at, list-append, list-take, list-drop, sample-take, from-take, from-append, from-drop, from-after}
 use Rattle.ring.specs.Ring.{put, next, ringAfter, readOut}
 use Rattle.ring.specs.Bytes.{units, joined, putBytes, ringBytes, keptBytes}
 use Rattle.ring.proofs.Ring.{next-lt}
@@ -18,6 +18,9 @@ use Rattle.ring.proofs.Slots.{read-parts}
 -- ---- samples of bytes
 pub units-length : (u n : ℕ) (b : List ℕ) → length (units u n b) ≡ n
 units-length u n b = list-length (sampleOf u b) 0 n
+
+pub units-at : (u n : ℕ) (b : List ℕ) (i : ℕ) → i < n → getD (units u n b) i 0 ≡ sampleOf u b i
+units-at u n b i h = list-at (sampleOf u b) 0 n i h ∙ ap (sampleOf u b) (zero-add i)
 
 pub units-none : (u : ℕ) (b : List ℕ) → units u 0 b ≡ []
 unfolding listFrom

@@ -3,4 +3,5 @@ pub mod Slots
 pub mod Bytes
 pub mod Selects
 pub mod Push
+pub mod Grows
 pub mod Lists

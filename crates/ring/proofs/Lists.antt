@@ -1,5 +1,5 @@
 -- Lists of pushes over a record and its memory: from what start gives, with memory that holds anything, they leave 01's run, mark and answers, and never meet rows 1 and 2.
-use mathlib.Core.Path.{_≡_, refl, sym, ap, ap₂, _∙_}
+use mathlib.Core.Path.{_≡_, refl, sym, ap, ap₂, _∙_, subst⁻¹}
 use mathlib.Core.List.{List, [], _∷_}
 use mathlib.Core.Option.{none, Option·none-ne-some}
 use Prim.Native.Nat.{ℕ, _*_, _≤_, _<_}
@@ -15,7 +15,7 @@ use Rattle.ring.specs.Bytes.{units}
 use Rattle.ring.specs.Step.{State, Done, step, steps, replies, fresh}
 use Rattle.ring.specs.Push.{Left, pushOn, pushesBytes, repliesBytes, started, startedWith}
 use Rattle.ring.proofs.Bytes.{units-length, units-none}
-use Rattle.ring.proofs.Selects.{Selects, selects}
+use Rattle.ring.proofs.Selects.{Holds, all-hold, fresh-holds, Selects, selects}
 use Rattle.ring.proofs.Push.{ruleIn, standsIn, carried, push-carried, step-rule, GoesOn, push-goes}
 
 module _ (r : Rule) (a z : ℕ) where
@@ -65,31 +65,42 @@ module _ (r : Rule) (s g : List ℕ) (hs : r .capacity * r .unit ≤ length s) (
     ready = record { len = omega arith; samples = hs; place = omega arith; kept = omega arith; ring = hg };
   }
 
-  pub recorded : (pushes : List (List ℕ)) → Recorded r pushes (pushesBytes (startedWith r s g) pushes) (repliesBytes (startedWith r s g) pushes)
+  -- the ring's samples at the start
+  abbrev memory : List ℕ
+  memory = units (r .unit) (r .pre) g
+
+  abbrev last : List (List ℕ) → Left
+  last pushes = pushesBytes (startedWith r s g) pushes
+
+  from-fresh : standsIn (startedWith r s g) ≡ fresh r memory
+  from-fresh = ap (λ (y : List ℕ). record { armed = r .armed; previous = none; ring = memory; place = 0; kept = 0; stored = y; mark = none }) (units-none (r .unit) s)
+
+  carry : (pushes : List (List ℕ)) → standsIn (last pushes) ≡ steps r (fresh r memory) pushes
+  carry pushes = pushes-carried r (length s) (length g) pushes (startedWith r s g) start-goes ∙ ap (λ (x : State). steps r x pushes) from-fresh
+
+  enough : r .pre ≤ length memory
+  enough = rw units-length (omega arith)
+
+  -- the record and the ring stand as the invariant says of the accepted samples
+  pub held : (pushes : List (List ℕ)) → Holds r memory (accepted r pushes) (standsIn (last pushes))
+  held pushes = subst⁻¹ (λ (x : State). Holds r memory (accepted r pushes) x) (carry pushes) (all-hold r memory enough pushes [] (fresh r memory) (fresh-holds r memory))
+
+  pub recorded : (pushes : List (List ℕ)) → Recorded r pushes (last pushes) (repliesBytes (startedWith r s g) pushes)
   recorded pushes = record {
     samples = run-is;
     len = sym (units-length (r .unit) _ _) ∙ ap length run-is;
-    mark = ap (λ (x : State). x .mark) carry ∙ done .mark;
+    mark = ap (λ (x : State). x .mark) (carry pushes) ∙ done .mark;
     replies = replies-carried r (length s) (length g) pushes (startedWith r s g) start-goes ∙ ap (λ (x : State). replies r x pushes) from-fresh ∙ done .replies;
   }
     where
-      memory : List ℕ
-      memory = units (r .unit) (r .pre) g
-
-      last : Left
-      last = pushesBytes (startedWith r s g) pushes
-
-      from-fresh : standsIn (startedWith r s g) ≡ fresh r memory
-      from-fresh = ap (λ (y : List ℕ). record { armed = r .armed; previous = none; ring = memory; place = 0; kept = 0; stored = y; mark = none }) (units-none (r .unit) s)
-
-      carry : standsIn last ≡ steps r (fresh r memory) pushes
-      carry = pushes-carried r (length s) (length g) pushes (startedWith r s g) start-goes ∙ ap (λ (x : State). steps r x pushes) from-fresh
-
       done : Selects r pushes (steps r (fresh r memory) pushes) (replies r (fresh r memory) pushes)
-      done = selects r memory (rw units-length (omega arith)) pushes
+      done = selects r memory enough pushes
 
-      run-is : units (r .unit) (last .recorder .store .len) (last .samples) ≡ runOf r pushes
-      run-is = ap (λ (u : ℕ). units u (last .recorder .store .len) (last .samples)) (sym (all-go r (length s) (length g) pushes (startedWith r s g) start-goes .unit)) ∙ ap (λ (x : State). x .stored) carry ∙ done .run
+      run-is : units (r .unit) (last pushes .recorder .store .len) (last pushes .samples) ≡ runOf r pushes
+      run-is =
+          ap (λ (u : ℕ). units u (last pushes .recorder .store .len) (last pushes .samples)) (sym (all-go r (length s) (length g) pushes (startedWith r s g) start-goes .unit))
+          ∙ ap (λ (x : State). x .stored) (carry pushes)
+          ∙ done .run
 
 -- ---- rows 1 and 2 again
 -- the bounds that the record and the memory had at the start hold after any list; pre is below a limit, so that the mark stays inside the run

@@ -13,4 +13,5 @@ pub mod Pretrigger
 pub mod Floats
 pub mod Refusal
 pub mod Start
+pub mod Row
 pub mod Examples

@@ -1,64 +1,19 @@
 -- Laws of the first firing place among the places a to e: one place, places in two parts, and the loops of the scan.
-use Prim.Native.Nat.{ℕ, zero, suc, _+_, _-_, _*_, _≤_, _<_}
-use mathlib.Core.Path.{_≡_, refl, sym, ap, ap₂, _∙_, subst}
-use mathlib.Core.Bool.{Bool, true, false, cond, _||_}
-use mathlib.Core.List.{List, [], _∷_, _++_}
+use Prim.Native.Nat.{ℕ, suc, _+_, _-_, _≤_, _<_}
+use mathlib.Core.Path.{_≡_, refl, sym, ap, ap₂, _∙_}
+use mathlib.Core.Bool.{Bool, true, false, _||_}
+use mathlib.Core.List.{_++_}
 use mathlib.Core.Option.{Option, some}
-use native.Mathlib.Nat.{mul-le-mul-right}
 use native.Mathlib.Decide.{decLt}
 use native.Mathlib.Omega.{arith}
 use lib.Dec.{ltb}
 use borrow.Author.Tests.{lt-ltb, le-ltb, ltb-true, ltb-false}
-use lib.ListN.{length}
 use Rattle.rules.specs.Sample.{listFrom}
-use Rattle.rules.specs.Trigger.{Masks, matches, fires, firstFire, lastOf}
+use Rattle.rules.specs.Trigger.{Masks, matches, fires, firstFire}
 use Rattle.rules.proofs.Sample.{list-length, list-append}
 use Rattle.rules.proofs.Trigger.{fire-le, fire-stays, fire-later}
-use Rattle.lines.specs.Held.{Held}
-use Rattle.scan.specs.Scan.{Holds, fireFrom}
-
--- ---- room
-pub fewer : (u n k len : ℕ) → Holds u n len → k ≤ n → Holds u k len
-fewer u n k len h l = record { low = h .low; high = h .high; room = omega (arith, h .room, mul-le-mul-right {m = k} {n = n} u l) }
-
-pub held : (u n i len : ℕ) → Holds u n len → i < n → Held u i len
-held u n i len h l = record { low = h .low; high = h .high; room = omega (arith, fewer u n (suc i) len h l .room) }
-
--- the room of a unit that is known
-pub one-unit : (u v n len : ℕ) → Holds u n len → u ≡ v → Holds v n len
-one-unit u v n len h e = subst (λ (x : ℕ). Holds x n len) e h
-
-pub unit-two : (u n len : ℕ) → Holds u n len → (u ≡ 1 → ⊥) → u ≡ 2
-unit-two u n len h f = omega (arith, h .low, h .high)
-
--- ---- the last sample
-module _ (s : ℕ → ℕ) where
-  -- of the samples from place a on, after the one before them
-  last-after : (n a : ℕ) → lastOf (some (s (a - 1))) (listFrom s a n) ≡ some (s (a + n - 1))
-  unfolding lastOf listFrom
-  last-after zero a = ap (λ (x : ℕ). some (s x)) none
-    where
-      none : a - 1 ≡ a + 0 - 1
-      none = omega arith
-  last-after (suc n) a = ap (λ (x : ℕ). lastOf (some (s x)) (listFrom s (a + 1) n)) here ∙ last-after n (a + 1) ∙ ap (λ (x : ℕ). some (s x)) more
-    where
-      here : a ≡ a + 1 - 1
-      here = omega arith
-
-      more : a + 1 + n - 1 ≡ a + suc n - 1
-      more = omega arith
-
-  pub last-none : (q : Option ℕ) (n : ℕ) → n ≡ 0 → q ≡ lastOf q (listFrom s 0 n)
-  unfolding lastOf listFrom
-  last-none q n e = rw e
-
-  pub last-some : (q : Option ℕ) (n : ℕ) → 1 ≤ n → some (s (n - 1)) ≡ lastOf q (listFrom s 0 n)
-  unfolding lastOf listFrom
-  last-some q zero h = absurd (omega arith)
-  last-some q (suc n) h = ap (λ (x : ℕ). some (s x)) more ∙ sym (last-after n 1)
-    where
-      more : suc n - 1 ≡ 1 + n - 1
-      more = omega arith
+use Rattle.scan.specs.Scan.{fireFrom}
+use Rattle.scan.proofs.Last.{last-after}
 
 module _ (m : Masks) (s : ℕ → ℕ) where
   -- ---- one place

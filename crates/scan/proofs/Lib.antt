@@ -1,2 +1,5 @@
+pub mod Room
+pub mod Last
 pub mod Lines
 pub mod Fire
+pub mod Answer

@@ -1,24 +1,22 @@
 -- Three masks say what five do: Rising is High and Edge on one line, Falling is Low and Edge. A first sample is tested as one that comes after itself.
-use Prim.Native.Nat.{ℕ, zero, suc, _-_, _≤_, _<_, min, max}
+use Prim.Native.Nat.{ℕ, suc, _<_, min, max}
 use mathlib.Core.Path.{_≡_, refl, sym, ap, ap₂, _∙_}
-use mathlib.Core.Bool.{Bool, true, false, cond, _&&_}
+use mathlib.Core.Bool.{Bool, cond, _&&_}
 use mathlib.Core.List.{List, [], _∷_}
 use mathlib.Core.Option.{Option, none, some}
-use native.Mathlib.Nat.{zero-add, sub-zero}
 use native.Mathlib.Decide.{ℕ-discrete}
 use native.Mathlib.Omega.{arith}
-use lib.Bits.{bitAnd, bitOr, bitXor, differ, and-zero-l, and-zero-r, or-zero-r, xor-zero-l, xor-zero-r, xor-self}
+use lib.Bits.{bitAnd, bitOr, bitXor, differ, and-zero-l, and-zero-r, or-zero-r, xor-zero-l, xor-self}
 use lib.Dec.{eqb}
-use borrow.Author.Tests.{eq-eqb, ne-eqb, eqb-true}
-use Rattle.rules.specs.Sample.{line, listFrom, sampleOf}
+use borrow.Author.Tests.{eq-eqb, ne-eqb}
+use Rattle.rules.specs.Sample.{line}
 use Rattle.rules.specs.Trigger as rule
 use Rattle.rules.proofs.Bits.{line-lt, two-cases, lines-ext, line-and, line-or, line-xor, or-zero-right, or-sort}
 use Rattle.terms.specs.declared.Masks.{Masks}
 use Rattle.terms.specs.Terms.{asMasks}
 use Rattle.terms.proofs.Unmet.{unmet, unmet-none}
-use Rattle.ring.specs.Bytes.{units}
 use Rattle.scan.specs.declared.Wanted.{Wanted}
-use Rattle.scan.specs.Scan.{wantedOf, masksFor, beforeOr, fireFrom}
+use Rattle.scan.specs.Scan.{wantedOf, masksFor, beforeOr}
 
 -- ---- lines of a condition
 -- the lines of a that x lacks
@@ -51,15 +49,24 @@ lacks-either : (x a b : ℕ) → lacks x (bitOr a b) ≡ bitOr (lacks x a) (lack
 lacks-either x a b = lines-ext _ _ (λ k. simp (line-or, line-xor, line-and)
     (three-cases (λ x a b. differ (min x (max a b)) (max a b)) (λ x a b. max (differ (min x a) a) (differ (min x b) b)) refl refl refl refl refl refl refl refl _ _ _ (line-lt x k) (line-lt a k) (line-lt b k)))
 
+-- b where x is 1, a where it is 0
+select : (x a b : ℕ) → bitXor (bitAnd x (bitXor a b)) a ≡ bitOr (lacks x a) (bitAnd x b)
+select x a b = lines-ext _ _ (λ k. simp (line-or, line-xor, line-and)
+    (three-cases (λ x a b. differ (min x (differ a b)) a) (λ x a b. max (differ (min x a) a) (min x b)) refl refl refl refl refl refl refl refl _ _ _ (line-lt x k) (line-lt a k) (line-lt b k)))
+
 -- ---- the test of three masks
-abbrev pub unmetOf : Wanted → ℕ → ℕ → ℕ
+abbrev unmetOf : Wanted → ℕ → ℕ → ℕ
 unmetOf w p v = bitOr (bitOr (lacks v (w .high)) (bitAnd v (w .low))) (lacks (bitXor p v) (w .edge))
 
 unmet-three : (w : Wanted) (p v : ℕ) → unmet (masksFor w) p v ≡ unmetOf w p v
 unmet-three w p v = simp (and-zero-r, or-zero-r)
 
-pub met-is : (w : Wanted) (p v : ℕ) → eqb (unmetOf w p v) 0 ≡ rule.matches (masksFor w) p v
-met-is w p v = ap (λ (x : ℕ). eqb x 0) (sym (unmet-three w p v)) ∙ unmet-none (masksFor w) p v
+test-is : (w : Wanted) (p v : ℕ) → eqb (unmetOf w p v) 0 ≡ rule.matches (masksFor w) p v
+test-is w p v = ap (λ (x : ℕ). eqb x 0) (sym (unmet-three w p v)) ∙ unmet-none (masksFor w) p v
+
+-- as the code has it
+pub met-is : (w : Wanted) (p v : ℕ) → eqb (bitOr (bitXor (bitAnd v (bitXor (w .high) (w .low))) (w .high)) (lacks (bitXor p v) (w .edge))) 0 ≡ rule.matches (masksFor w) p v
+met-is w p v = ap (λ (x : ℕ). eqb (bitOr x (lacks (bitXor p v) (w .edge))) 0) (select v (w .high) (w .low)) ∙ test-is w p v
 
 -- a sample after itself fails every line that has to differ
 after-itself : (w : Wanted) (v : ℕ) → unmetOf w v v ≡ 0 → w .edge ≡ 0
@@ -83,7 +90,7 @@ module _ (m : Masks) where
       x = bitXor p v
 
   matches-same : (p v : ℕ) → rule.matches (masksFor (wantedOf m)) p v ≡ rule.matches (asMasks m) p v
-  matches-same p v = sym (met-is (wantedOf m) p v) ∙ ap (λ (x : ℕ). eqb x 0) (unmet-same p v) ∙ unmet-none (asMasks m) p v
+  matches-same p v = sym (test-is (wantedOf m) p v) ∙ ap (λ (x : ℕ). eqb x 0) (unmet-same p v) ∙ unmet-none (asMasks m) p v
 
   -- the first sample fires as one that comes after itself
   first-same : (v : ℕ) → rule.fires (asMasks m) none v ≡ rule.matches (masksFor (wantedOf m)) v v
@@ -92,7 +99,7 @@ module _ (m : Masks) where
     where
       go : Dec (wantedOf m .edge ≡ 0) → (eqb (wantedOf m .edge) 0 && rule.matches (asMasks m) v v) ≡ rule.matches (masksFor (wantedOf m)) v v
       go (yes e) = ap (λ (b : Bool). b && rule.matches (asMasks m) v v) (eq-eqb _ _ e) ∙ sym (matches-same v v)
-      go (no n) = ap (λ (b : Bool). b && rule.matches (asMasks m) v v) (ne-eqb _ _ n) ∙ sym (sym (met-is (wantedOf m) v v) ∙ ne-eqb _ _ (λ e. n (after-itself (wantedOf m) v e)))
+      go (no n) = ap (λ (b : Bool). b && rule.matches (asMasks m) v v) (ne-eqb _ _ n) ∙ sym (sym (test-is (wantedOf m) v v) ∙ ne-eqb _ _ (λ e. n (after-itself (wantedOf m) v e)))
 
   -- ---- the first firing place
   fire-same : (xs : List ℕ) (p : ℕ) → rule.firstFire (masksFor (wantedOf m)) (some p) xs ≡ rule.firstFire (asMasks m) (some p) xs
@@ -104,26 +111,3 @@ module _ (m : Masks) where
   unfolding rule.firstFire rule.fires
   fire-first none v vs = ap₂ (λ (b : Bool) (k : ℕ). cond b 0 (suc k)) (sym (first-same v)) (fire-same vs v)
   fire-first (some p) v vs = fire-same (v ∷ vs) p
-
--- ---- the answer: none of no samples; else as the scan by three masks says, at a unit v that is known
-pub none-scanned : (m : Masks) (q : Option ℕ) (s : ℕ → ℕ) (n : ℕ) → n ≡ 0 → 0 ≡ rule.firstFire (asMasks m) q (listFrom s 0 n)
-unfolding rule.firstFire listFrom
-none-scanned m q s n e = rw e
-
-module _ (m : Masks) (q : Option ℕ) (b : List ℕ) (u n : ℕ) (h : 1 ≤ n) (w : Wanted) (ew : w ≡ wantedOf m) (p : ℕ) (ep : p ≡ beforeOr q (sampleOf u b 0)) where
-  pub scanned : (v r : ℕ) → u ≡ v → r ≡ fireFrom (masksFor w) (sampleOf v b) p 0 n → r ≡ rule.firstFire (asMasks m) q (units u n b)
-  unfolding listFrom
-  scanned v r e er =
-      er
-      ∙ ap (λ (x : ℕ). fireFrom (masksFor w) (sampleOf x b) p 0 n) (sym e)
-      ∙ ap₂ (λ (x : Wanted) (y : ℕ). fireFrom (masksFor x) (sampleOf u b) y 0 n) ew ep
-      ∙ zero-add (after (n - 0))
-      ∙ ap after (sub-zero n)
-      ∙ whole n h
-    where
-      after : ℕ → ℕ
-      after k = rule.firstFire (masksFor (wantedOf m)) (some (beforeOr q (sampleOf u b 0))) (units u k b)
-
-      whole : (k : ℕ) → 1 ≤ k → after k ≡ rule.firstFire (asMasks m) q (units u k b)
-      whole zero l = absurd (omega arith)
-      whole (suc k) l = fire-first m q (sampleOf u b 0) (listFrom (sampleOf u b) 1 k)

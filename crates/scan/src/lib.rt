@@ -4,7 +4,6 @@ use lines::get;
 use terms::Masks;
 use terms::Previous;
 ghost use mathlib.Core.Path.{_≡_};
-ghost use mathlib.Core.Bool.{Bool};
 ghost use Prim.Native.Nat.{_+_, _-_, _≤_, _<_, min};
 ghost use lib.Dec.{ltb};
 ghost use lib.ListN.{length};
@@ -33,11 +32,11 @@ impl Wanted {
         }
     }
 
-    // v after prev: no line fails.
+    // v after prev: no line fails. Of the levels, the lines of low fail where v is 1, and those of high where v is 0.
     fn met(self, prev: Mask, v: Mask) -> bool
         ensures { λ r. ⌜ r ≡ matches (masksFor self) prev v ⌝ }
     {
-        let levels = ((v & self.high) ^ self.high) | (v & self.low);
+        let levels = (v & (self.high ^ self.low)) ^ self.high;
         let edge = ((prev ^ v) & self.edge) ^ self.edge;
         levels | edge == 0
     }

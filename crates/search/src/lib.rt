@@ -260,7 +260,7 @@ fn chunk_back<'a>(
 }
 
 // The next change after from, chunk after chunk.
-fn next_from<'a>(
+pub fn next_from<'a>(
     samples: &[u8],
     l1: &'a [Mask],
     l2: &'a [Mask],
@@ -289,7 +289,7 @@ fn next_from<'a>(
 }
 
 // The last change up to start, chunk before chunk; an earlier chunk is entered at its length.
-fn prev_from<'a>(
+pub fn prev_from<'a>(
     samples: &[u8],
     l1: &'a [Mask],
     l2: &'a [Mask],

@@ -29,3 +29,16 @@ sound-room st s lv n d h = record {
   samples = omega (arith, d .samples, mul-le-mul-right (st .unit) h);
   nodes = λ l j p q k. node-in (st .capacity) l j (length (lv l)) (d .level l p q) (omega arith);
 }
+
+-- and fewer have room where more have
+pub less-room : (u len n k s : ℕ) (lv : ℕ → List ℕ) → StoreRoom u len n s lv → k ≤ n → StoreRoom u len k s lv
+less-room u len n k s lv r h = record {
+  low = r .low;
+  high = r .high;
+  fits = omega (arith, r .fits);
+  samples = omega (arith, r .samples, mul-le-mul-right u both);
+  nodes = λ l j p q i. r .nodes l j p q (omega arith);
+}
+  where
+    both : len + k ≤ len + n
+    both = omega arith

@@ -1,10 +1,9 @@
 -- What stored memory holds: old samples stay, new ones follow, all else stays, and right levels stay right.
-use Prim.Native.Nat.{ℕ, suc, _+_, _-_, _*_, _/_, _≤_, _<_}
-use mathlib.Core.Path.{_≡_, sym, ap, _∙_, subst, subst⁻¹, subst₂}
+use Prim.Native.Nat.{ℕ, _+_, _-_, _*_, _/_, _≤_, _<_}
+use mathlib.Core.Path.{_≡_, sym, ap, _∙_, subst⁻¹}
 use mathlib.Core.Logic.{_⊎_, inl, inr}
 use mathlib.Core.List.{List, _++_}
 use native.Mathlib.Nat.{mul-le-mul-right, zero-mul}
-use native.Mathlib.Decide.{ℕ-discrete}
 use native.Mathlib.Omega.{arith}
 use lib.ListN.{length, take, getD}
 use lib.Seq.{paste, paste-zero, length-paste}
@@ -13,8 +12,8 @@ use Rattle.rules.specs.Sample.{sampleOf}
 use Rattle.rules.specs.Refusal.{nodeSize}
 use Rattle.rules.proofs.Sample.{little-same}
 use Rattle.node.specs.Memory.{Right, RightAt}
-use Rattle.rebuild.specs.Rebuild.{built}
-use Rattle.rebuild.proofs.Right.{built-right, after-none, after-some, length-after, rest-stays}
+use Rattle.rebuild.specs.Room.{Roomy}
+use Rattle.rebuild.proofs.Right.{after-none, length-after, rest-stays, after-right}
 use Rattle.store.specs.Stored.{firstNodes, LevelsAfter, Stored}
 use Rattle.store.specs.Room.{AppendRoom, PartsRoom}
 use Rattle.store.proofs.Bytes.{paste-before, paste-inside, paste-after, paste-first, paste-thrice}
@@ -90,30 +89,11 @@ module _ {u len n : ℕ} {b s : List ℕ} {lv : ℕ → List ℕ} {s′ : List �
       at j = omega arith
 
   -- ---- right levels stay right
-  none-right : n ≡ 0 → Right (sampleOf u s) len lv → Right (sampleOf u s′) (len + n) lv′
-  none-right e r l p q = subst⁻¹ (λ (x : List ℕ). RightAt (sampleOf u s′) (len + n) (λ _. x) l) (none-levels e l p q)
-      (subst₂ (λ (t : ℕ → ℕ) (k : ℕ). Right t k lv) (ap (sampleOf u) (sym (none-samples e))) more r l p q)
-    where
-      more : len ≡ len + n
-      more = omega arith
-
-  some-right : (n ≡ 0 → ⊥) → AppendRoom u len n (length s) lv (length b) → Right (sampleOf u s) len lv → Right (sampleOf u s′) (len + n) lv′
-  some-right e w r l p q =
-      subst⁻¹ (λ (x : List ℕ). RightAt (sampleOf u s′) (len + n) (λ _. x) l) (d .levels-are l p q ∙ after-some (firstNodes u s′ (len + n)) lv len n l e)
-      (subst (λ (k : ℕ). Right (sampleOf u s′) k (built (firstNodes u s′ (len + n)) lv len (len + n - 1))) end made l p q)
-    where
-      end : suc (len + n - 1) ≡ len + n
-      end = omega arith
-
-      made : Right (sampleOf u s′) (suc (len + n - 1)) (built (firstNodes u s′ (len + n)) lv len (len + n - 1))
-      made =
-          built-right (sampleOf u s) (sampleOf u s′) lv len (len + n - 1) (omega (arith, end)) (λ k j a c h. w .room .nodes k j a c (omega (arith, end)))
-          (λ i h. sym (old-samples (inr w) i h)) r (firstNodes u s′ (len + n)) (λ j _ _. ap (λ (k : ℕ). firstNodes u s′ k j) (sym end))
-
   pub stored-right : RoomOrNone u len n s lv b → Right (sampleOf u s) len lv → Right (sampleOf u s′) (len + n) lv′
-  stored-right (inl e) r = none-right e r
-  stored-right (inr w) r = pick (ℕ-discrete n 0)
+  stored-right w r l p q =
+      subst⁻¹ (λ (x : List ℕ). RightAt (sampleOf u s′) (len + n) (λ _. x) l) (d .levels-are l p q)
+      (after-right (sampleOf u s) (sampleOf u s′) lv len n (room w) (λ i h. sym (old-samples w i h)) r l p q)
     where
-      pick : Dec (n ≡ 0) → Right (sampleOf u s′) (len + n) lv′
-      pick (yes e) = none-right e r
-      pick (no e) = some-right e w r
+      room : RoomOrNone u len n s lv b → (n ≡ 0 → ⊥) → Roomy (len + n) lv
+      room (inl e) z = absurd (z e)
+      room (inr k) z = k .room .nodes

@@ -9,25 +9,24 @@ use borrow.Author.Needs.{needs}
 use borrow.Author.Tests.{not-true, not-false}
 use denote.Ref.{now}
 use Rattle.node.specs.Memory.{levelOf}
-use Rattle.capture.specs.declared.Capture.{Capture}
 use Rattle.burst.specs.Answer.{back, fore, changeAs, reachOf, furtherOf}
 use Rattle.burst.proofs.Jumps.{Jumping, jumping-starts, jumping-on, jumping-none, jumping-near, jumping-spent}
 use Rattle.burst.proofs.end_of.Statement.{statement}
 use Rattle.burst.proofs.end_of.Tie as tie
 
-abbrev reachIn : Capture → List ℕ → (ℕ → List ℕ) → ℕ → ℕ → Bool → ℕ → Option ℕ
-reachIn c samples levels mask gap start = reachOf (back c samples levels mask) (fore c samples levels mask) gap start
+abbrev reachIn : ℕ → ℕ → List ℕ → (ℕ → List ℕ) → ℕ → ℕ → Bool → ℕ → Option ℕ
+reachIn unit len samples levels mask gap start = reachOf (back unit len samples levels mask) (fore unit len samples levels mask) gap start
 
 abbrev Inv-loop : tie.InvT-loop
-Inv-loop c samples l1 l2 l3 l4 mask gap budget start from place₀ jumps₀ place jumps = Jumping (reachIn c samples (levelOf l1 l2 l3 l4) mask gap start) (furtherOf start) budget from place jumps
+Inv-loop samples l1 l2 l3 l4 unitsize len mask gap budget start from place₀ jumps₀ place jumps = Jumping (reachIn unitsize len samples (levelOf l1 l2 l3 l4) mask gap start) (furtherOf start) budget from place jumps
 
 abbrev μ-loop : tie.MeasureT-loop
-μ-loop c samples l1 l2 l3 l4 mask gap budget start from place₀ jumps₀ place jumps = budget - jumps
+μ-loop samples l1 l2 l3 l4 unitsize len mask gap budget start from place₀ jumps₀ place jumps = budget - jumps
 
 loop-holds : tie.Need-loop-holds Inv-loop μ-loop
 loop-holds c =
     let a = c .before .before .before .before .before .args in
-    jumping-starts (reachIn (a .c) (now (a .samples)) (levelOf (now (a .l1)) (now (a .l2)) (now (a .l3)) (now (a .l4))) (a .mask) (a .gap) (a .start)) (furtherOf (a .start)) (a .budget) (a .from)
+    jumping-starts (reachIn (a .unitsize) (a .len) (now (a .samples)) (levelOf (now (a .l1)) (now (a .l2)) (now (a .l3)) (now (a .l4))) (a .mask) (a .gap) (a .start)) (furtherOf (a .start)) (a .budget) (a .from)
 
 reach-requires : tie.Need-reach-requires Inv-loop μ-loop
 reach-requires c κs = search needs
@@ -43,7 +42,7 @@ returns c =
     let f = c .before .before in
     let l = f .before .before in
     let a = l .before .before .before .before .before .before .args in
-    jumping-none (reachIn (a .c) (now (a .samples)) (levelOf (now (a .l1)) (now (a .l2)) (now (a .l3)) (now (a .l4))) (a .mask) (a .gap) (a .start)) (furtherOf (a .start)) (a .budget) (a .from) (l .loop .place) (l .loop .jumps) (l .loop .inv) (f .before .loop-test .taken)
+    jumping-none (reachIn (a .unitsize) (a .len) (now (a .samples)) (levelOf (now (a .l1)) (now (a .l2)) (now (a .l3)) (now (a .l4))) (a .mask) (a .gap) (a .start)) (furtherOf (a .start)) (a .budget) (a .from) (l .loop .place) (l .loop .jumps) (l .loop .inv) (f .before .loop-test .taken)
     (sym (f .reach .ensures) ∙ ap changeAs (c .enum-told .given .1))
 
 further-requires : tie.Need-further-requires Inv-loop μ-loop
@@ -54,7 +53,7 @@ returns-2 c =
     let f = c .before .before .before .before .before in
     let l = f .before .before in
     let a = l .before .before .before .before .before .before .args in
-    jumping-near (reachIn (a .c) (now (a .samples)) (levelOf (now (a .l1)) (now (a .l2)) (now (a .l3)) (now (a .l4))) (a .mask) (a .gap) (a .start)) (furtherOf (a .start)) (a .budget) (a .from) (l .loop .place) (l .loop .jumps) (l .loop .inv) _ (f .before .loop-test .taken)
+    jumping-near (reachIn (a .unitsize) (a .len) (now (a .samples)) (levelOf (now (a .l1)) (now (a .l2)) (now (a .l3)) (now (a .l4))) (a .mask) (a .gap) (a .start)) (furtherOf (a .start)) (a .budget) (a .from) (l .loop .place) (l .loop .jumps) (l .loop .inv) _ (f .before .loop-test .taken)
     (sym (f .reach .ensures) ∙ ap changeAs (c .before .before .before .change .given .1))
     (sym (c .before .further .ensures) ∙ not-true (c .before .further .result) (c .if1 .taken))
 
@@ -69,7 +68,7 @@ loop-again c =
     let f = c .before .before .before .before .before in
     let l = f .before .before in
     let a = l .before .before .before .before .before .before .args in
-    jumping-on (reachIn (a .c) (now (a .samples)) (levelOf (now (a .l1)) (now (a .l2)) (now (a .l3)) (now (a .l4))) (a .mask) (a .gap) (a .start)) (furtherOf (a .start)) (a .budget) (a .from) (l .loop .place) (l .loop .jumps) (l .loop .inv) _ (f .before .loop-test .taken)
+    jumping-on (reachIn (a .unitsize) (a .len) (now (a .samples)) (levelOf (now (a .l1)) (now (a .l2)) (now (a .l3)) (now (a .l4))) (a .mask) (a .gap) (a .start)) (furtherOf (a .start)) (a .budget) (a .from) (l .loop .place) (l .loop .jumps) (l .loop .inv) _ (f .before .loop-test .taken)
     (sym (f .reach .ensures) ∙ ap changeAs (c .before .before .before .change .given .1))
     (sym (c .before .further .ensures) ∙ not-false (c .before .further .result) (c .if1 .left))
 
@@ -77,7 +76,7 @@ returns-3 : tie.Need-returns-3 Inv-loop μ-loop
 returns-3 c =
     let l = c .before in
     let a = l .before .before .before .before .before .before .args in
-    jumping-spent (reachIn (a .c) (now (a .samples)) (levelOf (now (a .l1)) (now (a .l2)) (now (a .l3)) (now (a .l4))) (a .mask) (a .gap) (a .start)) (furtherOf (a .start)) (a .budget) (a .from) (l .loop .place) (l .loop .jumps) (l .loop .inv) (c .loop-test .left)
+    jumping-spent (reachIn (a .unitsize) (a .len) (now (a .samples)) (levelOf (now (a .l1)) (now (a .l2)) (now (a .l3)) (now (a .l4))) (a .mask) (a .gap) (a .start)) (furtherOf (a .start)) (a .budget) (a .from) (l .loop .place) (l .loop .jumps) (l .loop .inv) (c .loop-test .left)
 
 pub end-of-spec : {M : Type 1} → statement M
 end-of-spec =

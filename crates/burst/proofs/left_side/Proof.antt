@@ -1,25 +1,46 @@
--- `burst::left_side` meets its contract: too far, alone, or a side by its gap. Assumes nothing.
+-- `burst::left_side` meets its contract: no change, too far, alone, or a side by its gap. Assumes nothing.
 use Prim.Native.Nat.{_-_}
 use mathlib.Core.Path.{sym, ap, _∙_}
-use native.Mathlib.Omega.{arith}
 use borrow.Author.Needs.{needs}
 use denote.Ref.{now}
+use Rattle.rules.specs.Burst.{leftOf}
 use Rattle.node.specs.Memory.{levelOf}
-use Rattle.burst.specs.Answer.{back, changeAs}
+use Rattle.burst.specs.declared.Change.{Change}
+use Rattle.burst.specs.Answer.{back, fore, changeAs}
 use Rattle.burst.proofs.Sides.{left-is, side-far, side-alone, side-near}
 use Rattle.burst.proofs.left_side.Statement.{statement}
 use Rattle.burst.proofs.left_side.Tie as tie
 
-sub-if1 : tie.Need-sub-if1
-sub-if1 c = search needs
+enum-known-before : tie.Need-enum-known-before
+enum-known-before c = search needs
+
+enum-told : tie.Need-enum-told
+enum-told c = search needs
 
 returns : tie.Need-returns
 returns c =
-    let a = c .before .before .before .before .before .before .args in
-    side-far (left-is (a .gap) (a .tolerance) (a .sample) (a .p)) (back (a .c) (now (a .samples)) (levelOf (now (a .l1)) (now (a .l2)) (now (a .l3)) (now (a .l4))) (a .mask) (a .p - 1)) (c .if1 .taken)
+    let a = c .before .before .before .before .before .before .before .args in
+    let levels = levelOf (now (a .l1)) (now (a .l2)) (now (a .l3)) (now (a .l4)) in
+    let b = back (a .unitsize) (a .len) (now (a .samples)) levels (a .mask) in
+    let f = fore (a .unitsize) (a .len) (now (a .samples)) levels (a .mask) in
+    sym (ap (λ (o : Change). leftOf b f (a .gap) (a .tolerance) (a .sample) (changeAs o)) (c .enum-told .given .1))
 
-sub-previous : tie.Need-sub-previous
-sub-previous c = search needs
+less-requires : tie.Need-less-requires
+less-requires c κs = search needs
+
+returns-2 : tie.Need-returns-2
+returns-2 c =
+    let d = c .before in
+    let k = d .before .before in
+    let a = k .before .before .before .before .before .before .before .args in
+    let levels = levelOf (now (a .l1)) (now (a .l2)) (now (a .l3)) (now (a .l4)) in
+    let b = back (a .unitsize) (a .len) (now (a .samples)) levels (a .mask) in
+    let f = fore (a .unitsize) (a .len) (now (a .samples)) levels (a .mask) in
+    side-far (left-is (a .gap) (a .tolerance) (a .sample) (d .less .result) (k .before2 .given .0 .0) (d .less .ensures)) (b (k .before2 .given .0 .0 - 1)) (c .if1 .taken)
+    ∙ sym (ap (λ (o : Change). leftOf b f (a .gap) (a .tolerance) (a .sample) (changeAs o)) (k .before2 .given .1))
+
+less-requires-2 : tie.Need-less-requires-2
+less-requires-2 c κs = search needs
 
 previous-requires : tie.Need-previous-requires
 previous-requires c κs = search needs
@@ -27,26 +48,39 @@ previous-requires c κs = search needs
 enum-known-change : tie.Need-enum-known-change
 enum-known-change c = search needs
 
-enum-told : tie.Need-enum-told
-enum-told c = search needs
-
-returns-2 : tie.Need-returns-2
-returns-2 c =
-    let f = c .before .before in
-    let a = f .before .before .before .before .before .before .before .args in
-    side-alone (left-is (a .gap) (a .tolerance) (a .sample) (a .p)) (sym (ap changeAs (c .enum-told .given .1)) ∙ f .previous .ensures .is)
-
-sub-side-of : tie.Need-sub-side-of
-sub-side-of c = search needs
-
-side-of-requires : tie.Need-side-of-requires
-side-of-requires c κs = omega (arith, c .before .before .before .previous .ensures .high (c .before .change .given .0 .0) (ap changeAs (c .before .change .given .1)))
+enum-told-2 : tie.Need-enum-told-2
+enum-told-2 c = search needs
 
 returns-3 : tie.Need-returns-3
 returns-3 c =
-    let f = c .before .before .before .before in
-    let a = f .before .before .before .before .before .before .before .args in
-    c .side-of .ensures ∙ side-near (left-is (a .gap) (a .tolerance) (a .sample) (a .p)) _ (f .before .if1 .left) (sym (ap changeAs (c .before .before .change .given .1)) ∙ f .previous .ensures .is)
+    let v = c .before .before in
+    let d = v .before .before .before in
+    let k = d .before .before in
+    let a = k .before .before .before .before .before .before .before .args in
+    let levels = levelOf (now (a .l1)) (now (a .l2)) (now (a .l3)) (now (a .l4)) in
+    let b = back (a .unitsize) (a .len) (now (a .samples)) levels (a .mask) in
+    let f = fore (a .unitsize) (a .len) (now (a .samples)) levels (a .mask) in
+    side-alone (left-is (a .gap) (a .tolerance) (a .sample) (d .less .result) (k .before2 .given .0 .0) (d .less .ensures)) (sym (ap changeAs (c .enum-told2 .given .1)) ∙ v .previous .ensures ∙ ap b (v .before .less2 .ensures))
+    ∙ sym (ap (λ (o : Change). leftOf b f (a .gap) (a .tolerance) (a .sample) (changeAs o)) (k .before2 .given .1))
+
+side-of-requires : tie.Need-side-of-requires
+side-of-requires c κs = search needs
+
+returns-4 : tie.Need-returns-4
+returns-4 c =
+    let m = c .before .before in
+    let v = m .before .before in
+    let d = v .before .before .before in
+    let k = d .before .before in
+    let a = k .before .before .before .before .before .before .before .args in
+    let levels = levelOf (now (a .l1)) (now (a .l2)) (now (a .l3)) (now (a .l4)) in
+    let b = back (a .unitsize) (a .len) (now (a .samples)) levels (a .mask) in
+    let f = fore (a .unitsize) (a .len) (now (a .samples)) levels (a .mask) in
+    c .side-of .ensures
+    ∙ side-near (left-is (a .gap) (a .tolerance) (a .sample) (d .less .result) (k .before2 .given .0 .0) (d .less .ensures)) (m .change .given .0 .0) (v .before .before .if1 .left) (sym (ap changeAs (m .change .given .1)) ∙ v .previous .ensures ∙ ap b (v .before .less2 .ensures))
+    ∙ sym (ap (λ (o : Change). leftOf b f (a .gap) (a .tolerance) (a .sample) (changeAs o)) (k .before2 .given .1))
 
 pub left-side-spec : {M : Type 1} → statement M
-left-side-spec = tie.close (tie.spec sub-if1 returns sub-previous previous-requires enum-known-change enum-told returns-2 sub-side-of side-of-requires returns-3)
+left-side-spec =
+    tie.close
+    (tie.spec enum-known-before enum-told returns less-requires returns-2 less-requires-2 previous-requires enum-known-change enum-told-2 returns-3 side-of-requires returns-4)

@@ -1,12 +1,10 @@
 -- `burst::nearer_of` meets its contract, case by case. Assumes nothing.
-use mathlib.Core.Path.{_≡_, refl, sym, ap, ap₂, _∙_}
+use mathlib.Core.Path.{_≡_, sym, ap, ap₂, _∙_}
 use mathlib.Core.Bool.{Bool, cond}
-use mathlib.Core.Option.{Option, none, some}
 use Prim.Native.Nat.{ℕ, _≤_, _<_}
 use borrow.Author.Needs.{needs}
 use borrow.Author.Tests.{le-leb, lt-leb}
 use Rattle.rules.specs.Burst.{nearer}
-use Rattle.rules.specs.Burst as rule
 use Rattle.burst.specs.declared.Side.{Side}
 use Rattle.burst.specs.declared.Side.the-variants as side
 use Rattle.burst.specs.Answer.{sideAs}

@@ -1,25 +1,31 @@
--- `burst::next` meets its contract: the walk's find, since rows 1 and 2 were passed. Assumes nothing.
+-- `burst::next` meets its contract: nothing after the last place, or the walk. Assumes nothing.
+use mathlib.Core.Path.{ap, _∙_}
+use native.Mathlib.Omega.{arith}
 use borrow.Author.Needs.{needs}
 use denote.Ref.{now}
-use Rattle.node.specs.Memory.{levelOf}
-use Rattle.search.specs.Answer.{foundOf}
-use Rattle.burst.specs.Answer.{changeAs}
-use Rattle.burst.proofs.Searches.{ahead}
+use Rattle.rules.specs.Walk.{allLevels}
+use Rattle.node.specs.Memory.{levelOf, readerOf}
+use Rattle.search.proofs.Asked.{next-nothing}
+use Rattle.burst.specs.Answer.{placeOf}
 use Rattle.burst.proofs.next.Statement.{statement}
 use Rattle.burst.proofs.next.Tie as tie
 
-next-change-requires : tie.Need-next-change-requires
-next-change-requires c κs = search needs
+sub-if1 : tie.Need-sub-if1
+sub-if1 c = search needs
+
+returns : tie.Need-returns
+returns c =
+    let a = c .before .before .before .before .before .before .args in
+    next-nothing allLevels (readerOf (a .unitsize) (now (a .samples)) (levelOf (now (a .l1)) (now (a .l2)) (now (a .l3)) (now (a .l4)))) (a .len) (a .mask) (a .from) (omega arith)
+
+next-from-requires : tie.Need-next-from-requires
+next-from-requires c κs = search needs
 
 change-of-requires : tie.Need-change-of-requires
 change-of-requires c κs = search needs
 
-returns : tie.Need-returns
-returns c =
-    let f = c .before in
-    let s = f .before .before .before .before .before .before in
-    let a = s .args in
-    ahead (a .c) (now (a .samples)) (levelOf (now (a .l1)) (now (a .l2)) (now (a .l3)) (now (a .l4))) (s .pre) (a .mask) (a .from) (foundOf (f .next-change .result)) (changeAs (c .change-of .result)) (c .change-of .ensures) (f .next-change .ensures)
+returns-2 : tie.Need-returns-2
+returns-2 c = c .change-of .ensures ∙ ap placeOf (c .before .next-from .ensures)
 
 pub next-spec : {M : Type 1} → statement M
-next-spec = tie.close (tie.spec next-change-requires change-of-requires returns)
+next-spec = tie.close (tie.spec sub-if1 returns next-from-requires change-of-requires returns-2)

@@ -1,25 +1,34 @@
--- `burst::previous` meets its contract: the walk's find, since rows 1 and 2 were passed. Assumes nothing.
+-- `burst::previous` meets its contract: the walk from the place asked, or from the last one. Assumes nothing.
+use mathlib.Core.Path.{ap, _∙_}
+use native.Mathlib.Omega.{arith}
 use borrow.Author.Needs.{needs}
 use denote.Ref.{now}
-use Rattle.node.specs.Memory.{levelOf}
-use Rattle.search.specs.Answer.{foundOf}
-use Rattle.burst.specs.Answer.{changeAs}
-use Rattle.burst.proofs.Searches.{behind}
+use Rattle.rules.specs.Walk.{allLevels}
+use Rattle.node.specs.Memory.{levelOf, readerOf}
+use Rattle.search.proofs.Asked.{previous-something}
+use Rattle.burst.specs.Answer.{placeOf}
 use Rattle.burst.proofs.previous.Statement.{statement}
 use Rattle.burst.proofs.previous.Tie as tie
 
-prev-change-requires : tie.Need-prev-change-requires
-prev-change-requires c κs = search needs
+sub-least : tie.Need-sub-least
+sub-least c = search needs
+
+least-requires : tie.Need-least-requires
+least-requires c κs = search needs
+
+prev-from-requires : tie.Need-prev-from-requires
+prev-from-requires c κs = search needs
 
 change-of-requires : tie.Need-change-of-requires
 change-of-requires c κs = search needs
 
 returns : tie.Need-returns
 returns c =
-    let f = c .before in
-    let s = f .before .before .before .before .before .before in
-    let a = s .args in
-    behind (a .c) (now (a .samples)) (levelOf (now (a .l1)) (now (a .l2)) (now (a .l3)) (now (a .l4))) (s .pre) (a .mask) (a .from) (foundOf (f .prev-change .result)) (changeAs (c .change-of .result)) (c .change-of .ensures) (f .prev-change .ensures)
+    let l = c .before .before in
+    let a = l .before .before .before .before .before .before .args in
+    c .change-of .ensures
+    ∙ ap placeOf (c .before .prev-from .ensures)
+    ∙ previous-something allLevels (readerOf (a .unitsize) (now (a .samples)) (levelOf (now (a .l1)) (now (a .l2)) (now (a .l3)) (now (a .l4)))) (a .len) (a .mask) (a .from) (λ z. omega arith) (l .least .result) (l .least .ensures)
 
 pub previous-spec : {M : Type 1} → statement M
-previous-spec = tie.close (tie.spec prev-change-requires change-of-requires returns)
+previous-spec = tie.close (tie.spec sub-least least-requires prev-from-requires change-of-requires returns)

@@ -1,8 +1,10 @@
 -- `burst::reach` meets its contract, at either end. Assumes nothing.
-use mathlib.Core.Path.{sym, ap, _∙_}
+use Prim.Native.Nat.{_-_}
+use mathlib.Core.Path.{_≡_, sym, ap, _∙_}
 use mathlib.Core.Bool.{Bool}
 use borrow.Author.Needs.{needs}
 use denote.Ref.{now}
+use Rattle.rules.specs.Burst.{sum}
 use Rattle.node.specs.Memory.{levelOf}
 use Rattle.burst.specs.Answer.{back, fore, reachOf}
 use Rattle.burst.proofs.reach.Statement.{statement}
@@ -18,9 +20,10 @@ returns : tie.Need-returns
 returns c =
     let a = c .before .before .before .before .before .before .before .before .args in
     let levels = levelOf (now (a .l1)) (now (a .l2)) (now (a .l3)) (now (a .l4)) in
-    c .next .ensures .is
-    ∙ ap (fore (a .c) (now (a .samples)) levels (a .mask)) (c .before .less .ensures)
-    ∙ sym (ap (λ (b : Bool). reachOf (back (a .c) (now (a .samples)) levels (a .mask)) (fore (a .c) (now (a .samples)) levels (a .mask)) (a .gap) b (a .place)) (c .before .before .if1 .taken))
+    let from : c .before .less .result ≡ a .place - a .gap = c .before .less .ensures in
+    c .next .ensures
+    ∙ ap (fore (a .unitsize) (a .len) (now (a .samples)) levels (a .mask)) from
+    ∙ sym (ap (λ (b : Bool). reachOf (back (a .unitsize) (a .len) (now (a .samples)) levels (a .mask)) (fore (a .unitsize) (a .len) (now (a .samples)) levels (a .mask)) (a .gap) b (a .place)) (c .before .before .if1 .taken))
 
 sub-sum-of : tie.Need-sub-sum-of
 sub-sum-of c = search needs
@@ -35,9 +38,10 @@ returns-2 : tie.Need-returns-2
 returns-2 c =
     let a = c .before .before .before .before .before .before .before .before .args in
     let levels = levelOf (now (a .l1)) (now (a .l2)) (now (a .l3)) (now (a .l4)) in
-    c .previous .ensures .is
-    ∙ ap (back (a .c) (now (a .samples)) levels (a .mask)) (c .before .sum-of .ensures)
-    ∙ sym (ap (λ (b : Bool). reachOf (back (a .c) (now (a .samples)) levels (a .mask)) (fore (a .c) (now (a .samples)) levels (a .mask)) (a .gap) b (a .place)) (c .before .before .if1 .left))
+    let from : c .before .sum-of .result ≡ sum (a .place) (a .gap - 1) = c .before .sum-of .ensures in
+    c .previous .ensures
+    ∙ ap (back (a .unitsize) (a .len) (now (a .samples)) levels (a .mask)) from
+    ∙ sym (ap (λ (b : Bool). reachOf (back (a .unitsize) (a .len) (now (a .samples)) levels (a .mask)) (fore (a .unitsize) (a .len) (now (a .samples)) levels (a .mask)) (a .gap) b (a .place)) (c .before .before .if1 .left))
 
 pub reach-spec : {M : Type 1} → statement M
 reach-spec = tie.close (tie.spec less-requires next-requires returns sub-sum-of sum-of-requires previous-requires returns-2)

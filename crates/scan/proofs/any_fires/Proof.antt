@@ -9,7 +9,8 @@ use lib.Dec.{ltb}
 use Rattle.rules.specs.Sample.{sampleOf}
 use Rattle.rules.specs.Trigger.{matches}
 use Rattle.scan.specs.Scan.{masksFor, fireFrom}
-use Rattle.scan.proofs.Fire.{held, any-none, any-turn}
+use Rattle.scan.proofs.Room.{held}
+use Rattle.scan.proofs.Fire.{any-none, any-turn}
 use Rattle.scan.proofs.any_fires.Statement.{statement}
 use Rattle.scan.proofs.any_fires.Tie as tie
 

@@ -7,7 +7,8 @@ use denote.Ref.{now}
 use Rattle.rules.specs.Sample.{sampleOf}
 use Rattle.rules.specs.Trigger.{matches}
 use Rattle.scan.specs.Scan.{masksFor, fireFrom}
-use Rattle.scan.proofs.Fire.{held, fire-here, fire-on, fire-end}
+use Rattle.scan.proofs.Room.{held}
+use Rattle.scan.proofs.Fire.{fire-here, fire-on, fire-end}
 use Rattle.scan.proofs.fire_in.Statement.{statement}
 use Rattle.scan.proofs.fire_in.Tie as tie
 

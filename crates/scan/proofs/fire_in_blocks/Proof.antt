@@ -1,13 +1,14 @@
 -- `scan::fire_in_blocks` meets its contract: no place before a fires. Assumes nothing.
 use Prim.Native.Nat.{_-_, _≤_}
-use mathlib.Core.Path.{_≡_, refl, sym, ap, _∙_}
+use mathlib.Core.Path.{_≡_, sym, ap, _∙_}
 use native.Mathlib.Omega.{arith}
 use borrow.Author.Needs.{needs}
 use denote.Ref.{now}
 use Rattle.rules.specs.Sample.{sampleOf}
 use Rattle.rules.specs.Trigger.{matches}
 use Rattle.scan.specs.Scan.{masksFor, fireFrom}
-use Rattle.scan.proofs.Fire.{fewer, held, fire-here, fire-on, fire-end, block-hit, block-miss}
+use Rattle.scan.proofs.Room.{fewer, held}
+use Rattle.scan.proofs.Fire.{fire-here, fire-on, fire-end, block-hit, block-miss}
 use Rattle.scan.proofs.fire_in_blocks.Statement.{statement}
 use Rattle.scan.proofs.fire_in_blocks.Tie as tie
 

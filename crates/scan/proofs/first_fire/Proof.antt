@@ -1,12 +1,12 @@
 -- `scan::first_fire` meets its contract, in each of its branches. Assumes nothing.
-use mathlib.Core.Path.{_≡_, refl}
+use mathlib.Core.Path.{refl}
 use native.Mathlib.Omega.{arith}
 use borrow.Author.Needs.{needs}
 use denote.Ref.{now}
 use Rattle.rules.specs.Sample.{sampleOf}
 use Rattle.terms.specs.Terms.{previousOf}
-use Rattle.scan.proofs.Fire.{fewer, one-unit, unit-two}
-use Rattle.scan.proofs.Lines.{none-scanned, scanned}
+use Rattle.scan.proofs.Room.{fewer, one-unit, unit-two}
+use Rattle.scan.proofs.Answer.{none-scanned, scanned}
 use Rattle.scan.proofs.first_fire.Statement.{statement}
 use Rattle.scan.proofs.first_fire.Tie as tie
 

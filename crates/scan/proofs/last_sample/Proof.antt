@@ -1,12 +1,13 @@
 -- `scan::last_sample` meets its contract. Assumes nothing.
-use mathlib.Core.Path.{_≡_, ap, _∙_}
+use mathlib.Core.Path.{ap, _∙_}
 use mathlib.Core.Option.{some}
 use native.Mathlib.Omega.{arith}
 use borrow.Author.Needs.{needs}
 use denote.Ref.{now}
 use Rattle.rules.specs.Sample.{sampleOf}
 use Rattle.terms.specs.Terms.{previousOf}
-use Rattle.scan.proofs.Fire.{held, last-none, last-some}
+use Rattle.scan.proofs.Room.{held}
+use Rattle.scan.proofs.Last.{last-none, last-some}
 use Rattle.scan.proofs.last_sample.Statement.{statement}
 use Rattle.scan.proofs.last_sample.Tie as tie
 

@@ -1,0 +1,105 @@
+//! Lent memory, filled with a pattern, and what document 01 says that append leaves in it.
+
+use crate::op::Lent;
+use port::LentMut;
+
+/// Numbers behind each lent slice that belong to nobody.
+pub const GUARD: usize = 40;
+
+#[derive(Clone, Default, PartialEq)]
+pub struct Memory {
+    pub samples: Vec<u8>,
+    pub levels: [Vec<u16>; 4],
+    pub ring: Vec<u8>,
+}
+
+pub fn pattern(i: usize) -> u8 {
+    (i.wrapping_mul(0x9E37_79B9) >> 13) as u8 ^ 0xC3
+}
+
+impl Memory {
+    /// At least as much as is lent, and the guards.
+    pub fn make(&mut self, lent: &Lent) {
+        for (memory, length) in [(&mut self.samples, lent.samples), (&mut self.ring, lent.ring)] {
+            let from = memory.len();
+            memory.extend((from..length as usize + GUARD).map(pattern));
+        }
+        for (level, &length) in self.levels.iter_mut().zip(&lent.levels) {
+            let from = level.len();
+            let number = |i| pattern(i) as u16 | 0x3900;
+            level.extend((from..length as usize + GUARD).map(number));
+        }
+    }
+
+    /// What is lent to append; push gets the ring beside it.
+    pub fn lent_mut(&mut self, lent: &Lent) -> (LentMut<'_>, &mut [u8]) {
+        let [a, b, c, d] = lent.levels.map(|n| n as usize);
+        let [l1, l2, l3, l4] = &mut self.levels;
+        let levels = [&mut l1[..a], &mut l2[..b], &mut l3[..c], &mut l4[..d]];
+        let samples = &mut self.samples[..lent.samples as usize];
+        (LentMut { samples, levels }, &mut self.ring[..lent.ring as usize])
+    }
+
+    /// Document 01's append, node by node from the level below.
+    pub fn append(&mut self, unit: usize, len: usize, bytes: &[u8]) {
+        let end = len + bytes.len() / unit;
+        self.samples[len * unit..end * unit].copy_from_slice(&bytes[..(end - len) * unit]);
+        if end == len {
+            return;
+        }
+        let mut span = 1;
+        for level in 0..4 {
+            let below = (end - 1) / span + 1;
+            span *= 32;
+            for node in len / span..=(end - 1) / span {
+                let parts = node * 32..below.min(node * 32 + 32);
+                let made = parts.map(|part| self.node(unit, level, part)).reduce(join);
+                let made = made.expect("a touched node covers a sample");
+                self.levels[level][3 * node..3 * node + 3].copy_from_slice(&made);
+            }
+        }
+    }
+
+    /// While the recorder waits: each sample goes to the ring's next slot.
+    pub fn wait(&mut self, unit: usize, pre: usize, place: usize, bytes: &[u8]) {
+        if pre == 0 {
+            return;
+        }
+        for (k, sample) in bytes.chunks_exact(unit).enumerate() {
+            let slot = (place + k) % pre * unit;
+            self.ring[slot..slot + unit].copy_from_slice(sample);
+        }
+    }
+
+    /// First, last and toggles of a node; at level 0 of a sample.
+    fn node(&self, unit: usize, level: usize, number: usize) -> [u16; 3] {
+        if level > 0 {
+            let at = &self.levels[level - 1][3 * number..];
+            return [at[0], at[1], at[2]];
+        }
+        let at = &self.samples[number * unit..];
+        let sample = if unit == 1 { at[0] as u16 } else { u16::from_le_bytes([at[0], at[1]]) };
+        [sample, sample, 0]
+    }
+
+    pub fn first_difference(&self, right: &Memory) -> String {
+        let bytes =
+            [("byte", &self.samples, &right.samples), ("ring byte", &self.ring, &right.ring)];
+        for (what, is, right) in bytes {
+            if let Some(i) = (0..is.len()).find(|&i| is[i] != right[i]) {
+                return format!("{what} {i} is {} and should be {}", is[i], right[i]);
+            }
+        }
+        for (level, (is, right)) in self.levels.iter().zip(&right.levels).enumerate() {
+            if let Some(i) = (0..is.len()).find(|&i| is[i] != right[i]) {
+                let level = level + 1;
+                return format!("level {level}, {i} is {} and should be {}", is[i], right[i]);
+            }
+        }
+        "nowhere".into()
+    }
+}
+
+fn join(a: [u16; 3], b: [u16; 3]) -> [u16; 3] {
+    [a[0], b[1], a[2] | b[2] | (a[1] ^ b[0])]
+}

@@ -1,0 +1,4 @@
+pub mod Cuts
+pub mod Left
+pub mod Fires
+pub mod Answered

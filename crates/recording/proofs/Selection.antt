@@ -1,0 +1,135 @@
+-- 1. selection: what a recording leaves is 01's run, with its mark, right levels and answers.
+use mathlib.Core.Path.{_≡_, refl, sym, ap, _∙_, subst}
+use mathlib.Core.List.{List}
+use Prim.Native.Nat.{ℕ, _%_, _<_}
+use native.Mathlib.Nat.{zero-add, mod-lt}
+use native.Mathlib.Omega.{arith}
+use lib.ListN.{length, getD}
+use Rattle.rules.specs.Sample.{sampleOf}
+use Rattle.rules.specs.Trigger.{Masks, unarmed, waiting}
+use Rattle.rules.specs.Selection.{accepted}
+use Rattle.rules.specs.Refusal.{Lent, Recorder, startRefusal}
+use Rattle.rules.proofs.Refusal.{SoundRecorder}
+use Rattle.ring.specs.Bytes.{units}
+use Rattle.ring.specs.Push.{Left, pushesBytes, repliesBytes, started, startedWith}
+use Rattle.ring.proofs.Bytes.{units-at, units-length}
+use Rattle.ring.proofs.Push.{GoesOn, standsIn}
+use Rattle.ring.proofs.Selects.{Holds, in-slot}
+use Rattle.ring.proofs.Selects as state
+use Rattle.ring.proofs.Slots.{place-mod, place-zero}
+use Rattle.ring.proofs.Lists.{Recorded, start-goes, all-go, held, start-sound, start-list-sound, start-recorded}
+use Rattle.node.specs.Memory.{Right}
+use Rattle.rebuild.proofs.Right.{right-same}
+use Rattle.capture.specs.Record.{lentOf}
+use Rattle.capture.proofs.Answer.{lent-same}
+use Rattle.feeder.specs.Record.{recorderOf, armedAs}
+use Rattle.feeder.specs.Start.{begun}
+use Rattle.feeder.proofs.Begun.{given-is}
+use Rattle.recording.specs.Claim.{levels, settings, lengths, Recording, store, ruled, run, s, len, Waits, Selects}
+use Rattle.recording.proofs.Pushes.{Going, Kept, kept-sound, all-kept}
+
+module _ (r : Recording) where
+  abbrev lent : Lent
+  lent = lengths (r .before)
+
+  abbrev begins : Left
+  begins = startedWith (ruled r) (r .before .samples) (r .before .ring)
+
+  abbrev last : Left
+  last = pushesBytes begins (r .pushes)
+
+  -- ---- the start
+  start-is : (startRefusal (settings (r .setup)) lent (length (r .before .ring)) ≡ 0) × (recorderOf (r .fresh) ≡ started (ruled r))
+  start-is =
+      let t = given-is (startRefusal (settings (r .setup)) lent (length (r .before .ring))) (begun (settings (r .setup))) (record { recorder = recorderOf (r .fresh); was-cut = r .was-cut }) (r .started) in
+      (t .0, ap (λ b. b .recorder) (t .1))
+
+  sound-start : SoundRecorder (started (ruled r)) lent (length (r .before .ring))
+  sound-start = start-sound (settings (r .setup)) (r .before .samples) (r .before .ring) lent refl (start-is .0)
+
+  goes : (rest : List (List ℕ)) → GoesOn (ruled r) (length (r .before .samples)) (length (r .before .ring)) (pushesBytes begins rest)
+  goes rest =
+      all-go (ruled r) (length (r .before .samples)) (length (r .before .ring)) rest begins
+      (start-goes (ruled r) (r .before .samples) (r .before .ring) (sound-start .store .samples) (sound-start .ring))
+
+  going : Going lent begins
+  going = record {
+    sound = start-list-sound (settings (r .setup)) (r .before .samples) (r .before .ring) lent refl (start-is .0);
+    size = λ rest. goes rest .samples-length;
+  }
+
+  -- nothing is stored, so whatever the levels hold is right
+  first : Kept lent begins (r .fresh) (r .before)
+  first = record {
+    recorder-is = start-is .1;
+    samples-are = refl;
+    ring-is = refl;
+    lengths = λ k p q. sym (ap (λ (x : Lent). x .level k) (lent-same (r .before .samples) (r .before .l1) (r .before .l2) (r .before .l3) (r .before .l4)));
+    right = λ l p q j h. absurd (omega (arith, ap (λ (c : Recorder). c .store .len) (start-is .1)));
+  }
+
+  -- ---- the list
+  both : Kept lent last (r .feeder) (r .memory) × (r .replies ≡ repliesBytes begins (r .pushes))
+  both = all-kept lent begins going first (r .pushed)
+
+  kept : Kept lent last (r .feeder) (r .memory)
+  kept = both .0
+
+  -- rows 1 and 2 let pass what a recording leaves
+  pub recorder-sound : SoundRecorder (recorderOf (r .feeder)) (lentOf (r .memory .samples) (levels (r .memory))) (length (r .memory .ring))
+  recorder-sound = kept-sound lent last (r .feeder) (r .memory) (going .sound (r .pushes)) (going .size (r .pushes)) kept
+
+  made : Recorded (ruled r) (r .pushes) last (repliesBytes begins (r .pushes))
+  made = start-recorded (settings (r .setup)) (r .before .samples) (r .before .ring) lent refl (start-is .0) (r .pushes)
+
+  unit-is : store r .unitsize ≡ ruled r .unit
+  unit-is = ap (λ (c : Recorder). c .store .unit) (kept .recorder-is) ∙ goes (r .pushes) .unit
+
+  pub len-is : store r .len ≡ len r
+  len-is = ap (λ (c : Recorder). c .store .len) (kept .recorder-is) ∙ made .len
+
+  -- the run, as memory has it
+  stored : units (store r .unitsize) (store r .len) (r .memory .samples) ≡ run r
+  stored =
+      (λ i. units (unit-is i) (kept .recorder-is i .store .len) (kept .samples-are i))
+      ∙ made .samples
+
+  pub samples-are : (i : ℕ) → i < len r → sampleOf (store r .unitsize) (r .memory .samples) i ≡ s r i
+  samples-are i h = sym (units-at (store r .unitsize) (store r .len) (r .memory .samples) i (omega (arith, len-is))) ∙ ap (λ (x : List ℕ). getD x i 0) stored
+
+  -- the levels are right for the samples in memory
+  pub right : Right (sampleOf (store r .unitsize) (r .memory .samples)) (store r .len) (levels (r .memory))
+  right = kept .right
+
+  -- ---- the ring
+  abbrev all : List ℕ
+  all = accepted (ruled r) (r .pushes)
+
+  ring-is : units (last .recorder .store .unit) (last .recorder .pre) (last .ring) ≡ units (ruled r .unit) (ruled r .pre) (r .memory .ring)
+  ring-is = λ i. units (goes (r .pushes) .unit i) (goes (r .pushes) .pre i) (sym (kept .ring-is) i)
+
+  waits : (masks : Masks) → armedAs (r .feeder .masks) ≡ waiting masks → Waits (ruled r .unit) (ruled r .pre) all (r .feeder) (r .memory .ring)
+  waits masks e = go (held (ruled r) (r .before .samples) (r .before .ring) (sound-start .store .samples) (sound-start .ring) (r .pushes))
+    where
+      go : Holds (ruled r) (units (ruled r .unit) (ruled r .pre) (r .before .ring)) all (standsIn last) → Waits (ruled r .unit) (ruled r .pre) all (r .feeder) (r .memory .ring)
+      go (state.stores o) = absurd (let a : unarmed ≡ waiting masks = sym (o .armed) ∙ ap (λ (c : Recorder). c .armed) (sym (kept .recorder-is)) ∙ e in let z : _≡_ {A = ℕ} 0 1 = cc in omega arith)
+      go (state.waits w) = record {
+        kept = ap (λ (c : Recorder). c .kept) (kept .recorder-is) ∙ w .kept ∙ omega arith;
+        place = λ h. ap (λ (c : Recorder). c .place) (kept .recorder-is) ∙ w .place ∙ place-mod (ruled r .pre) (length all) 0 h ∙ ap (λ (k : ℕ). k % ruled r .pre) (zero-add (length all));
+        no-place = λ h. ap (λ (c : Recorder). c .place) (kept .recorder-is) ∙ w .place ∙ place-zero (ruled r .pre) (length all) 0 h refl;
+        slots = λ k h l.
+            let pos : 0 < ruled r .pre = omega arith in
+            sym (units-at (ruled r .unit) (ruled r .pre) (r .memory .ring) (k % ruled r .pre) (mod-lt k pos))
+            ∙ ap (λ (x : List ℕ). getD x (k % ruled r .pre) 0) (sym ring-is)
+            ∙ in-slot (ruled r) (units (ruled r .unit) (ruled r .pre) (r .before .ring)) all (rw units-length (omega arith)) (standsIn last) w k pos h l;
+      }
+
+  pub selection : Selects r
+  selection = record {
+    len-is = len-is;
+    mark-is = ap (λ (c : Recorder). c .store .mark) (kept .recorder-is) ∙ made .mark;
+    samples-are = samples-are;
+    levels-right = subst (λ (n : ℕ). Right (s r) n (levels (r .memory))) len-is (right-same (sampleOf (store r .unitsize) (r .memory .samples)) (s r) (levels (r .memory)) (store r .len) (λ i h. samples-are i (omega (arith, len-is))) (kept .right));
+    replies-are = both .1 ∙ made .replies;
+    waits = waits;
+  }

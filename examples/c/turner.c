@@ -1,0 +1,146 @@
+/* Records the lines of a log turner through a trigger, searches and draws what was recorded, and checks each answer by
+ * a plain scan. Prints the answers; exits with 1 at the first that is wrong. */
+#include "logic_core.h"
+
+#include <stdio.h>
+#include <stdlib.h>
+
+enum {
+    CHANNELS = 8,       /* up to 8: one byte a sample */
+    CAPACITY = 100000,  /* samples */
+    LIMIT = 4000,       /* samples wanted */
+    PUSH = 300,         /* samples in a push */
+    WIDTH = 60,         /* pixels */
+    DRIVE = 3           /* the line of the turner's drive; the encoder's lines are 0 and 1 */
+};
+static const uint16_t ENCODER = 1 << 0 | 1 << 1;
+static const uint8_t RISING = 0;
+
+/* Memory lent to the recorder. It stays ours, and goes to each call on the record. */
+struct memory {
+    uint8_t *samples;
+    uint16_t *level[4];
+    uint8_t *ring;
+    size_t sizes[5]; /* as lc_needs gives them */
+    size_t ring_size;
+};
+
+/* The lent memory as each call takes it. */
+#define LENT(m)                                                                                  \
+    (m)->samples, (m)->sizes[0], (m)->level[0], (m)->sizes[1], (m)->level[1], (m)->sizes[2],     \
+        (m)->level[2], (m)->sizes[3], (m)->level[3], (m)->sizes[4]
+
+static void *lend(size_t bytes) {
+    void *memory = malloc(bytes > 0 ? bytes : 1);
+    if (memory == NULL) {
+        fprintf(stderr, "no memory\n");
+        exit(2);
+    }
+    return memory;
+}
+
+/* Stops where something is not as it must be. */
+static void must(int holds, const char *what) {
+    if (!holds) {
+        printf("wrong: %s\n", what);
+        exit(1);
+    }
+}
+
+/* The machine: the drive starts at sample 5000, and the encoder then moves a step every 90 samples. */
+static uint8_t machine(size_t k) {
+    static const uint8_t step[4] = {0, 1, 3, 2};
+    return k < 5000 ? 0 : (uint8_t)(step[(k - 5000) / 90 % 4] | 1 << DRIVE);
+}
+
+/* The first change above from, by looking at every sample. */
+static size_t scan(const uint8_t *s, size_t len, uint16_t mask, size_t from) {
+    for (size_t i = from + 1; i < len; i++)
+        if ((s[i] ^ s[i - 1]) & mask)
+            return i;
+    return len;
+}
+
+int main(void) {
+    struct memory m;
+    size_t record[17], cut;
+
+    /* Lend as much as lc_needs says; the ring holds what is kept before the trigger, less than the limit. */
+    must(lc_needs(CHANNELS, CAPACITY, m.sizes) == 0, "needs");
+    m.samples = lend(m.sizes[0]);
+    for (int level = 0; level < 4; level++)
+        m.level[level] = lend(m.sizes[1 + level] * sizeof(uint16_t));
+    m.ring_size = LIMIT;
+    m.ring = lend(m.ring_size);
+
+    /* A quarter of the limit from before the drive rises. */
+    const uint8_t terms[] = {DRIVE, RISING};
+    must(lc_feeder_start(CHANNELS, CAPACITY, LIMIT, terms, sizeof terms, false, 0.25, 0, LENT(&m), m.ring, m.ring_size,
+                         record, &cut) == 0, "start");
+
+    size_t pushed = 0;
+    for (uint32_t code = 0; code != LC_NONE;) {
+        uint8_t bytes[PUSH];
+        for (size_t i = 0; i < PUSH; i++)
+            bytes[i] = machine(pushed + i);
+        pushed += PUSH;
+        code = lc_push(record, LENT(&m), m.ring, m.ring_size, bytes, sizeof bytes);
+        must(code == 0 || code == LC_NONE, "push");
+    }
+    const size_t len = record[2], mark = record[4];
+    printf("pushed %zu, stored %zu, mark %zu\n", pushed, len, mark);
+    must(len == LIMIT && record[3] != 0 && mark == LIMIT / 4, "the run's length and mark");
+    for (size_t i = 0; i < len; i++)
+        must(m.samples[i] == machine(5000 - mark + i), "the run's samples");
+    size_t level, number;
+    must(lc_whole(record, LENT(&m), &level, &number) == 0, "whole");
+
+    /* All changes of the encoder, one after another. */
+    size_t steps = 0, first = 0, last = 0, place;
+    while (lc_next_change(record, LENT(&m), ENCODER, last, &place) == 0) {
+        must(place == scan(m.samples, len, ENCODER, last), "next change");
+        if (steps++ == 0)
+            first = place;
+        last = place;
+    }
+    must(scan(m.samples, len, ENCODER, last) == len, "no change after the last");
+    printf("encoder: first step at %zu, last at %zu, %zu steps\n", first, last, steps);
+    must(lc_prev_change(record, LENT(&m), ENCODER, len, &place) == 0 && place == last, "previous change");
+
+    size_t ends[4];
+    must(lc_burst_at(record, LENT(&m), ENCODER, 2000, 100, 0, 1000, ends) == 0, "burst");
+    printf("burst: %zu to %zu, %zu jumps at its end, %zu at its start\n", ends[0], ends[1], ends[2], ends[3]);
+    must(ends[0] == first && ends[1] == last, "the burst's ends");
+
+    uint16_t node[3];
+    must(lc_summary(record, LENT(&m), 0, mark, node) == 0, "summary");
+    printf("before the mark: first %u, last %u, changing %u\n", node[0], node[1], node[2]);
+    must(node[0] == 0 && node[1] == 0 && node[2] == 0, "the summary before the mark");
+
+    /* A picture of the drive and the encoder: high -, low _, and | where a line changes within the pixel. */
+    uint16_t pixels[2 * WIDTH];
+    must(lc_render(record, LENT(&m), (double)mark - 200, 20, WIDTH, pixels, 2 * WIDTH) == 0, "render");
+    static const int lines[] = {DRIVE, 0, 1};
+    for (size_t l = 0; l < sizeof lines / sizeof *lines; l++) {
+        char row[WIDTH + 1];
+        for (size_t px = 0; px < WIDTH; px++) {
+            const int high = pixels[2 * px] >> lines[l] & 1, changes = pixels[2 * px + 1] >> lines[l] & 1;
+            must(high == (m.samples[mark - 200 + 20 * px] >> lines[l] & 1), "a pixel's first sample");
+            row[px] = changes ? '|' : high ? '-' : '_';
+        }
+        row[WIDTH] = '\0';
+        printf("line %d %s\n", lines[l], row);
+    }
+
+    /* A refusal has a number, and changes nothing. */
+    uint16_t value = 77;
+    const uint32_t refused = lc_get(record, LENT(&m), len, &value);
+    printf("get past the end: refused with %u\n", (unsigned)refused);
+    must(refused == 9 && value == 77, "the refusal");
+
+    free(m.samples);
+    for (int l = 0; l < 4; l++)
+        free(m.level[l]);
+    free(m.ring);
+    return 0;
+}

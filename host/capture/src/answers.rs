@@ -1,0 +1,64 @@
+//! What questions are answered with.
+
+use crate::Lines;
+use std::error::Error;
+use std::fmt;
+
+/// The summary of a stretch of samples.
+#[derive(Clone, Copy, Debug, PartialEq, Eq, Hash)]
+pub struct Node {
+    /// The first sample.
+    pub first: Lines,
+    /// The last sample.
+    pub last: Lines,
+    /// The lines that change inside.
+    pub toggles: Lines,
+}
+
+/// Changes that follow each other in less than a gap.
+#[derive(Clone, Copy, Debug, PartialEq, Eq, Hash)]
+pub struct Burst {
+    /// The place of the first change.
+    pub first: usize,
+    /// The place of the last change.
+    pub last: usize,
+    /// How many jumps moved `last`.
+    pub jumps_at_end: usize,
+    /// How many jumps moved `first`.
+    pub jumps_at_start: usize,
+}
+
+/// The stretch of a capture that is drawn.
+#[derive(Clone, Copy, Debug, PartialEq)]
+pub struct View {
+    /// The place at which the first pixel begins. It may be a part of a sample, or before the capture.
+    pub start: f64,
+    /// Samples per pixel.
+    pub spp: f64,
+}
+
+/// One pixel of all lines.
+#[derive(Clone, Copy, Debug, Default, PartialEq, Eq, Hash)]
+pub struct Pixel {
+    /// The first sample under it; 0 where there is none.
+    pub first: Lines,
+    /// The lines that change under it, up to and with the first sample of the next pixel.
+    pub toggles: Lines,
+}
+
+/// A node of the summary tree that is not the node of its stretch.
+#[derive(Clone, Copy, Debug, PartialEq, Eq, Hash)]
+pub struct WrongNode {
+    /// Its level, 1 to 4: a node of level l covers 32^l samples.
+    pub level: usize,
+    /// Its number in the level, from 0.
+    pub number: usize,
+}
+
+impl fmt::Display for WrongNode {
+    fn fmt(&self, f: &mut fmt::Formatter<'_>) -> fmt::Result {
+        write!(f, "node {} of level {} is not the node of its samples", self.number, self.level)
+    }
+}
+
+impl Error for WrongNode {}

@@ -1,0 +1,291 @@
+//! The calls of include/logic_core.h made safe: slices for pointers with lengths, results for codes.
+//!
+//! All `unsafe` of this crate is here. The library checks every number that it gets. What a caller owes it are
+//! pointers that are valid for their lengths, aligned and not null, and that what a call writes overlaps nothing
+//! else that it gets. Vectors and arrays give such pointers, empty ones too, and the borrows in each signature keep
+//! them apart.
+
+use crate::memory::Memory;
+use crate::{Lines, Node, Refusal};
+
+/// unit, capacity, len, whether there is a mark, the mark
+pub type Record = [usize; 5];
+
+/// The record of a recorder: that of its capture, then its own numbers.
+pub type RecorderRecord = [usize; 17];
+
+/// A refusal, or whether there is an answer.
+type Answered = Result<bool, Refusal>;
+
+/// Declares calls that take a record and its lent memory between the arguments of their own.
+macro_rules! declare {
+    ($(fn $name:ident($($before:ident: $b:ty),*; $byte:ty, $number:ty; $($after:ident: $a:ty),*) -> $code:ty;)*) => {
+        extern "C" {
+            $(fn $name(
+                $($before: $b,)*
+                samples: $byte, samples_len: usize,
+                l1: $number, l1_len: usize,
+                l2: $number, l2_len: usize,
+                l3: $number, l3_len: usize,
+                l4: $number, l4_len: usize,
+                $($after: $a,)*
+            ) -> $code;)*
+        }
+    };
+}
+
+declare! {
+    fn lc_start(channels: usize, capacity: usize; *const u8, *const u16; record: *mut usize) -> u32;
+    fn lc_append(record: *mut usize; *mut u8, *mut u16; bytes: *const u8, bytes_len: usize) -> u32;
+    fn lc_get(record: *const usize; *const u8, *const u16; i: usize, value: *mut u16) -> u32;
+    fn lc_samples(
+        record: *const usize; *const u8, *const u16;
+        start: usize, count: usize, output: *mut u16, output_len: usize, copied: *mut usize
+    ) -> u32;
+    fn lc_raw(record: *const usize; *const u8, *const u16; chunk: usize, from: *mut usize, to: *mut usize) -> ();
+    fn lc_whole(record: *const usize; *const u8, *const u16; level: *mut usize, number: *mut usize) -> u32;
+    fn lc_summary(record: *const usize; *const u8, *const u16; a: usize, b: usize, node: *mut u16) -> u32;
+    fn lc_next_change(record: *const usize; *const u8, *const u16; mask: u16, from: usize, place: *mut usize) -> u32;
+    fn lc_prev_change(record: *const usize; *const u8, *const u16; mask: u16, from: usize, place: *mut usize) -> u32;
+    fn lc_burst_at(
+        record: *const usize; *const u8, *const u16;
+        mask: u16, sample: usize, max_gap: usize, tolerance: usize, budget: usize, ends: *mut usize
+    ) -> u32;
+    fn lc_render(
+        record: *const usize; *const u8, *const u16;
+        start: f64, spp: f64, width: usize, output: *mut u16, output_len: usize
+    ) -> u32;
+    fn lc_feeder_start(
+        channels: usize, capacity: usize, limit: usize,
+        terms: *const u8, terms_len: usize, seconds: bool, wish: f64, rate: usize;
+        *const u8, *const u16;
+        ring: *const u8, ring_len: usize, record: *mut usize, cut: *mut usize
+    ) -> u32;
+    fn lc_push(
+        record: *mut usize; *mut u8, *mut u16;
+        ring: *mut u8, ring_len: usize, bytes: *const u8, bytes_len: usize
+    ) -> u32;
+}
+
+extern "C" {
+    fn lc_needs(channels: usize, capacity: usize, sizes: *mut usize) -> u32;
+}
+
+/// Calls with the pointers and lengths of lent memory between the arguments of its own.
+macro_rules! call {
+    ($name:ident, ($($before:expr),*), $memory:ident.$pointer:ident, ($($after:expr),*)) => {{
+        let Memory { samples, levels: [l1, l2, l3, l4] } = $memory;
+        // SAFETY: the pointers of lent memory are a vector's own, with its length. The other arguments are numbers,
+        // and pointers and lengths of the slices and arrays that the calling function borrows or owns.
+        unsafe {
+            $name(
+                $($before,)*
+                samples.$pointer(), samples.len(),
+                l1.$pointer(), l1.len(),
+                l2.$pointer(), l2.len(),
+                l3.$pointer(), l3.len(),
+                l4.$pointer(), l4.len(),
+                $($after,)*
+            )
+        }
+    }};
+}
+
+/// What a code says: 0 yes, 100 no, else the number of a refusal.
+fn answered(code: u32) -> Answered {
+    match code {
+        0 => Ok(true),
+        100 => Ok(false),
+        _ => match Refusal::of_number(code) {
+            Some(refusal) => Err(refusal),
+            None => unreachable!("the header gives no code {code}"),
+        },
+    }
+}
+
+pub fn needs(channels: usize, capacity: usize) -> Result<[usize; 5], Refusal> {
+    let mut sizes = [0; 5];
+    // SAFETY: the pointer is to five numbers, as many as are written.
+    let code = unsafe { lc_needs(channels, capacity, sizes.as_mut_ptr()) };
+    answered(code).map(|_| sizes)
+}
+
+pub fn start(channels: usize, capacity: usize, memory: &Memory) -> Result<Record, Refusal> {
+    let mut record = [0; 5];
+    answered(call!(lc_start, (channels, capacity), memory.as_ptr, (record.as_mut_ptr())))
+        .map(|_| record)
+}
+
+pub fn append(record: &mut Record, memory: &mut Memory, bytes: &[u8]) -> Result<(), Refusal> {
+    answered(call!(
+        lc_append,
+        (record.as_mut_ptr()),
+        memory.as_mut_ptr,
+        (bytes.as_ptr(), bytes.len())
+    ))
+    .map(|_| ())
+}
+
+pub fn get(record: &Record, memory: &Memory, i: usize) -> Result<Lines, Refusal> {
+    let mut value = 0;
+    answered(call!(lc_get, (record.as_ptr()), memory.as_ptr, (i, &mut value))).map(|_| value)
+}
+
+pub fn samples(
+    record: &Record,
+    memory: &Memory,
+    start: usize,
+    count: usize,
+    output: &mut [Lines],
+) -> Result<usize, Refusal> {
+    let (room, mut copied) = (output.len(), 0);
+    let code = call!(
+        lc_samples,
+        (record.as_ptr()),
+        memory.as_ptr,
+        (start, count, output.as_mut_ptr(), room, &mut copied)
+    );
+    answered(code).map(|_| copied)
+}
+
+pub fn raw<'a>(record: &Record, memory: &'a Memory, chunk: usize) -> &'a [u8] {
+    let (mut from, mut to) = (0, 0);
+    call!(lc_raw, (record.as_ptr()), memory.as_ptr, (chunk, &mut from, &mut to));
+    &memory.samples[from..to]
+}
+
+/// None where the levels are whole, else the level and the number of the first wrong node.
+pub fn whole(record: &Record, memory: &Memory) -> Result<Option<(usize, usize)>, Refusal> {
+    let (mut level, mut number) = (0, 0);
+    let whole =
+        answered(call!(lc_whole, (record.as_ptr()), memory.as_ptr, (&mut level, &mut number)))?;
+    Ok((!whole).then_some((level, number)))
+}
+
+pub fn summary(
+    record: &Record,
+    memory: &Memory,
+    a: usize,
+    b: usize,
+) -> Result<Option<Node>, Refusal> {
+    let mut node = [0; 3];
+    let found =
+        answered(call!(lc_summary, (record.as_ptr()), memory.as_ptr, (a, b, node.as_mut_ptr())))?;
+    let [first, last, toggles] = node;
+    Ok(found.then_some(Node { first, last, toggles }))
+}
+
+pub fn next_change(
+    record: &Record,
+    memory: &Memory,
+    mask: Lines,
+    from: usize,
+) -> Result<Option<usize>, Refusal> {
+    let mut place = 0;
+    let found = answered(call!(
+        lc_next_change,
+        (record.as_ptr()),
+        memory.as_ptr,
+        (mask, from, &mut place)
+    ))?;
+    Ok(found.then_some(place))
+}
+
+pub fn prev_change(
+    record: &Record,
+    memory: &Memory,
+    mask: Lines,
+    from: usize,
+) -> Result<Option<usize>, Refusal> {
+    let mut place = 0;
+    let found = answered(call!(
+        lc_prev_change,
+        (record.as_ptr()),
+        memory.as_ptr,
+        (mask, from, &mut place)
+    ))?;
+    Ok(found.then_some(place))
+}
+
+/// first, last, the jumps at the end, the jumps at the start
+pub fn burst_at(
+    record: &Record,
+    memory: &Memory,
+    mask: Lines,
+    sample: usize,
+    [max_gap, tolerance, budget]: [usize; 3],
+) -> Result<Option<[usize; 4]>, Refusal> {
+    let mut ends = [0; 4];
+    let out = ends.as_mut_ptr();
+    let code = call!(
+        lc_burst_at,
+        (record.as_ptr()),
+        memory.as_ptr,
+        (mask, sample, max_gap, tolerance, budget, out)
+    );
+    Ok(answered(code)?.then_some(ends))
+}
+
+/// Two numbers of the output for each pixel.
+pub fn render(
+    record: &Record,
+    memory: &Memory,
+    start: f64,
+    spp: f64,
+    width: usize,
+    output: &mut [Lines],
+) -> Result<(), Refusal> {
+    let room = output.len();
+    let code = call!(
+        lc_render,
+        (record.as_ptr()),
+        memory.as_ptr,
+        (start, spp, width, output.as_mut_ptr(), room)
+    );
+    answered(code).map(|_| ())
+}
+
+/// What a recorder is started with; two bytes a term, its line and its condition.
+pub struct RecorderStart<'a> {
+    pub channels: usize,
+    pub capacity: usize,
+    pub limit: usize,
+    pub terms: &'a [u8],
+    pub seconds: bool,
+    pub wish: f64,
+    pub rate: usize,
+}
+
+/// The recorder's record, and whether the samples kept before the trigger were cut.
+pub fn recorder_start(
+    asked: RecorderStart,
+    memory: &Memory,
+    ring: &[u8],
+) -> Result<(RecorderRecord, bool), Refusal> {
+    let RecorderStart { channels, capacity, limit, terms, seconds, wish, rate } = asked;
+    let (mut record, mut cut) = ([0; 17], 0);
+    let code = call!(
+        lc_feeder_start,
+        (channels, capacity, limit, terms.as_ptr(), terms.len(), seconds, wish, rate),
+        memory.as_ptr,
+        (ring.as_ptr(), ring.len(), record.as_mut_ptr(), &mut cut)
+    );
+    answered(code).map(|_| (record, cut != 0))
+}
+
+/// Whether the recording goes on.
+pub fn push(
+    record: &mut RecorderRecord,
+    memory: &mut Memory,
+    ring: &mut [u8],
+    bytes: &[u8],
+) -> Answered {
+    let room = ring.len();
+    let code = call!(
+        lc_push,
+        (record.as_mut_ptr()),
+        memory.as_mut_ptr,
+        (ring.as_mut_ptr(), room, bytes.as_ptr(), bytes.len())
+    );
+    answered(code)
+}

@@ -1,0 +1,108 @@
+//! Why a call was refused.
+
+use std::error::Error;
+use std::fmt;
+
+/// Why a call was refused. A refused call has changed nothing.
+///
+/// It prints in words, with the number by which the library and its header know it:
+///
+/// ```
+/// use capture::{Capture, Refusal};
+///
+/// let mut capture = Capture::start(8, 2)?;
+/// let refusal = capture.append(&[0, 1, 0]).unwrap_err();
+/// assert_eq!(refusal, Refusal::Full);
+/// assert_eq!(refusal.number(), 8);
+/// assert_eq!(refusal.to_string(), "refused, 8: the samples do not fit in the capacity");
+/// assert!(capture.is_empty());
+/// # Ok::<(), Refusal>(())
+/// ```
+#[derive(Clone, Copy, Debug, PartialEq, Eq, Hash)]
+#[non_exhaustive]
+pub enum Refusal {
+    /// 1: a capacity that is 0 or above [`MOST_SAMPLES`](crate::MOST_SAMPLES).
+    Capacity,
+    /// 2: lent memory is too short. This crate lends enough, so none of its calls gives this.
+    Memory,
+    /// 3: a term's line is above 15.
+    Line,
+    /// 4: the limit is above the capacity.
+    Limit,
+    /// 5: a fraction of no limit, or seconds beside a limit.
+    WishKind,
+    /// 6: a wish that is not a number, or seconds at more than 1,000,000,000 samples a second.
+    WishNumber,
+    /// 7: as many samples are to be kept before the trigger as the capture can hold, or more.
+    Pretrigger,
+    /// 8: the samples do not fit in the capacity.
+    Full,
+    /// 9: there is no sample at the place.
+    Place,
+    /// 10: a view's start or samples per pixel is infinite or not a number.
+    View,
+    /// 11: more than [`MOST_PIXELS`](crate::MOST_PIXELS) pixels.
+    Width,
+}
+
+/// Each refusal at its number less 1, with its words.
+const WORDS: [(Refusal, &str); 11] = [
+    (Refusal::Capacity, "a capacity is 1 to 67108864 samples"),
+    (Refusal::Memory, "lent memory is too short"),
+    (Refusal::Line, "a trigger's lines are 0 to 15"),
+    (Refusal::Limit, "the limit is above the capacity"),
+    (
+        Refusal::WishKind,
+        "a fraction before the trigger needs a limit, and seconds need that there is none",
+    ),
+    (Refusal::WishNumber, "the pre-trigger is not a number, or its rate is above 1000000000"),
+    (Refusal::Pretrigger, "the samples before the trigger leave no room for it in the capacity"),
+    (Refusal::Full, "the samples do not fit in the capacity"),
+    (Refusal::Place, "there is no sample at that place"),
+    (Refusal::View, "a view's start and samples per pixel are finite numbers"),
+    (Refusal::Width, "at most 65536 pixels are drawn at once"),
+];
+
+impl Refusal {
+    /// The refusal's number in the library's header, 1 to 11.
+    pub fn number(self) -> u32 {
+        self as u32 + 1
+    }
+
+    /// The refusal of a number, if it is one.
+    pub(crate) fn of_number(number: u32) -> Option<Refusal> {
+        let index = usize::try_from(number).ok()?.checked_sub(1)?;
+        WORDS.get(index).map(|&(refusal, _)| refusal)
+    }
+}
+
+impl fmt::Display for Refusal {
+    fn fmt(&self, f: &mut fmt::Formatter<'_>) -> fmt::Result {
+        write!(f, "refused, {}: {}", self.number(), WORDS[*self as usize].1)
+    }
+}
+
+impl Error for Refusal {}
+
+#[cfg(test)]
+mod tests {
+    use super::*;
+
+    #[test]
+    fn each_number_has_its_refusal() {
+        for (index, &(refusal, _)) in WORDS.iter().enumerate() {
+            assert_eq!(refusal as usize, index);
+            assert_eq!(Refusal::of_number(refusal.number()), Some(refusal));
+        }
+        for number in [0, 12, 100, u32::MAX] {
+            assert_eq!(Refusal::of_number(number), None);
+        }
+    }
+
+    #[test]
+    fn it_prints_its_number() {
+        for (refusal, _) in WORDS {
+            assert!(refusal.to_string().starts_with(&format!("refused, {}: ", refusal.number())));
+        }
+    }
+}

@@ -1,0 +1,37 @@
+//! The burst at a place.
+
+use super::{chosen_lines, needed, Command};
+use crate::args::Takes;
+use crate::failure::Outcome;
+use crate::{file, lines, number, place};
+
+pub const COMMAND: Command = Command {
+    name: "burst",
+    about: "Prints the burst of changes at a place",
+    help: include_str!("../help/burst.txt"),
+    options: &[
+        ("--at", Takes::Value),
+        ("--gap", Takes::Value),
+        ("--tolerance", Takes::Value),
+        ("--budget", Takes::Value),
+        ("--lines", Takes::Value),
+        ("--unit", Takes::Value),
+    ],
+    run: |args, out| {
+        let recording = file::load("burst", args)?;
+        let mask = lines::mask(&chosen_lines(args, &recording)?);
+        let at = needed(place::asked(args, "--at", &recording)?, "--at PLACE")?;
+        let gap = needed(args.read_value("--gap", number::whole)?, "--gap SAMPLES")?;
+        let tolerance = args.read_value("--tolerance", number::whole)?.unwrap_or(0);
+        let budget = args.read_value("--budget", number::whole)?.unwrap_or(usize::MAX);
+        let burst = recording.capture.burst_at(mask, at, gap, tolerance, budget);
+        if let Some(burst) = burst {
+            writeln!(
+                out,
+                "{} {} {} {}",
+                burst.first, burst.last, burst.jumps_at_end, burst.jumps_at_start
+            )?;
+        }
+        Ok(Outcome::of(burst.is_some()))
+    },
+};

@@ -1,0 +1,24 @@
+//! Whether a capture is whole.
+
+use super::Command;
+use crate::args::Takes;
+use crate::failure::Outcome;
+use crate::file;
+
+pub const COMMAND: Command = Command {
+    name: "check",
+    about: "Checks a capture file, and every summary that is made of it",
+    help: include_str!("../help/check.txt"),
+    options: &[("--unit", Takes::Value)],
+    run: |args, out| {
+        let recording = file::load("check", args)?;
+        match recording.capture.whole() {
+            Ok(()) => writeln!(out, "whole")?,
+            Err(wrong) => {
+                writeln!(out, "wrong {} {}", wrong.level, wrong.number)?;
+                return Ok(Outcome::No);
+            }
+        }
+        Ok(Outcome::Yes)
+    },
+};

@@ -1,0 +1,76 @@
+//! The commands.
+
+mod burst;
+mod changes;
+mod check;
+mod demo;
+mod info;
+mod next;
+mod prev;
+mod record;
+mod render;
+mod samples;
+mod summary;
+
+use crate::args::{Args, Known};
+use crate::failure::{bad, Failure, Outcome};
+use crate::lines;
+use crate::recording::Recording;
+use std::io::Write;
+
+pub struct Command {
+    pub name: &'static str,
+    /// What it does, in a line.
+    pub about: &'static str,
+    /// The rest of its help.
+    pub help: &'static str,
+    pub options: &'static [Known],
+    pub run: fn(&Args, &mut dyn Write) -> Result<Outcome, Failure>,
+}
+
+pub const COMMANDS: [Command; 11] = [
+    demo::COMMAND,
+    record::COMMAND,
+    info::COMMAND,
+    next::COMMAND,
+    prev::COMMAND,
+    changes::COMMAND,
+    burst::COMMAND,
+    summary::COMMAND,
+    samples::COMMAND,
+    render::COMMAND,
+    check::COMMAND,
+];
+
+/// The lines that --lines chooses, all of them without it.
+fn chosen_lines(args: &Args, recording: &Recording) -> Result<Vec<u8>, Failure> {
+    let unit = recording.capture.unit();
+    let chosen = args.read_value("--lines", |text| lines::read(text, unit))?;
+    Ok(chosen.unwrap_or_else(|| lines::all(unit)))
+}
+
+/// Something that a command cannot do without.
+fn needed<T>(value: Option<T>, what: &str) -> Result<T, Failure> {
+    value.ok_or_else(|| bad(format!("{what} is missing; see --help")))
+}
+
+#[cfg(test)]
+mod tests {
+    use super::*;
+
+    #[test]
+    fn each_help_names_each_option() {
+        for command in &COMMANDS {
+            for (option, _) in command.options {
+                assert!(command.help.contains(option), "{} {option}", command.name);
+            }
+            assert!(command.help.starts_with("  logic-capture "), "{}", command.name);
+            assert!(command.help.contains("Exit status"), "{}", command.name);
+            assert!(
+                command.help.lines().all(|line| line.chars().count() <= 100),
+                "{}",
+                command.name
+            );
+        }
+    }
+}

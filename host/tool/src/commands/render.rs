@@ -1,0 +1,128 @@
+//! The waveform of a stretch, as text or as a picture.
+
+use super::{chosen_lines, Command};
+use crate::args::{Args, Takes};
+use crate::failure::{bad, Failure, Outcome};
+use crate::output::Output;
+use crate::recording::Recording;
+use crate::text::{self, Style};
+use crate::value::Form;
+use crate::wave::{Wave, MOST_COLUMNS};
+use crate::{file, lines, note, number, place, svg};
+use capture::View;
+use std::io::Write;
+
+pub const COMMAND: Command = Command {
+    name: "render",
+    about: "Draws the waveform of lines, as text or as an SVG picture",
+    help: include_str!("../help/render.txt"),
+    options: &[
+        ("--lines", Takes::Value),
+        ("--from", Takes::Value),
+        ("--to", Takes::Value),
+        ("--width", Takes::Value),
+        ("--name", Takes::Values),
+        ("--ascii", Takes::Nothing),
+        ("--svg", Takes::Value),
+        ("--pixels", Takes::Nothing),
+        ("--start", Takes::Value),
+        ("--spp", Takes::Value),
+        ("--hex", Takes::Nothing),
+        ("--bits", Takes::Nothing),
+        ("--unit", Takes::Value),
+    ],
+    run,
+};
+
+/// Characters, and units of a picture.
+const TEXT_WIDTH: usize = 72;
+const SVG_WIDTH: usize = 1000;
+
+fn run(args: &Args, out: &mut dyn Write) -> Result<Outcome, Failure> {
+    only_with(args, "--pixels", &["--start", "--spp", "--hex", "--bits"])?;
+    for name in ["--ascii", "--svg", "--from", "--to", "--name"] {
+        exclude(args, "--pixels", name)?;
+    }
+    exclude(args, "--ascii", "--svg")?;
+    let width = args.read_value("--width", read_width)?;
+    let picture = args.path("--svg").map(Output::open).transpose()?;
+    let recording = file::load("render", args)?;
+    if args.flag("--pixels") {
+        return pixels(args, &recording, width.unwrap_or(TEXT_WIDTH), out);
+    }
+    let chosen = labelled(args, &recording)?;
+    let from = place::asked(args, "--from", &recording)?.unwrap_or(0);
+    let to = place::asked(args, "--to", &recording)?.unwrap_or(recording.capture.len());
+    let width = width.unwrap_or(if picture.is_some() { SVG_WIDTH } else { TEXT_WIDTH });
+    let Some(wave) = Wave::new(&recording.capture, from, to, width)? else {
+        note("render", "no samples to draw");
+        return Ok(Outcome::No);
+    };
+    let mark = recording.mark;
+    match picture {
+        Some(picture) => picture.write(out, |file| svg::draw(file, &wave, &chosen, mark, width))?,
+        None => {
+            let style = if args.flag("--ascii") { Style::Ascii } else { Style::Boxes };
+            text::draw(out, &wave, &chosen, mark, style, width)?;
+        }
+    }
+    Ok(Outcome::Yes)
+}
+
+fn read_width(text: &str) -> Result<usize, String> {
+    match number::whole(text)? {
+        width @ 1..=MOST_COLUMNS => Ok(width),
+        _ => Err(format!("a width is 1 to {MOST_COLUMNS}")),
+    }
+}
+
+/// The pixels of a view as they are, for programs that draw themselves.
+fn pixels(
+    args: &Args,
+    recording: &Recording,
+    width: usize,
+    out: &mut dyn Write,
+) -> Result<Outcome, Failure> {
+    let mask = lines::mask(&chosen_lines(args, recording)?);
+    let form = Form::asked(args)?;
+    let start = args.read_value("--start", number::real)?.unwrap_or(0.0);
+    let all = recording.capture.len() as f64 / width as f64;
+    let spp = args.read_value("--spp", number::real)?.unwrap_or(all);
+    for pixel in recording.capture.render(View { start, spp }, width)? {
+        let [first, toggles] = [pixel.first, pixel.toggles]
+            .map(|lines| form.written(lines & mask, recording.capture.unit()));
+        writeln!(out, "{first} {toggles}")?;
+    }
+    Ok(Outcome::Yes)
+}
+
+/// The chosen lines, each with its number and its name.
+fn labelled(args: &Args, recording: &Recording) -> Result<Vec<(u8, String)>, Failure> {
+    let unit = recording.capture.unit();
+    let mut names = Vec::new();
+    for text in args.texts("--name") {
+        let text = text?;
+        names.push(
+            lines::read_name(text, unit).map_err(|what| bad(format!("--name {text}: {what}")))?,
+        );
+    }
+    let label = |line: u8| match names.iter().find(|(named, _)| *named == line) {
+        Some((_, name)) => (line, format!("{line:>2} {name}")),
+        None => (line, format!("{line:>2}")),
+    };
+    Ok(chosen_lines(args, recording)?.into_iter().map(label).collect())
+}
+
+fn only_with(args: &Args, owner: &str, names: &[&str]) -> Result<(), Failure> {
+    match names.iter().find(|name| args.flag(name) && !args.flag(owner)) {
+        Some(name) => Err(bad(format!("{name} goes with {owner}"))),
+        None => Ok(()),
+    }
+}
+
+fn exclude(args: &Args, one: &str, other: &str) -> Result<(), Failure> {
+    if args.flag(one) && args.flag(other) {
+        return Err(bad(format!("{one} and {other} exclude each other")));
+    }
+    Ok(())
+}

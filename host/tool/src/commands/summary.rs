@@ -1,0 +1,36 @@
+//! The summary of a stretch.
+
+use super::{chosen_lines, Command};
+use crate::args::Takes;
+use crate::failure::Outcome;
+use crate::value::Form;
+use crate::{file, lines, place};
+
+pub const COMMAND: Command = Command {
+    name: "summary",
+    about: "Prints the first and the last sample of a stretch, and the lines that change in it",
+    help: include_str!("../help/summary.txt"),
+    options: &[
+        ("--lines", Takes::Value),
+        ("--from", Takes::Value),
+        ("--to", Takes::Value),
+        ("--hex", Takes::Nothing),
+        ("--bits", Takes::Nothing),
+        ("--unit", Takes::Value),
+    ],
+    run: |args, out| {
+        let recording = file::load("summary", args)?;
+        let capture = &recording.capture;
+        let mask = lines::mask(&chosen_lines(args, &recording)?);
+        let from = place::asked(args, "--from", &recording)?.unwrap_or(0);
+        let to = place::asked(args, "--to", &recording)?.unwrap_or(capture.len());
+        let form = Form::asked(args)?;
+        let node = capture.summary(from, to);
+        if let Some(node) = node {
+            let [first, last, toggles] = [node.first, node.last, node.toggles]
+                .map(|lines| form.written(lines & mask, capture.unit()));
+            writeln!(out, "{first} {last} {toggles}")?;
+        }
+        Ok(Outcome::of(node.is_some()))
+    },
+};

@@ -1,0 +1,28 @@
+//! The demonstration, and what it saves.
+
+mod common;
+
+use common::Folder;
+
+#[test]
+fn it_shows_and_saves_a_scanner_frame() {
+    let folder = Folder::new("demo");
+    let shown = folder.run("demo -o frame.cap --raw frame.bin").yes();
+    assert!(shown.contains("\nsamples 1000000\nmark 250000\n"), "{shown}");
+    assert!(shown.contains("14 turner drive ───────────────┘\n"), "{shown}");
+    assert!(shown.ends_with("A plain scan of all 1000000 samples finds the same.\n"), "{shown}");
+    let ascii = folder.run("demo --ascii").yes();
+    assert!(
+        ascii.is_ascii() && ascii.contains("14 turner drive _______________/------"),
+        "{ascii}"
+    );
+
+    // The commands find what it says.
+    assert_eq!(folder.run("next --lines 11,12 --from mark frame.cap").yes(), "254473\n");
+    assert_eq!(folder.run("changes --lines 11,12 --total frame.cap").yes(), "11875\n");
+    assert_eq!(folder.run("check frame.cap").yes(), "whole\n");
+
+    // The frame recorded anew is the same capture.
+    folder.run("record --unit 2 --rate 1M --trigger 14=rising --limit 1000000 --pre 0.25 -o again.cap frame.bin").yes();
+    assert_eq!(folder.read("again.cap"), folder.read("frame.cap"));
+}

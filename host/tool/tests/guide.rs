@@ -1,0 +1,94 @@
+//! The commands of docs/GUIDE.md print what it says, and its tables hold.
+
+mod common;
+
+use capture::{Needs, Refusal};
+use common::{Folder, TOOL};
+use std::env;
+use std::path::Path;
+use std::process::Command;
+
+const GUIDE: &str = include_str!("../../../docs/GUIDE.md");
+
+/// The commands of the guide's console blocks, each with what it prints.
+fn commands() -> Vec<(String, String)> {
+    let mut commands: Vec<(String, String)> = Vec::new();
+    for block in GUIDE.split("```console\n").skip(1) {
+        let (block, _) = block.split_once("```").unwrap();
+        for line in block.lines() {
+            match line.strip_prefix("$ ") {
+                Some(command) => commands.push((command.to_string(), String::new())),
+                None => commands.last_mut().unwrap().1 += &format!("{line}\n"),
+            }
+        }
+    }
+    commands
+}
+
+#[test]
+fn each_command_prints_what_the_guide_says() {
+    let folder = Folder::new("guide");
+    let tool = Path::new(TOOL).parent().unwrap();
+    let paths = env::split_paths(&env::var_os("PATH").unwrap()).collect::<Vec<_>>();
+    let path = env::join_paths([tool.to_path_buf()].into_iter().chain(paths)).unwrap();
+    let commands = commands();
+    assert!(commands.len() > 10);
+    for (command, printed) in commands {
+        let shell = format!("exec 2>&1; {command}");
+        let run = Command::new("sh")
+            .args(["-c", &shell])
+            .current_dir(&folder.0)
+            .env("PATH", &path)
+            .output()
+            .unwrap();
+        assert_eq!(String::from_utf8_lossy(&run.stdout), printed, "{command}");
+    }
+}
+
+/// The rows of the table with this heading, as their cells.
+fn rows(heading: &str) -> Vec<Vec<&'static str>> {
+    let mut lines = GUIDE.lines().skip_while(|line| !line.starts_with(heading));
+    assert!(lines.next().is_some() && lines.next().is_some(), "{heading}");
+    let rows = lines.take_while(|line| line.starts_with('|'));
+    rows.map(|row| row.trim_matches('|').split('|').map(str::trim).collect()).collect()
+}
+
+#[test]
+fn memory_is_as_much_as_the_guide_says() {
+    let rows = rows("| Capacity, samples |");
+    assert_eq!(rows.len(), 3);
+    for row in rows {
+        let numbers: Vec<usize> = row
+            .iter()
+            .map(|cell| {
+                cell.chars().filter(char::is_ascii_digit).collect::<String>().parse().unwrap()
+            })
+            .collect();
+        let bytes = |channels| Needs::of(channels, numbers[0]).unwrap().bytes();
+        assert_eq!(numbers[1..], [bytes(8), bytes(16)]);
+    }
+}
+
+#[test]
+fn refusals_say_what_the_guide_says() {
+    let refusals = [
+        Refusal::Capacity,
+        Refusal::Memory,
+        Refusal::Line,
+        Refusal::Limit,
+        Refusal::WishKind,
+        Refusal::WishNumber,
+        Refusal::Pretrigger,
+        Refusal::Full,
+        Refusal::Place,
+        Refusal::View,
+        Refusal::Width,
+    ];
+    let rows = rows("| No. |");
+    assert_eq!(rows.len(), refusals.len());
+    for (row, refusal) in rows.iter().zip(refusals) {
+        // What a caller from C may see besides stands behind a semicolon.
+        let words = row[1].split("; from C").next().unwrap();
+        assert_eq!(format!("refused, {}: {words}", row[0]), refusal.to_string());
+    }
+}

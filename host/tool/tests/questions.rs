@@ -1,0 +1,220 @@
+//! The questions, end to end, each held against a plain scan over the samples.
+
+mod common;
+#[path = "../../capture/tests/plain/mod.rs"]
+mod plain;
+
+use capture::{Lines, View};
+use common::{Folder, Run};
+use plain::Rng;
+use std::fmt::Write as _;
+
+/// Some lines as an option, and their mask.
+fn lines(rng: &mut Rng, unit: usize) -> (String, Lines) {
+    let first = rng.below(8 * unit);
+    let last = first + rng.below(8 * unit - first);
+    match rng.below(3) {
+        0 => (String::new(), if unit == 1 { 0xff } else { 0xffff }),
+        1 => (format!("--lines {first}"), 1 << first),
+        _ => (
+            format!("--lines {first}-{last}"),
+            (first..=last).fold(0, |mask, line| mask | 1 << line),
+        ),
+    }
+}
+
+/// The answers as lines of text.
+fn text(answers: impl IntoIterator<Item = impl AsRef<[usize]>>) -> String {
+    let mut text = String::new();
+    for numbers in answers {
+        let words: Vec<String> = numbers.as_ref().iter().map(usize::to_string).collect();
+        writeln!(text, "{}", words.join(" ")).unwrap();
+    }
+    text
+}
+
+/// Asks the tool, which must give these answers, or none with status 1.
+fn ask(folder: &Folder, line: &str, answers: &str) {
+    let run = folder.run(line);
+    if answers.is_empty() {
+        run.none();
+    } else {
+        assert_eq!(run.yes(), answers, "{line}");
+    }
+}
+
+#[test]
+fn answers_are_those_of_plain_scans() {
+    let folder = Folder::new("questions-random");
+    let mut rng = Rng(8);
+    for round in 0..40 {
+        let unit = 1 + round % 2;
+        let (len, calm) = (rng.pick(&[0, 1, 2, 40, 300, 5000]), rng.pick(&[1, 5, 60]));
+        let s = &rng.samples(len, unit, calm)[..];
+        folder.write("a.bin", &plain::bytes(s, unit));
+        let file = format!("--unit {unit} a.bin");
+        let (lines, mask) = lines(&mut rng, unit);
+        let (a, b) = (rng.below(len + 3), rng.below(len + 3));
+        let number = usize::from;
+
+        let next = plain::next_change(s, mask, a);
+        ask(&folder, &format!("next {lines} --from {a} {file}"), &text(next.map(|place| [place])));
+        let prev = plain::prev_change(s, mask, a);
+        ask(&folder, &format!("prev {lines} --from {a} {file}"), &text(prev.map(|place| [place])));
+
+        let changes = (a.max(1)..b.min(len)).filter(|&i| (s[i] ^ s[i - 1]) & mask != 0);
+        let changes = changes.map(|i| [i, number(s[i] & mask), number((s[i] ^ s[i - 1]) & mask)]);
+        let changes: Vec<_> = changes.collect();
+        ask(&folder, &format!("changes {lines} --from {a} --to {b} {file}"), &text(&changes));
+        let total = folder.run(&format!("changes {lines} --from {a} --to {b} --total {file}"));
+        assert_eq!(total.out, text([[changes.len()]]));
+        assert_eq!(total.status, i32::from(changes.is_empty()));
+
+        let (gap, tolerance, budget) = (rng.below(50), rng.below(50), rng.below(5));
+        let burst = plain::burst_at(s, mask, a, gap, tolerance, budget);
+        let burst =
+            burst.map(|burst| [burst.first, burst.last, burst.jumps_at_end, burst.jumps_at_start]);
+        let asked = format!("--at {a} --gap {gap} --tolerance {tolerance} --budget {budget}");
+        ask(&folder, &format!("burst {lines} {asked} {file}"), &text(burst));
+
+        let node = plain::summary(s, a, b);
+        let node = node
+            .map(|node| [node.first, node.last, node.toggles].map(|lines| number(lines & mask)));
+        ask(&folder, &format!("summary {lines} --from {a} --to {b} {file}"), &text(node));
+
+        let samples = (a..b.min(len)).map(|i| [i, number(s[i] & mask)]);
+        ask(&folder, &format!("samples {lines} --from {a} --to {b} {file}"), &text(samples));
+
+        let view = View { start: a as f64 - 5.5, spp: rng.pick(&[0.3, 1.0, 7.7]) };
+        let pixels = plain::render(s, view, 30);
+        let pixels = pixels
+            .iter()
+            .map(|pixel| [pixel.first, pixel.toggles].map(|lines| number(lines & mask)));
+        let asked = format!("--start {} --spp {} --width 30", view.start, view.spp);
+        ask(&folder, &format!("render --pixels {lines} {asked} {file}"), &text(pixels));
+
+        assert_eq!(folder.run(&format!("check {file}")).yes(), "whole\n");
+    }
+}
+
+/// A capture file of unit 1 with a mark.
+const SAVED: &[u8] = b"logic-capture 1 unit=1 rate=4 mark=2 len=8\n\0\0\x01\x01\0\x02\x02\x03";
+
+fn saved(test: &str) -> Folder {
+    let folder = Folder::new(test);
+    folder.write("a.cap", SAVED);
+    folder
+}
+
+#[test]
+fn a_capture_file_and_its_numbers() {
+    let folder = saved("questions-info");
+    let info = "unit 1\nsamples 8\nmark 2\nrate 4\nseconds 2\nchanging 0,1\n";
+    assert_eq!(folder.run("info a.cap").yes(), info);
+    assert_eq!(folder.run_on("info -", SAVED).yes(), info);
+    folder.write("empty", b"");
+    let info = "unit 2\nsamples 0\nmark -\nrate -\nseconds -\nchanging -\n";
+    assert_eq!(folder.run("info --unit 2 empty").yes(), info);
+    folder.run("next --unit 1 empty").none();
+    folder.run("samples --unit 1 empty").none();
+    folder.run("burst --unit 1 --at 0 --gap 9 empty").none();
+}
+
+#[test]
+fn places_from_the_mark_and_the_end() {
+    let folder = saved("questions-places");
+    assert_eq!(folder.run("next --lines 0 --from mark a.cap").yes(), "4\n");
+    assert_eq!(folder.run("next --lines 0 --from mark-1 a.cap").yes(), "2\n");
+    assert_eq!(folder.run("prev --lines 0 --from mark+1 a.cap").yes(), "2\n");
+    assert_eq!(folder.run("prev a.cap").yes(), "7\n");
+    assert_eq!(folder.run("samples --from end-2 a.cap").yes(), "6 2\n7 3\n");
+    folder.run("next --from end a.cap").none();
+    folder.run("next --from 18446744073709551615 a.cap").none();
+    folder.run("samples --from 18446744073709551615 a.cap").none();
+}
+
+#[test]
+fn numbers_in_other_forms() {
+    let folder = saved("questions-forms");
+    assert_eq!(folder.run("changes a.cap --hex --from 5").yes(), "5 0x02 0x02\n7 0x03 0x01\n");
+    assert_eq!(folder.run("summary a.cap --bits").yes(), "00000000 00000011 00000011\n");
+    assert_eq!(folder.run("samples a.cap --from 7 --bits --lines 1").yes(), "7 00000010\n");
+    assert_eq!(
+        folder.run("render --pixels a.cap --spp 4 --width 2 --hex").yes(),
+        "0x00 0x01\n0x00 0x03\n"
+    );
+}
+
+#[test]
+fn half_a_sample_at_the_end_of_a_raw_file() {
+    let folder = Folder::new("questions-leftover");
+    folder.write("a.bin", &[1, 0, 2, 0, 3]);
+    let run = folder.run("samples --unit 2 a.bin");
+    assert_eq!((run.status, run.out.as_str()), (0, "0 1\n1 2\n"));
+    assert_eq!(
+        run.err,
+        "logic-capture samples: a.bin: the last byte is half a sample, and is dropped\n"
+    );
+}
+
+#[test]
+fn drawings() {
+    let folder = saved("questions-drawings");
+    let text = folder.run("render --ascii --lines 1,0 a.cap").yes();
+    let rows: Vec<&str> = text.lines().collect();
+    assert_eq!(rows.len(), 4);
+    assert_eq!(rows[0], "place 0               2               4               6");
+    assert_eq!(rows[1], format!("mark  {:16}v 2", ""));
+    assert_eq!(rows[2], format!(" 1    {}/{}", "_".repeat(39), "-".repeat(24)));
+    assert_eq!(
+        rows[3],
+        format!(
+            " 0    {}/{}\\{}/{}",
+            "_".repeat(15),
+            "-".repeat(15),
+            "_".repeat(23),
+            "-".repeat(8)
+        )
+    );
+
+    let boxes = folder
+        .run_words(&["render", "--lines", "0", "--width", "8", "--name", "0=a name", "a.cap"], &[]);
+    let expected = "place     0\nmark        ▼ 2\n           ┌─┐  ┌─\n 0 a name ─┘ └──┘\n";
+    assert_eq!(boxes.yes(), expected);
+
+    folder.run("render --svg a.svg a.cap").yes();
+    let picture = String::from_utf8(folder.read("a.svg")).unwrap();
+    assert!(picture.starts_with("<svg ") && picture.ends_with("</svg>\n"));
+    assert_eq!(folder.run("render --svg - a.cap").yes(), picture);
+    assert_eq!(picture.matches("stroke-width").count(), 8);
+    assert!(picture.contains("mark 2</text>"));
+}
+
+#[test]
+fn nothing_to_draw() {
+    let folder = saved("questions-nothing");
+    folder.write("empty", b"");
+    for line in
+        ["a.cap --from 8", "a.cap --from 2 --to 2", "a.cap --from 9 --svg x.svg", "--unit 1 empty"]
+    {
+        let err = "logic-capture render: no samples to draw\n".to_string();
+        assert_eq!(
+            folder.run(&format!("render {line}")),
+            Run { status: 1, out: String::new(), err }
+        );
+    }
+    assert!(!folder.has("x.svg"));
+}
+
+#[test]
+fn a_reader_that_has_enough_is_no_error() {
+    use std::io::Read;
+    let folder = Folder::new("questions-unread");
+    folder.write("a.bin", &[7; 1_000_000]);
+    let mut tool = folder.command(&["samples", "--unit", "1", "a.bin"]).spawn().unwrap();
+    let mut start = [0; 8];
+    tool.stdout.take().unwrap().read_exact(&mut start).unwrap();
+    assert_eq!(&start, b"0 7\n1 7\n");
+    let output = tool.wait_with_output().unwrap();
+    assert_eq!((output.status.code(), output.stderr), (Some(0), vec![]));
+}
