@@ -18,6 +18,9 @@ const FEW: u64 = 393_216;
 fn main() {
     keep_memory();
     Table::heading();
+    if std::env::args().nth(1).as_deref() == Some("length") {
+        return [1, 2].into_iter().for_each(lengths);
+    }
     for unit in [1, 2] {
         let mut table = Table::new(unit);
         appends(&table);
@@ -89,6 +92,25 @@ fn questions(table: &mut Table) {
     bursts(table, "burst, dense", 16, 1_000);
     table.hold(&Samples::with_changes(table.unit, LEN, 1_000));
     bursts(table, "burst, sparse", 2_000, 100);
+}
+
+/// How cost grows with the capture: a lone change in its middle, all of it as a row of pixels, and bursts in it.
+fn lengths(unit: usize) {
+    for power in (16..=26).step_by(2) {
+        let len = 1 << power;
+        let mut table = Table::new(unit);
+        table.hold(&Samples::lone(unit, len));
+        let work = Walk { mask: 1, len };
+        table.line(&format!("length 2^{power}: next"), "change", |side| side.next_change(&work));
+        table
+            .line(&format!("length 2^{power}: previous"), "change", |side| side.prev_change(&work));
+        table.hold(&Samples::with_changes(unit, len, 4));
+        let work = Row { start: 0.0, spp: len as f64 / 1_920.0, width: 1_920 };
+        table.line(&format!("length 2^{power}: render"), "pixel", |side| side.render(&work));
+        let places = Ranges::random(len, 1, 20);
+        let work = Bursts { places, max_gap: 16, budget: 100 };
+        table.line(&format!("length 2^{power}: burst"), "call", |side| side.burst_at(&work));
+    }
 }
 
 fn bursts(table: &Table, name: &str, max_gap: u64, budget: u64) {

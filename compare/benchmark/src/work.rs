@@ -30,6 +30,13 @@ impl Samples {
         Samples { unit, bytes }
     }
 
+    /// Zeros, with line 0 set in the middle sample and behind it: one change.
+    pub fn lone(unit: usize, len: u64) -> Samples {
+        let one = |i| ((i >= len / 2 + 1) as u16).to_le_bytes();
+        let bytes = (0..len).map(one).flat_map(|bytes| bytes.into_iter().take(unit)).collect();
+        Samples { unit, bytes }
+    }
+
     /// Random samples in which line 0 is never set.
     pub fn noise(unit: usize, len: u64) -> Samples {
         let mut rng = Rng::new(len);
