@@ -13,7 +13,7 @@ use Rattle.terms.specs.Terms.{asMasks, previousOf}
 use Rattle.feeder.specs.declared.Armed.{Armed}
 use Rattle.feeder.specs.declared.Feeder.{Feeder}
 use Rattle.feeder.specs.Record.{armedAs, recorderOf}
-use Rattle.feeder_numbers.specs.Numbers.{markIn, masksIn, armedIn, previousIn, feederFrom, markedNumber, markNumber, waitsNumber, masksOf, recorderNumbers}
+use Rattle.feeder_numbers.specs.Numbers.{markIn, masksIn, armedIn, previousIn, feederFrom, markedNumber, markNumber, waitsNumber, masksOf, pushedNumbers, recorderNumbers}
 
 pub read : (r : List ℕ) {mark : Mark} {masks : Masks} {armed : Armed} {prev : Previous}
     → mark ≡ markIn (getD r 3 0) (getD r 4 0)
@@ -32,18 +32,25 @@ read r e f g h i = record {
   kept = getD r 16 0;
 }
 
-pub written : (f : Feeder) (old : List ℕ) {marked mark waits known sample : ℕ} {masks : Masks}
+pub written : (f : Feeder) (old : List ℕ) {marked mark waits known sample : ℕ}
     → marked ≡ markedNumber (markOf (f .capture .trigger))
     → mark ≡ markNumber (markOf (f .capture .trigger))
     → waits ≡ waitsNumber (armedAs (f .masks))
-    → asMasks masks ≡ masksOf (armedAs (f .masks))
     → known ≡ markedNumber (previousOf (f .prev))
     → sample ≡ markNumber (previousOf (f .prev))
-    → sets old 0
-    (f .capture .unitsize ∷ f .capture .capacity ∷ f .capture .len ∷ marked ∷ mark ∷ f .limit ∷ f .pre ∷ waits
-    ∷ masks .high ∷ masks .low ∷ masks .rising ∷ masks .falling ∷ masks .edge ∷ known ∷ sample ∷ f .place ∷ f .kept ∷ [])
-    ≡ recorderNumbers (recorderOf f) old
-written f old a b c d e g i =
-    sets old 0
-    (f .capture .unitsize ∷ f .capture .capacity ∷ f .capture .len ∷ a i ∷ b i ∷ f .limit ∷ f .pre ∷ c i
-    ∷ d i .high ∷ d i .low ∷ d i .rising ∷ d i .falling ∷ d i .edge ∷ e i ∷ g i ∷ f .place ∷ f .kept ∷ [])
+    → sets (sets (sets old 2 (f .capture .len ∷ marked ∷ mark ∷ [])) 7 (waits ∷ [])) 13 (known ∷ sample ∷ f .place ∷ f .kept ∷ [])
+    ≡ pushedNumbers (recorderOf f) old
+written f old a b c e g i = sets (sets (sets old 2 (f .capture .len ∷ a i ∷ b i ∷ [])) 7 (c i ∷ [])) 13 (e i ∷ g i ∷ f .place ∷ f .kept ∷ [])
+
+-- the fixed numbers, then the others
+pub whole-written : (f : Feeder) (old new : List ℕ) {masks : Masks}
+    → asMasks masks ≡ masksOf (armedAs (f .masks))
+    → new
+    ≡ pushedNumbers (recorderOf f)
+    (sets (sets (sets old 0 (f .capture .unitsize ∷ f .capture .capacity ∷ [])) 5 (f .limit ∷ f .pre ∷ [])) 8 (masks .high ∷ masks .low ∷ masks .rising ∷ masks .falling ∷ masks .edge ∷ []))
+    → new ≡ recorderNumbers (recorderOf f) old
+whole-written f old new d e =
+    e
+    ∙ ap
+    (λ (m : rule.Masks). pushedNumbers (recorderOf f) (sets (sets (sets old 0 (f .capture .unitsize ∷ f .capture .capacity ∷ [])) 5 (f .limit ∷ f .pre ∷ [])) 8 (m .high ∷ m .low ∷ m .rising ∷ m .falling ∷ m .edge ∷ [])))
+    d

@@ -64,9 +64,17 @@ abbrev pub masksOf : rule.Armed → rule.Masks
 masksOf rule.unarmed = rule.noMasks
 masksOf (rule.waiting m) = m
 
+-- what a push never changes: unit, capacity, limit, pre, and the lines of each condition
+abbrev pub fixedNumbers : Recorder → List ℕ → List ℕ
+fixedNumbers r old =
+    sets (sets (sets old 0 (r .store .unit ∷ r .store .capacity ∷ [])) 5 (r .limit ∷ r .pre ∷ [])) 8
+    (masksOf (r .armed) .high ∷ masksOf (r .armed) .low ∷ masksOf (r .armed) .rising ∷ masksOf (r .armed) .falling ∷ masksOf (r .armed) .edge ∷ [])
+
+-- what a push may change: len and mark, whether it waits, previous sample, ring place and kept count
+abbrev pub pushedNumbers : Recorder → List ℕ → List ℕ
+pushedNumbers r old =
+    sets (sets (sets old 2 (r .store .len ∷ markedNumber (r .store .mark) ∷ markNumber (r .store .mark) ∷ [])) 7 (waitsNumber (r .armed) ∷ [])) 13
+    (markedNumber (r .previous) ∷ markNumber (r .previous) ∷ r .place ∷ r .kept ∷ [])
+
 abbrev pub recorderNumbers : Recorder → List ℕ → List ℕ
-recorderNumbers r old =
-    sets old 0
-    (r .store .unit ∷ r .store .capacity ∷ r .store .len ∷ markedNumber (r .store .mark) ∷ markNumber (r .store .mark) ∷ r .limit ∷ r .pre
-    ∷ waitsNumber (r .armed) ∷ masksOf (r .armed) .high ∷ masksOf (r .armed) .low ∷ masksOf (r .armed) .rising ∷ masksOf (r .armed) .falling ∷ masksOf (r .armed) .edge
-    ∷ markedNumber (r .previous) ∷ markNumber (r .previous) ∷ r .place ∷ r .kept ∷ [])
+recorderNumbers r old = pushedNumbers r (fixedNumbers r old)

@@ -10,7 +10,7 @@ ghost use mathlib.Core.Path.{_≡_};
 ghost use Rattle.capture.specs.Record.{markOf};
 ghost use Rattle.terms.specs.Terms.{asMasks, previousOf};
 ghost use Rattle.feeder.specs.Record.{armedAs, recorderOf};
-ghost use Rattle.feeder_numbers.specs.Numbers.{markIn, maskIn, masksIn, armedIn, previousIn, feederFrom, markedNumber, markNumber, waitsNumber, masksOf, recorderNumbers};
+ghost use Rattle.feeder_numbers.specs.Numbers.{markIn, maskIn, masksIn, armedIn, previousIn, feederFrom, markedNumber, markNumber, waitsNumber, masksOf, pushedNumbers, recorderNumbers};
 
 fn mark_in(marked: usize, mark: usize) -> Mark
     ensures { λ r. ⌜ r ≡ markIn marked mark ⌝ }
@@ -143,30 +143,39 @@ fn sample_of(p: Previous) -> usize
     }
 }
 
-// The numbers become a recorder's.
-pub fn put_feeder(numbers: &mut [usize; 17], f: Feeder)
-    ensures { λ _. ⌜ now (numbers .exit) ≡ recorderNumbers (recorderOf f) (now (numbers .entry)) ⌝ }
+// The numbers that a push may change become a recorder's.
+pub fn put_pushed(numbers: &mut [usize; 17], f: Feeder)
+    ensures { λ _. ⌜ now (numbers .exit) ≡ pushedNumbers (recorderOf f) (now (numbers .entry)) ⌝ }
 {
     let c = f.capture;
     let mark = c.trigger;
     let armed = f.masks;
-    let masks = masks_of(armed);
     let prev = f.prev;
-    numbers[0] = c.unitsize;
-    numbers[1] = c.capacity;
     numbers[2] = c.len;
     numbers[3] = marked(mark);
     numbers[4] = mark_place(mark);
+    numbers[7] = waits(armed);
+    numbers[13] = known(prev);
+    numbers[14] = sample_of(prev);
+    numbers[15] = f.place;
+    numbers[16] = f.kept;
+}
+
+// All numbers become a recorder's.
+pub fn put_feeder(numbers: &mut [usize; 17], f: Feeder)
+    ensures { λ _. ⌜ now (numbers .exit) ≡ recorderNumbers (recorderOf f) (now (numbers .entry)) ⌝ }
+{
+    let c = f.capture;
+    let armed = f.masks;
+    let masks = masks_of(armed);
+    numbers[0] = c.unitsize;
+    numbers[1] = c.capacity;
     numbers[5] = f.limit;
     numbers[6] = f.pre;
-    numbers[7] = waits(armed);
     numbers[8] = masks.high as usize;
     numbers[9] = masks.low as usize;
     numbers[10] = masks.rising as usize;
     numbers[11] = masks.falling as usize;
     numbers[12] = masks.edge as usize;
-    numbers[13] = known(prev);
-    numbers[14] = sample_of(prev);
-    numbers[15] = f.place;
-    numbers[16] = f.kept;
+    put_pushed(numbers, f);
 }

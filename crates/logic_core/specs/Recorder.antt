@@ -19,7 +19,7 @@ use Rattle.feeder.specs.declared.Feeder.{Feeder}
 use Rattle.feeder.specs.Record.{recorderOf}
 use Rattle.feeder.specs.Start.{Begun, startRule, settingsOf}
 use Rattle.feeder_push.specs.Push.{leftOf}
-use Rattle.feeder_numbers.specs.Numbers.{recorderNumbers}
+use Rattle.feeder_numbers.specs.Numbers.{recorderNumbers, pushedNumbers}
 use Rattle.term_bytes.specs.Bytes.{termsIn}
 use Rattle.logic_core.specs.Code.{noneCode}
 
@@ -50,8 +50,8 @@ replyCode complete = noneCode
 -- the record's numbers; a refusal leaves them
 abbrev pub numbersAfter : Reply → Recorder → List ℕ → List ℕ
 numbersAfter (refused n) c old = old
-numbersAfter going-on c old = recorderNumbers c old
-numbersAfter complete c old = recorderNumbers c old
+numbersAfter going-on c old = pushedNumbers c old
+numbersAfter complete c old = pushedNumbers c old
 
 -- level l once the samples are those from len up to end
 abbrev pub levelFor : ℕ → List ℕ → (ℕ → List ℕ) → ℕ → ℕ → ℕ → List ℕ

@@ -92,11 +92,11 @@ pub extern "C" fn lc_push(
     match answer {
         Pushed::Refused(n, _) => code(n),
         Pushed::GoingOn(next) => {
-            feeder_numbers::put_feeder(numbers, next);
+            feeder_numbers::put_pushed(numbers, next);
             0
         }
         Pushed::Complete(next) => {
-            feeder_numbers::put_feeder(numbers, next);
+            feeder_numbers::put_pushed(numbers, next);
             NONE
         }
     }

@@ -22,14 +22,14 @@ code-requires c κs = search needs
 enum-known-answer-2 : tie.Need-enum-known-answer-2
 enum-known-answer-2 c = search needs
 
-put-feeder-requires : tie.Need-put-feeder-requires
-put-feeder-requires c κs = search needs
+put-pushed-requires : tie.Need-put-pushed-requires
+put-pushed-requires c κs = search needs
 
 enum-known-answer-3 : tie.Need-enum-known-answer-3
 enum-known-answer-3 c = search needs
 
-put-feeder-requires-2 : tie.Need-put-feeder-requires-2
-put-feeder-requires-2 c κs = search needs
+put-pushed-requires-2 : tie.Need-put-pushed-requires-2
+put-pushed-requires-2 c κs = search needs
 
 same-length : tie.Need-same-length
 same-length c = search needs
@@ -75,7 +75,7 @@ same-length-12 c = search needs
 returns-2 : tie.Need-returns-2
 returns-2 c =
     let a = c .before .before .before .before .before .before .before .before .before .before .before .before .before .before .before .before .before .before .before .before .before .before .before .before .before .before .before .before .before .before .before .before .before .args in
-    pushes-told (now (a .bytes)) (now (a .samples)) (levelOf (now (a .l1)) (now (a .l2)) (now (a .l3)) (now (a .l4))) (now (a .ring)) _ _ _ _ _ _ (c .before .before .before .before .before .before .before .before .before .before .before .before .before .before .before .before .before .before .before .before .before .before .before .before .feeder-in .ensures) (c .before .before .before .before .before .before .before .before .before .before .before .before .before .before .before .before .before .push .ensures) (c .before .before .before .answer2 .given .1) refl (c .put-feeder .ensures)
+    pushes-told (now (a .bytes)) (now (a .samples)) (levelOf (now (a .l1)) (now (a .l2)) (now (a .l3)) (now (a .l4))) (now (a .ring)) _ _ _ _ _ _ (c .before .before .before .before .before .before .before .before .before .before .before .before .before .before .before .before .before .before .before .before .before .before .before .before .feeder-in .ensures) (c .before .before .before .before .before .before .before .before .before .before .before .before .before .before .before .before .before .push .ensures) (c .before .before .before .answer2 .given .1) refl (c .put-pushed .ensures)
 
 same-length-13 : tie.Need-same-length-13
 same-length-13 c = search needs
@@ -98,7 +98,7 @@ same-length-18 c = search needs
 returns-3 : tie.Need-returns-3
 returns-3 c =
     let a = c .before .before .before .before .before .before .before .before .before .before .before .before .before .before .before .before .before .before .before .before .before .before .before .before .before .before .before .before .before .before .before .before .before .args in
-    pushes-told (now (a .bytes)) (now (a .samples)) (levelOf (now (a .l1)) (now (a .l2)) (now (a .l3)) (now (a .l4))) (now (a .ring)) _ _ _ _ _ _ (c .before .before .before .before .before .before .before .before .before .before .before .before .before .before .before .before .before .before .before .before .before .before .before .before .feeder-in .ensures) (c .before .before .before .before .before .before .before .before .before .before .before .before .before .before .before .before .before .push .ensures) (c .before .before .before .answer3 .given .1) refl (c .put-feeder2 .ensures)
+    pushes-told (now (a .bytes)) (now (a .samples)) (levelOf (now (a .l1)) (now (a .l2)) (now (a .l3)) (now (a .l4))) (now (a .ring)) _ _ _ _ _ _ (c .before .before .before .before .before .before .before .before .before .before .before .before .before .before .before .before .before .before .before .before .before .before .before .before .feeder-in .ensures) (c .before .before .before .before .before .before .before .before .before .before .before .before .before .before .before .before .before .push .ensures) (c .before .before .before .answer3 .given .1) refl (c .put-pushed2 .ensures)
 
 pub lc-push-spec : {M : Type 1} → statement M
 lc-push-spec =
@@ -109,9 +109,9 @@ lc-push-spec =
     enum-known-answer
     code-requires
     enum-known-answer-2
-    put-feeder-requires
+    put-pushed-requires
     enum-known-answer-3
-    put-feeder-requires-2
+    put-pushed-requires-2
     same-length
     same-length-2
     same-length-3
