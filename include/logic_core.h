@@ -153,8 +153,7 @@ uint32_t lc_feeder_start(size_t channels, size_t capacity, size_t limit,
 /* Pushes the whole samples of bytes, low byte first; a leftover byte is dropped. While the recorder waits they go to the
  * ring; from the sample that fires on, with those kept before it, they go to the capture, up to limit. Gives 0 while it goes
  * on and LC_NONE once it is complete, and in both cases the record's numbers are the new ones; unit, capacity, limit, pre and
- * the lines of the terms stay. Refuses with 1, 2, and 8
- * where what is to be stored does not all fit. */
+ * the lines of the terms stay. Refuses with 1, 2, and 8 where what is to be stored does not all fit. */
 uint32_t lc_push(size_t record[17],
                  uint8_t *samples, size_t samples_len,
                  uint16_t *l1, size_t l1_len, uint16_t *l2, size_t l2_len,
