@@ -1,13 +1,12 @@
 -- Each way through a push is a case of the contract: rows 1 and 2, an unarmed recorder, one that fires, one that waits.
-use mathlib.Core.Path.{_≡_, refl, sym, ap, ap₂, _∙_}
-use mathlib.Core.Bool.{Bool}
+use mathlib.Core.Path.{_≡_, refl, sym, ap, _∙_, subst₂}
 use mathlib.Core.List.{List, _++_}
 use Prim.Native.Nat.{ℕ, _+_, _-_, _*_, _≤_, _<_}
 use native.Mathlib.Nat.{zero-mul, zero-min, sub-self, zero-sub, div-mul-le-self}
 use native.Mathlib.Omega.{arith}
 use borrow.Author.Tests.{eq-eqb, ne-eqb, lt-ltb, le-ltb}
 use lib.ListN.{length, drop}
-use Rattle.rules.specs.Sample.{sampleOf, countOf, samplesOf}
+use Rattle.rules.specs.Sample.{sampleOf, countOf}
 use Rattle.rules.specs.Trigger.{firstFire}
 use Rattle.rules.specs.Selection.{refused, going-on}
 use Rattle.rules.specs.Refusal.{Recorder, Lent}
@@ -17,8 +16,10 @@ use Rattle.store.specs.Stored.{firstNodes}
 use Rattle.terms.specs.declared.Masks.{Masks}
 use Rattle.terms.specs.Terms.{asMasks, previousOf}
 use Rattle.scan.specs.Scan.{Holds}
-use Rattle.ring.specs.Bytes.{units, ringBytes, keptBytes}
-use Rattle.ring.specs.Push.{Left, storeBytes, firedBy, waitedFor, wanted, passed, firingBytes, takenBytes, pushBytes}
+use Rattle.run_write.specs.declared.Taken.{Taken}
+use Rattle.run_write.specs.Run.{RunRoom, Takes}
+use Rattle.ring.specs.Bytes.{units, keptBytes}
+use Rattle.ring.specs.Push.{storeBytes, firedBy, wanted, passed, firingBytes, takenBytes, pushBytes}
 use Rattle.capture.specs.Record.{lentOf}
 use Rattle.feeder.specs.declared.Armed.{Armed}
 use Rattle.feeder.specs.declared.Armed.the-variants.{Unarmed, Waiting}
@@ -28,7 +29,8 @@ use Rattle.feeder.proofs.Rows.{recorder-sound}
 use Rattle.feeder_push.specs.declared.Pushed.{Pushed}
 use Rattle.feeder_push.specs.declared.Pushed.the-variants.{Refused, GoingOn}
 use Rattle.feeder_push.specs.Push.{leftOf, Pushes}
-use Rattle.feeder_push.specs.Inner.{leftIn, RunRoom, Stores, PushRoom, WaitRoom, Waits}
+use Rattle.feeder_push.specs.Inner.{Answers, Stores, PushRoom, WaitRoom, Waits}
+use Rattle.feeder_push.proofs.Left.{stores-is}
 use Rattle.feeder_push.proofs.Fires.{run-in}
 
 -- of the ring nothing, and all of the push
@@ -64,6 +66,10 @@ module _ (f : Feeder) (s : List ℕ) (lv : ℕ → List ℕ) (g b : List ℕ) wh
     pub room : PushRoom c s lv (length g) (length b) n
     room = record { sound = recorder-sound c lent (length g) free; bytes = div-mul-le-self (length b) u }
 
+    -- nothing of the ring, and all of the push
+    pub all-room : RunRoom u (f .capture .capacity) (f .capture .len) (f .limit) (f .pre) (f .place) (length s) lv (length g) (length b) 0 0 n
+    all-room = run-in c s lv (length g) (length b) n room 0 0 (omega arith) (omega arith)
+
     pub scan-room : Holds u n (length b)
     scan-room = record { low = room .sound .store .unit-least; high = room .sound .store .unit-most; room = room .bytes }
 
@@ -83,21 +89,22 @@ module _ (f : Feeder) (s : List ℕ) (lv : ℕ → List ℕ) (g b : List ℕ) wh
 
     -- ---- unarmed
     module _ (is : f .masks ≡ Unarmed) where
-      pub run-room : RunRoom c c (length s) lv (length g) (length b) 0 0 n
-      run-room = run-in c s lv (length g) (length b) n room (c .store .mark) (c .armed) (c .previous) (c .place) (c .kept) 0 0 (ap armedAs is) (omega arith) (omega arith)
-
       unarmed-is : pushBytes c s g b ≡ storeBytes c c s g n b
       unfolding pushBytes
       unarmed-is = ap (λ (a : Armed). takenBytes (armedAs a) c s g b) is
 
-      pub pushed-unarmed : (r : Pushed) (s′ : List ℕ) (lv′ : ℕ → List ℕ) → Stores c c (0 + (n - 0)) (keptBytes u (f .pre) g (f .place) 0 ++ drop (0 * u) b) s lv r s′ lv′ → Pushes f b s lv g r s′ lv′ g
-      pushed-unarmed r s′ lv′ d = record {
-        left-is = d .left-is g ∙ ap₂ (storeBytes c c s g) all (nothing-kept u (f .pre) g (f .place) b) ∙ sym (pushed-is ∙ unarmed-is);
-        levels-are = d .levels-are;
+      pub pushed-unarmed : (t : Taken) (r : Pushed) (s′ : List ℕ) (lv′ : ℕ → List ℕ)
+          → Takes u (f .capture .capacity) (f .capture .len) (f .limit) (0 + (n - 0)) (keptBytes u (f .pre) g (f .place) 0 ++ drop (0 * u) b) s lv t s′ lv′ → Answers c c t r → Pushes f b s lv g r s′ lv′ g
+      pushed-unarmed t r s′ lv′ d a = record {
+        left-is = stored .left-is g ∙ sym (pushed-is ∙ unarmed-is);
+        levels-are = stored .levels-are;
       }
         where
           all : 0 + (n - 0) ≡ n
           all = omega arith
+
+          stored : Stores c c n b s lv r s′ lv′
+          stored = stores-is c c n b s lv refl (ap armedAs is) r s′ lv′ t (subst₂ (λ (k : ℕ) (x : List ℕ). Takes u (f .capture .capacity) (f .capture .len) (f .limit) k x s lv t s′ lv′) all (nothing-kept u (f .pre) g (f .place) b) d) a
 
     -- ---- armed; i is the first sample that fires
     module _ (m : Masks) (is : f .masks ≡ Waiting m) (i : ℕ) (first : i ≡ firstFire (asMasks m) (previousOf (f .prev)) (units u n b)) where

@@ -1,87 +1,102 @@
 -- What is left once samples went to the store, or had no room there.
-use mathlib.Core.Path.{_≡_, refl, sym, ap, ap₂, _∙_}
+use mathlib.Core.Path.{_≡_, refl, sym, ap, ap₂, _∙_, subst⁻¹}
 use mathlib.Core.Bool.{Bool, true, false, cond}
-use mathlib.Core.List.{List, _++_}
-use Prim.Native.Nat.{ℕ, _+_, _-_, _*_, _≤_, _<_}
+use mathlib.Core.Option.{none, some}
+use mathlib.Core.List.{List, _++_, append-assoc}
+use Prim.Native.Nat.{ℕ, _+_, _-_, _*_, _≤_}
+use native.Mathlib.Nat.{sub-self}
 use native.Mathlib.Omega.{arith}
-use borrow.Author.Tests.{le-leb, lt-leb, ltb-false}
-use lib.Dec.{ltb}
+use borrow.Author.Tests.{leb-true}
+use lib.Dec.{leb}
 use lib.ListN.{length, take, drop}
-use lib.Seq.{paste}
+use lib.Seq.{paste, drop-drop, length-take-le}
 use Rattle.rules.specs.Trigger.{Armed, unarmed}
 use Rattle.rules.specs.Refusal.{Recorder}
 use Rattle.rebuild.specs.Rebuild.{levelAfter}
 use Rattle.rebuild.proofs.Right.{after-none}
-use Rattle.store.specs.Stored.{firstNodes, Stored}
-use Rattle.store.proofs.Fits.{less-room}
-use Rattle.ring.specs.Bytes.{joined, keptBytes}
-use Rattle.ring.specs.Step.{replyOf}
+use Rattle.store.specs.Stored.{firstNodes}
+use Rattle.store.proofs.Stored.{none-samples, none-levels}
+use Rattle.run_write.specs.declared.Taken.{Taken}
+use Rattle.run_write.specs.declared.Taken.the-variants.{Full, Count}
+use Rattle.run_write.specs.Run.{countIn, Takes}
+use Rattle.ring.specs.Bytes.{joined}
+use Rattle.ring.specs.Step.{roomFor, replyOf}
 use Rattle.ring.specs.Push.{withLen, storable, storeBytes}
 use Rattle.feeder.specs.declared.Feeder.{Feeder}
 use Rattle.feeder.specs.Record.{recorderOf}
 use Rattle.feeder_push.specs.declared.Pushed.{Pushed}
 use Rattle.feeder_push.specs.declared.Pushed.the-variants.{Refused}
-use Rattle.feeder_push.specs.declared.Run.{Run}
 use Rattle.feeder_push.specs.Push.{replyAs, feederIn}
-use Rattle.feeder_push.specs.Inner.{leftIn, roomOf, RunIs, bytesOf, WriteRoom, Answers, RunRoom, Stores}
-use Rattle.feeder_push.proofs.Cuts.{room-cuts, run-count, run-room, first-bytes, bytes-size, paste-joined}
+use Rattle.feeder_push.specs.Inner.{Answers, Stores}
 
-module _ (c : Recorder) (n : ℕ) (x s : List ℕ) (lv : ℕ → List ℕ) where
-  -- no room
-  pub stores-none : (f : Feeder) → f .capture .len ≡ c .store .len → c .store .capacity < c .store .len + storable c n → Stores (recorderOf f) c n x s lv (Refused 8 f) s lv
+-- ---- which case it was
+not-some : (b : Bool) (m : ℕ) → none ≡ cond b (some m) none → b ≡ false
+not-some true m e = absurd (let z : _≡_ {A = ℕ} 0 1 = cc in omega arith)
+not-some false m e = refl
+
+is-some : (b : Bool) (m k : ℕ) → some k ≡ cond b (some m) none → (b ≡ true) × (m ≡ k)
+is-some true m k e = (refl, cc)
+is-some false m k e = absurd (let z : _≡_ {A = ℕ} 0 1 = cc in omega arith)
+
+-- what was taken is within the capacity
+pub takes-fits : {u capacity len limit n : ℕ} {x s : List ℕ} {lv : ℕ → List ℕ} {s′ : List ℕ} {lv′ : ℕ → List ℕ} (t : Taken) → Takes u capacity len limit n x s lv t s′ lv′ → len ≤ capacity → len + countIn t ≤ capacity
+takes-fits Full d h = omega arith
+takes-fits {capacity = capacity} {len = len} {limit = limit} {n = n} (Count k) d h =
+    let t = is-some (leb (len + roomFor limit len n) capacity) (roomFor limit len n) k (d .taken-is) in
+    omega (arith, leb-true (len + roomFor limit len n) capacity (t .0), t .1)
+
+-- ---- the answer in each case
+pub answers-none : (f : Feeder) (c : Recorder) (t : Taken) → t ≡ Full → Answers (recorderOf f) c t (Refused 8 f)
+answers-none f c t e = subst⁻¹ (λ (x : Taken). Answers (recorderOf f) c x (Refused 8 f)) e (record { reply-is = refl; recorder-is = refl })
+
+pub answers-some : (back c : Recorder) (t : Taken) (k : ℕ) (r : Pushed) → t ≡ Count k → replyAs r ≡ replyOf unarmed (c .limit) (c .store .len + k) → recorderOf (feederIn r) ≡ withLen c (c .store .len + k) → Answers back c t r
+answers-some back c t k r e reply recorder = subst⁻¹ (λ (x : Taken). Answers back c x r) e (record { reply-is = reply; recorder-is = recorder })
+
+-- ---- the bytes of k samples, in the other form
+paste-joined : (s : List ℕ) (at : ℕ) (x : List ℕ) (k : ℕ) → k ≤ length x → paste s at x k ≡ joined s at (take k x)
+paste-joined s at x k h =
+    ap (λ (z : List ℕ). take at s ++ take k x ++ z) (sym (drop-drop k at s) ∙ ap (λ (j : ℕ). drop j (drop at s)) (sym (length-take-le k x h)))
+    ∙ append-assoc (take at s) (take k x) (drop (length (take k x)) (drop at s))
+
+module _ (back c : Recorder) (n : ℕ) (x s : List ℕ) (lv : ℕ → List ℕ) (same-len : back .store .len ≡ c .store .len) (fired : c .armed ≡ unarmed) (r : Pushed) (s′ : List ℕ) (lv′ : ℕ → List ℕ) where
+  abbrev Took : Taken → Type 0
+  Took t = Takes (c .store .unit) (c .store .capacity) (c .store .len) (c .limit) n x s lv t s′ lv′
+
+  stores-none : Took Full → Answers back c Full r → Stores back c n x s lv r s′ lv′
   unfolding storeBytes
-  stores-none f e h = record {
-    left-is = λ g. rw (lt-leb (c .store .len + storable c n) (c .store .capacity) h);
-    levels-are = λ l p q. sym (after-none (firstNodes (c .store .unit) s (f .capture .len)) lv (c .store .len) (f .capture .len - c .store .len) l (omega arith));
+  stores-none d a = record {
+    left-is = λ g. rw (not-some (leb (c .store .len + storable c n) (c .store .capacity)) (storable c n) (d .taken-is)) (λ i. record { reply = a .reply-is i; recorder = a .recorder-is i; samples = none-samples (d .memory) refl i; ring = g });
+    levels-are = λ l p q. none-levels (d .memory) refl l p q ∙ sym (after-none (firstNodes (c .store .unit) s′ (feederIn r .capture .len)) lv (c .store .len) (feederIn r .capture .len - c .store .len) l none-more);
   }
+    where
+      len-left : feederIn r .capture .len ≡ c .store .len
+      len-left = ap (λ (z : Recorder). z .store .len) (a .recorder-is) ∙ same-len
 
-  -- k samples, y their bytes
-  module _ (k : ℕ) (y s′ : List ℕ) (lv′ : ℕ → List ℕ) (r : Pushed) (fired : c .armed ≡ unarmed) (fits : c .store .len + storable c n ≤ c .store .capacity) (all : storable c n ≡ k)
-      (first : y ≡ take (k * c .store .unit) x) (size : length y ≡ k * c .store .unit) (d : Stored (c .store .unit) (c .store .len) k y s lv s′ lv′) (a : Answers c (c .store .len + k) r) where
-    samples-left : s′ ≡ joined s (c .store .len * c .store .unit) (take (k * c .store .unit) x)
-    samples-left = d .samples-are ∙ ap (paste s (c .store .len * c .store .unit) y) (sym size) ∙ paste-joined s (c .store .len * c .store .unit) y ∙ ap (joined s (c .store .len * c .store .unit)) first
+      none-more : feederIn r .capture .len - c .store .len ≡ 0
+      none-more = ap (λ (k : ℕ). k - c .store .len) len-left ∙ sub-self (c .store .len)
 
-    reply-left : replyAs r ≡ replyOf (c .armed) (c .limit) (c .store .len + k)
-    reply-left = a .reply-is ∙ ap (λ (z : Armed). replyOf z (c .limit) (c .store .len + k)) (sym fired)
+  stores-some : (k : ℕ) → Took (Count k) → Answers back c (Count k) r → Stores back c n x s lv r s′ lv′
+  unfolding storeBytes
+  stores-some k d a = record {
+    left-is = λ g. rw (which .0, which .1) (λ i. record { reply = reply-left i; recorder = a .recorder-is i; samples = samples-left i; ring = g });
+    levels-are = λ l p q. d .memory .levels-are l p q ∙ ap₂ (λ (end m : ℕ). levelAfter (firstNodes (c .store .unit) s′ end) lv (c .store .len) m l) (sym len-left) more;
+  }
+    where
+      which : (leb (c .store .len + storable c n) (c .store .capacity) ≡ true) × (storable c n ≡ k)
+      which = is-some (leb (c .store .len + storable c n) (c .store .capacity)) (storable c n) k (d .taken-is)
 
-    len-left : feederIn r .capture .len ≡ c .store .len + k
-    len-left = ap (λ (z : Recorder). z .store .len) (a .recorder-is)
+      samples-left : s′ ≡ joined s (c .store .len * c .store .unit) (take (k * c .store .unit) x)
+      samples-left = d .memory .samples-are ∙ paste-joined s (c .store .len * c .store .unit) x (k * c .store .unit) (d .enough)
 
-    pub stores-some : (back : Recorder) → Stores back c n x s lv r s′ lv′
-    unfolding storeBytes
-    stores-some back = record {
-      left-is = λ g. rw (le-leb (c .store .len + storable c n) (c .store .capacity) fits, all)
-          (λ i. record { reply = reply-left i; recorder = a .recorder-is i; samples = samples-left i; ring = g });
-      levels-are = λ l p q. d .levels-are l p q
-          ∙ ap₂ (λ (end m : ℕ). levelAfter (firstNodes (c .store .unit) s′ end) lv (c .store .len) m l) (sym len-left) more;
-    }
-      where
-        more : k ≡ feederIn r .capture .len - c .store .len
-        more = omega (arith, len-left)
+      reply-left : replyAs r ≡ replyOf (c .armed) (c .limit) (c .store .len + k)
+      reply-left = a .reply-is ∙ ap (λ (z : Armed). replyOf z (c .limit) (c .store .len + k)) (sym fired)
 
--- ---- a run of the ring's samples and the push's own
-module _ (back c : Recorder) (s : List ℕ) (lv : ℕ → List ℕ) (g b : List ℕ) (w d n : ℕ) (h : RunRoom back c (length s) lv (length g) (length b) w d n)
-    (free : ltb (c .store .capacity) (c .store .len + storable c (w + (n - d))) ≡ false)
-    (r : Run) (is : RunIs (roomOf (c .limit) (c .store .len) (c .store .capacity)) (c .pre) (back .place) w (n - d) r) where
-  fits : c .store .len + storable c (w + (n - d)) ≤ c .store .capacity
-  fits = ltb-false (c .store .capacity) (c .store .len + storable c (w + (n - d))) free
+      len-left : feederIn r .capture .len ≡ c .store .len + k
+      len-left = ap (λ (z : Recorder). z .store .len) (a .recorder-is)
 
-  all : storable c (w + (n - d)) ≡ r .count
-  all =
-      room-cuts (c .limit) (c .store .len) (c .store .capacity) (h .within) (w + (n - d)) fits
-      ∙ sym (run-count (c .store .unit) (c .pre) g (back .place) w b d n (roomOf (c .limit) (c .store .len) (c .store .capacity)) r (h .ring) (h .place-inside) (h .kept) (h .passed) (h .bytes) is)
+      more : k ≡ feederIn r .capture .len - c .store .len
+      more = omega (arith, len-left)
 
-  pub run-fits : c .store .len + r .count ≤ c .store .capacity
-  run-fits = omega (arith, fits, all)
-
-  pub write-room : WriteRoom (c .store .unit) (c .store .len) r d (length s) lv (length g) (length b)
-  write-room =
-      run-room (c .store .unit) (c .pre) g (back .place) w b d n (roomOf (c .limit) (c .store .len) (c .store .capacity)) r (h .ring) (h .place-inside) (h .kept) (h .passed) (h .bytes) is
-      (c .store .len) (length s) lv (less-room (c .store .unit) (c .store .len) (c .store .capacity - c .store .len) (r .count) (length s) lv (h .room) (omega (arith, run-fits)))
-
-  pub run-stored : (s′ : List ℕ) (lv′ : ℕ → List ℕ) (v : Pushed) → Stored (c .store .unit) (c .store .len) (r .count) (bytesOf (c .store .unit) g b d r) s lv s′ lv′ → Answers c (c .store .len + r .count) v
-      → Stores back c (w + (n - d)) (keptBytes (c .store .unit) (c .pre) g (back .place) w ++ drop (d * c .store .unit) b) s lv v s′ lv′
-  run-stored s′ lv′ v e a =
-      stores-some c (w + (n - d)) (keptBytes (c .store .unit) (c .pre) g (back .place) w ++ drop (d * c .store .unit) b) s lv (r .count) (bytesOf (c .store .unit) g b d r) s′ lv′ v (h .fired) fits all
-      (first-bytes (c .store .unit) (c .pre) g (back .place) w b d n (roomOf (c .limit) (c .store .len) (c .store .capacity)) r (h .ring) (h .place-inside) (h .kept) (h .passed) (h .bytes) is)
-      (bytes-size (c .store .unit) (c .store .len) r d (length s) lv g b write-room) e a back
+  pub stores-is : (t : Taken) → Took t → Answers back c t r → Stores back c n x s lv r s′ lv′
+  stores-is Full d a = stores-none d a
+  stores-is (Count k) d a = stores-some k d a

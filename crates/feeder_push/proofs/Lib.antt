@@ -1,4 +1,3 @@
-pub mod Cuts
 pub mod Left
 pub mod Fires
 pub mod Answered

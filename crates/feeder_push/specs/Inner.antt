@@ -1,12 +1,10 @@
 -- What the inner functions ask and what they promise.
 use mathlib.Core.Path.{_≡_}
-use mathlib.Core.Bool.{Bool, cond}
-use mathlib.Core.List.{List, _++_}
-use Prim.Native.Nat.{ℕ, _+_, _-_, _*_, _≤_, _<_, min, max}
-use lib.Dec.{eqb}
-use lib.ListN.{take, drop}
+use mathlib.Core.List.{List}
+use Prim.Native.Nat.{ℕ, _+_, _-_, _*_, _≤_, _<_, max}
 use Rattle.rules.specs.Node.{topLevel}
 use Rattle.rules.specs.Trigger.{unarmed}
+use Rattle.rules.specs.Selection.{Reply, refused}
 use Rattle.rules.specs.Refusal.{Recorder}
 use Rattle.rules.proofs.Refusal.{SoundRecorder}
 use Rattle.ring.specs.Step.{replyOf}
@@ -14,12 +12,12 @@ use Rattle.ring.specs.Bytes.{units, ringBytes}
 use Rattle.ring.specs.Push.{Left, withLen, storeBytes, waitedFor}
 use Rattle.rebuild.specs.Rebuild.{levelAfter}
 use Rattle.store.specs.Stored.{firstNodes}
-use Rattle.store.specs.Room.{StoreRoom}
+use Rattle.run_write.specs.declared.Taken.{Taken}
+use Rattle.run_write.specs.declared.Taken.the-variants.{Full, Count}
 use Rattle.capture.specs.Record.{lentOf}
 use Rattle.feeder.specs.declared.Feeder.{Feeder}
 use Rattle.feeder.specs.Record.{recorderOf}
 use Rattle.feeder_push.specs.declared.Pushed.{Pushed}
-use Rattle.feeder_push.specs.declared.Run.{Run}
 use Rattle.feeder_push.specs.Push.{replyAs, feederIn}
 
 -- an answer, with the memory that is left
@@ -27,53 +25,18 @@ abbrev pub leftIn : Pushed → List ℕ → List ℕ → Left
 leftIn answer samples ring = record { reply = replyAs answer; recorder = recorderOf (feederIn answer); samples = samples; ring = ring }
 
 -- ---- to the store
--- the places that are left: under the limit, or else under the capacity
-abbrev pub roomOf : ℕ → ℕ → ℕ → ℕ
-roomOf limit len capacity = cond (eqb limit 0) (capacity - len) (limit - len)
+-- the answer of c, an unarmed recorder, once samples went to its store, and the record that is left
+abbrev pub replyFor : Recorder → Taken → Reply
+replyFor c Full = refused 8
+replyFor c (Count k) = replyOf unarmed (c .limit) (c .store .len + k)
 
--- len is within the capacity, and within a limit
-pub record Within (limit len capacity : ℕ) : Type 0 where
-  pub len-most : len ≤ capacity
-  pub limit-most : limit ≤ capacity
-  pub len-limit : 0 < limit → len ≤ limit
+abbrev pub recorderFor : Recorder → Recorder → Taken → Recorder
+recorderFor back c Full = back
+recorderFor back c (Count k) = withLen c (c .store .len + k)
 
--- the first samples of a run that fit: of the w newest of a ring whose next slot is place, and of `own` of a push
-pub record RunIs (room pre place w own : ℕ) (r : Run) : Type 0 where
-  pub end-is : r .end ≡ pre - (w - place)
-  pub older-is : r .older ≡ min (w - place) room
-  pub start-is : r .start ≡ place - w
-  pub newer-is : r .newer ≡ min (min w place) (room - r .older)
-  pub own-is : r .own ≡ min own (room - r .older - r .newer)
-  pub count-is : r .count ≡ r .older + r .newer + r .own
-
--- its bytes, in memory g of a ring and b of a push, whose own samples start at d
-abbrev pub bytesOf : ℕ → List ℕ → List ℕ → ℕ → Run → List ℕ
-bytesOf unit g b d r = take (r .older * unit) (drop (r .end * unit) g) ++ take (r .newer * unit) (drop (r .start * unit) g) ++ take (r .own * unit) (drop (d * unit) b)
-
--- a run lies in memory of g bytes of a ring and b of a push, and has room
-pub record WriteRoom (unit len : ℕ) (r : Run) (d s : ℕ) (levels : ℕ → List ℕ) (g b : ℕ) : Type 0 where
-  pub room : StoreRoom unit len (r .count) s levels
-  pub all : r .count ≡ r .older + r .newer + r .own
-  pub end-fits : (r .end + r .older) * unit ≤ g
-  pub start-fits : (r .start + r .newer) * unit ≤ g
-  pub own-fits : (d + r .own) * unit ≤ b
-
--- the answer of an unarmed recorder that has stored len samples
-pub record Answers (c : Recorder) (len : ℕ) (answer : Pushed) : Type 0 where
-  pub reply-is : replyAs answer ≡ replyOf unarmed (c .limit) len
-  pub recorder-is : recorderOf (feederIn answer) ≡ withLen c len
-
--- c is an unarmed recorder, whose memory has room up to its capacity; the w newest samples of the ring of `back` are meant, and a push of n samples, d of them passed over
-pub record RunRoom (back c : Recorder) (s : ℕ) (levels : ℕ → List ℕ) (g b w d n : ℕ) : Type 0 where
-  pub room : StoreRoom (c .store .unit) (c .store .len) (c .store .capacity - c .store .len) s levels
-  pub within : Within (c .limit) (c .store .len) (c .store .capacity)
-  pub fired : c .armed ≡ unarmed
-  pub same-len : back .store .len ≡ c .store .len
-  pub ring : c .pre * c .store .unit ≤ g
-  pub place-inside : back .place < max (c .pre) 1
-  pub kept : w ≤ c .pre
-  pub passed : d ≤ n
-  pub bytes : n * c .store .unit ≤ b
+pub record Answers (back c : Recorder) (taken : Taken) (answer : Pushed) : Type 0 where
+  pub reply-is : replyAs answer ≡ replyFor c taken
+  pub recorder-is : recorderOf (feederIn answer) ≡ recorderFor back c taken
 
 -- n samples, x their bytes, went to the store of c as far as the limit has room, or had no room and `back` is left; whatever the ring holds
 pub record Stores (back c : Recorder) (n : ℕ) (x samples : List ℕ) (levels : ℕ → List ℕ) (answer : Pushed) (samples′ : List ℕ) (levels′ : ℕ → List ℕ) : Type 0 where

@@ -5,7 +5,7 @@ use native.Mathlib.Nat.{mul-le-mul-right, div-add-mod', mod-lt, lt-of-mul-lt-mul
 use native.Mathlib.Omega.{arith}
 use lib.ListN.{length}
 use Rattle.rules.specs.Node.{span, nodesFor}
-use Rattle.rules.specs.Refusal.{Store, Lent, nodeSize}
+use Rattle.rules.specs.Refusal.{Store, nodeSize}
 use Rattle.rules.proofs.Walk.{span-pos}
 use Rattle.rules.proofs.Refusal.{Sound}
 use Rattle.store.specs.Room.{StoreRoom}

@@ -113,7 +113,8 @@ fn rebuild_chunks(samples: &[u8], l1: &mut [Mask], unitsize: usize, len: usize, 
     }
 }
 
-fn lesser(a: usize, b: usize) -> usize
+// The lesser of two counts; crates above cut by it too.
+pub fn lesser(a: usize, b: usize) -> usize
     ensures { λ r. ⌜ r ≡ min a b ⌝ }
 {
     if a < b { a } else { b }

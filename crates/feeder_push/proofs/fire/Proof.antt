@@ -4,18 +4,9 @@ use denote.Ref.{now}
 use lib.ListN.{length}
 use Rattle.node.specs.Memory.{levelOf}
 use Rattle.feeder.specs.Record.{recorderOf}
-use Rattle.feeder_push.proofs.Fires.{held-in, fire-room, fire-done}
+use Rattle.feeder_push.proofs.Fires.{held-in, fire-room, fire-fits, fire-done}
 use Rattle.feeder_push.proofs.fire.Statement.{statement}
 use Rattle.feeder_push.proofs.fire.Tie as tie
-
-get-requires : tie.Need-get-requires
-get-requires c κs =
-    let s = c .before .before .before .before .before .before .before .before in
-    let a = s .args in
-    held-in (recorderOf (a .f)) (now (a .samples)) (levelOf (now (a .l1)) (now (a .l2)) (now (a .l3)) (now (a .l4))) (length (now (a .ring))) (length (now (a .bytes))) (a .n) (s .pre .0) (a .i) (s .pre .1)
-
-fired-by-requires : tie.Need-fired-by-requires
-fired-by-requires c κs = search needs
 
 lesser-requires : tie.Need-lesser-requires
 lesser-requires c κs = search needs
@@ -33,11 +24,30 @@ store-run-requires : tie.Need-store-run-requires
 store-run-requires c κs =
     let m = c .before .before .before .before .before in
     let l = m .before .before in
-    let y = l .before in
-    let s = y .before .before .before .before .before .before .before .before .before .before in
+    let s = l .before .before .before .before .before .before .before .before .before in
     let a = s .args in
-    fire-room (recorderOf (a .f)) (now (a .samples)) (levelOf (now (a .l1)) (now (a .l2)) (now (a .l3)) (now (a .l4))) (now (a .ring)) (now (a .bytes)) (a .n) (s .pre .0) (a .i) (s .pre .1)
-    (recorderOf (y .fired-by .result)) (y .before .get .result) (l .lesser .result) (m .lesser2 .result) (y .fired-by .ensures) (y .before .get .ensures) (l .lesser .ensures) (m .lesser2 .ensures)
+    fire-room (recorderOf (a .f)) (now (a .samples)) (levelOf (now (a .l1)) (now (a .l2)) (now (a .l3)) (now (a .l4))) (now (a .ring)) (now (a .bytes)) (a .n) (s .pre .0) (a .i) (s .pre .1) (l .lesser .result) (m .lesser2 .result) (l .lesser .ensures) (m .lesser2 .ensures)
+
+get-requires : tie.Need-get-requires
+get-requires c κs =
+    let s = c .before .before .before .before .before .before .before .before .before .before .before .before .before .before .before .before .before .before .before .before .before .before .before .before .before .before .before in
+    let a = s .args in
+    held-in (recorderOf (a .f)) (now (a .samples)) (levelOf (now (a .l1)) (now (a .l2)) (now (a .l3)) (now (a .l4))) (length (now (a .ring))) (length (now (a .bytes))) (a .n) (s .pre .0) (a .i) (s .pre .1)
+
+fired-by-requires : tie.Need-fired-by-requires
+fired-by-requires c κs =
+    let s = c .before .before .before .before .before .before .before .before .before .before .before .before .before .before .before .before .before .before .before .before .before .before .before .before .before .before .before .before in
+    s .pre .0 .sound .kept-most
+
+answer-requires : tie.Need-answer-requires
+answer-requires c κs =
+    let y = c .before .before .before .before .before .before .before .before .before .before .before .before in
+    let m = y .before .before .before .before .before .before in
+    let l = m .before .before in
+    let s = l .before .before .before .before .before .before .before .before .before in
+    let a = s .args in
+    fire-fits (recorderOf (a .f)) (now (a .samples)) (levelOf (now (a .l1)) (now (a .l2)) (now (a .l3)) (now (a .l4))) (now (a .ring)) (now (a .bytes)) (a .n) (s .pre .0) (a .i) (s .pre .1) (l .lesser .result) (m .lesser2 .result) (l .lesser .ensures) (m .lesser2 .ensures)
+    (y .store-run .result) _ _ (y .store-run .ensures) (recorderOf (c .fired-by .result)) (c .before .get .result) (c .fired-by .ensures)
 
 same-length : tie.Need-same-length
 same-length c = search needs
@@ -56,27 +66,26 @@ same-length-5 c = search needs
 
 returns : tie.Need-returns
 returns c =
-    let r = c .before .before .before .before .before .before .before .before .before .before in
-    let m = r .before .before .before .before .before .before in
+    let y = c .before .before .before .before .before .before .before .before .before .before .before .before .before in
+    let m = y .before .before .before .before .before .before in
     let l = m .before .before in
-    let y = l .before in
-    let s = y .before .before .before .before .before .before .before .before .before .before in
+    let s = l .before .before .before .before .before .before .before .before .before in
     let a = s .args in
-    fire-done (recorderOf (a .f)) (now (a .samples)) (levelOf (now (a .l1)) (now (a .l2)) (now (a .l3)) (now (a .l4))) (now (a .ring)) (now (a .bytes)) (a .n) (s .pre .0) (a .i) (s .pre .1)
-    (recorderOf (y .fired-by .result)) (y .before .get .result) (l .lesser .result) (m .lesser2 .result) (y .fired-by .ensures) (y .before .get .ensures) (l .lesser .ensures) (m .lesser2 .ensures)
-    (r .store-run .result) _ _ (r .store-run .ensures)
+    fire-done (recorderOf (a .f)) (now (a .samples)) (levelOf (now (a .l1)) (now (a .l2)) (now (a .l3)) (now (a .l4))) (now (a .ring)) (now (a .bytes)) (a .n) (s .pre .0) (a .i) (s .pre .1) (l .lesser .result) (m .lesser2 .result) (l .lesser .ensures) (m .lesser2 .ensures)
+    (y .store-run .result) _ _ (y .store-run .ensures) (recorderOf (c .before .fired-by .result)) (c .before .before .get .result) (c .before .fired-by .ensures) (c .before .before .get .ensures) (c .answer .result) (c .answer .ensures)
 
 pub fire-spec : {M : Type 1} → statement M
 fire-spec =
     tie.close
     (tie.spec
-    get-requires
-    fired-by-requires
     lesser-requires
     sub-lesser
     lesser-requires-2
     sub-store-run
     store-run-requires
+    get-requires
+    fired-by-requires
+    answer-requires
     same-length
     same-length-2
     same-length-3

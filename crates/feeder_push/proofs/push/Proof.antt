@@ -9,7 +9,8 @@ use Rattle.node.specs.Memory.{levelOf}
 use Rattle.capture.specs.Record.{lentOf}
 use Rattle.capture.proofs.Answer.{lent-same}
 use Rattle.feeder.specs.Record.{recorderOf, recorderRefusal}
-use Rattle.feeder_push.proofs.Answered.{pushed-refused, room, scan-room, wait-room, run-room, pushed-unarmed, pushed-fired, pushed-waited}
+use Rattle.feeder_push.proofs.Fires.{taken-fits}
+use Rattle.feeder_push.proofs.Answered.{pushed-refused, room, all-room, scan-room, wait-room, pushed-unarmed, pushed-fired, pushed-waited}
 use Rattle.feeder_push.proofs.push.Statement.{statement}
 use Rattle.feeder_push.proofs.push.Tie as tie
 
@@ -50,10 +51,16 @@ enum-told c = search needs
 
 store-run-requires : tie.Need-store-run-requires
 store-run-requires c κs =
-    let t = c .before .before .before .before .before .before in
-    let i = t .before .before .before in
+    let i = c .before .before .before .before .before .before .before .before .before in
     let a = i .before .before .before .before .before .before .before .before .before .args in
-    run-room (a .f) (now (a .samples)) (levelOf (now (a .l1)) (now (a .l2)) (now (a .l3)) (now (a .l4))) (now (a .ring)) (now (a .bytes)) (free i) (t .enum-told .given .1)
+    all-room (a .f) (now (a .samples)) (levelOf (now (a .l1)) (now (a .l2)) (now (a .l3)) (now (a .l4))) (now (a .ring)) (now (a .bytes)) (free i)
+
+answer-requires : tie.Need-answer-requires
+answer-requires c κs =
+    let r = c .before .before .before .before .before .before .before .before .before .before in
+    let i = r .before .before .before .before .before .before .before .before .before .before in
+    let a = i .before .before .before .before .before .before .before .before .before .args in
+    taken-fits (recorderOf (a .f)) (now (a .samples)) (levelOf (now (a .l1)) (now (a .l2)) (now (a .l3)) (now (a .l4))) (length (now (a .ring))) (length (now (a .bytes))) _ (room (a .f) (now (a .samples)) (levelOf (now (a .l1)) (now (a .l2)) (now (a .l3)) (now (a .l4))) (now (a .ring)) (now (a .bytes)) (free i)) (r .store-run .result) (r .store-run .ensures)
 
 same-length : tie.Need-same-length
 same-length c = search needs
@@ -75,11 +82,11 @@ same-length-6 c = search needs
 
 returns-2 : tie.Need-returns-2
 returns-2 c =
-    let r = c .before .before .before .before .before .before .before .before .before .before in
+    let r = c .before .before .before .before .before .before .before .before .before .before .before in
     let t = r .before .before .before .before .before .before .before in
     let i = t .before .before .before in
     let a = i .before .before .before .before .before .before .before .before .before .args in
-    pushed-unarmed (a .f) (now (a .samples)) (levelOf (now (a .l1)) (now (a .l2)) (now (a .l3)) (now (a .l4))) (now (a .ring)) (now (a .bytes)) (free i) (t .enum-told .given .1) (r .store-run .result) _ _ (r .store-run .ensures)
+    pushed-unarmed (a .f) (now (a .samples)) (levelOf (now (a .l1)) (now (a .l2)) (now (a .l3)) (now (a .l4))) (now (a .ring)) (now (a .bytes)) (free i) (t .enum-told .given .1) (r .store-run .result) (c .answer .result) _ _ (r .store-run .ensures) (c .answer .ensures)
 
 first-fire-requires : tie.Need-first-fire-requires
 first-fire-requires c κs =
@@ -148,6 +155,7 @@ push-spec =
     enum-known-masks
     enum-told
     store-run-requires
+    answer-requires
     same-length
     same-length-2
     same-length-3
