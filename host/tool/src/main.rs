@@ -6,6 +6,7 @@ mod failure;
 mod file;
 mod frame;
 mod header;
+mod interrupt;
 mod lines;
 mod number;
 mod output;

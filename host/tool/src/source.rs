@@ -1,6 +1,7 @@
 //! Where bytes are read from: a file or standard input.
 
 use crate::failure::{bad, Failure};
+use crate::interrupt;
 use std::ffi::OsStr;
 use std::fs::File;
 use std::io::{self, Cursor, Read};
@@ -32,15 +33,16 @@ impl Source {
         Source { name: "test".into(), bytes: Box::new(Cursor::new(bytes.to_vec())) }
     }
 
-    /// Some bytes, as many as there are now; 0 at the end.
+    /// Some bytes, as many as there are now; 0 at the end, which Ctrl-C may bring.
     pub fn some(&mut self, buffer: &mut [u8]) -> Result<usize, Failure> {
-        loop {
+        while !interrupt::came() {
             match self.bytes.read(buffer) {
                 Ok(count) => return Ok(count),
                 Err(error) if error.kind() == io::ErrorKind::Interrupted => {}
                 Err(error) => return Err(self.bad(&error.to_string())),
             }
         }
+        Ok(0)
     }
 
     /// As many bytes as the buffer takes, or all that are left.

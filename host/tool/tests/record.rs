@@ -8,7 +8,7 @@ use capture::{Condition, Term};
 use common::{Folder, Run};
 use plain::Rng;
 use std::io::{BufRead, BufReader, Write};
-use std::process::Stdio;
+use std::process::{Command, Stdio};
 use std::sync::atomic::{AtomicU8, Ordering};
 use std::thread;
 use std::time::Duration;
@@ -290,4 +290,33 @@ fn a_long_wait_says_how_far_it_is() {
         recorded.starts_with("logic-capture record: ") && recorded.ends_with(" recorded"),
         "{recorded}"
     );
+}
+
+#[test]
+fn what_was_recorded_before_ctrl_c_is_saved() {
+    let folder = Folder::new("record-interrupt");
+    let words = ["record", "--unit", "1", "--limit", "100", "-o", "a.cap"];
+    let mut tool = folder.command(&words).stdin(Stdio::piped()).spawn().unwrap();
+    let mut input = tool.stdin.take().unwrap();
+    let mut said = BufReader::new(tool.stderr.take().unwrap()).lines().map(Result::unwrap);
+
+    input.write_all(&[1, 2, 3]).unwrap();
+    // Its output is there once it has begun, and its first second is then about to run.
+    while !folder.has("a.cap") {
+        thread::sleep(Duration::from_millis(10));
+    }
+    thread::sleep(Duration::from_millis(1500));
+    input.write_all(&[4]).unwrap();
+    let progress = said.next().unwrap();
+    assert_eq!(progress, "logic-capture record: 4 samples read, 4 recorded");
+    // The input stays open: the tool waits for more of it.
+    let sent = Command::new("kill").args(["-INT", &tool.id().to_string()]).status().unwrap();
+    assert!(sent.success());
+    assert!(tool.wait().unwrap().success());
+    assert_eq!(said.next().unwrap(), "logic-capture record: stopped after 4 samples");
+    assert_eq!(
+        said.next().unwrap(),
+        "logic-capture record: the input ends 96 samples before the limit"
+    );
+    assert_eq!(folder.read("a.cap"), file(1, "-", "-", &[1, 2, 3, 4]));
 }

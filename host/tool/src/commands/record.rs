@@ -8,7 +8,7 @@ use crate::output::Output;
 use crate::progress::Progress;
 use crate::recording::Recording;
 use crate::source::Source;
-use crate::{file, note, number, trigger, wish};
+use crate::{file, interrupt, note, number, trigger, wish};
 use capture::{Pushed, Recorder, Refusal, Settings, Wish, MOST_SAMPLES};
 use std::ffi::OsStr;
 use std::io::Write;
@@ -54,7 +54,11 @@ fn run(args: &Args, out: &mut dyn Write) -> Result<Outcome, Failure> {
     }
     let output = Output::open(path)?;
 
+    interrupt::listen();
     let (read, end) = record(&mut recorder, &mut source, unit)?;
+    if interrupt::came() {
+        note("record", &format!("stopped after {read} samples"));
+    }
     if recorder.is_armed() {
         note(
             "record",
