@@ -1,3 +1,4 @@
 pub mod Nodes
+pub mod Packed
 pub mod Raw
 pub mod Right

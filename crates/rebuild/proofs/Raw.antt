@@ -13,10 +13,14 @@ use Rattle.rebuild.specs.Rebuild.{partSample}
 use Rattle.rebuild.specs.Room.{RangeIn, FirstRoom}
 
 -- ---- toggles by the first sample
--- the OR of each sample XOR the first one, for the n samples from a on
-unfoldable pub apart : (ℕ → ℕ) → ℕ → ℕ → ℕ
-apart s a zero = 0
-apart s a (suc n) = bitOr (apart s a n) (bitXor (s (a + n)) (s a))
+-- the OR of each of n samples XOR f
+unfoldable pub apartFrom : ℕ → (ℕ → ℕ) → ℕ → ℕ
+apartFrom f s zero = 0
+apartFrom f s (suc n) = bitOr (apartFrom f s n) (bitXor (s n) f)
+
+-- of the n samples from a on, XOR the first one
+abbrev pub apart : (ℕ → ℕ) → ℕ → ℕ → ℕ
+apart s a n = apartFrom (s a) (λ i. s (a + i)) n
 
 or-again : (x y : ℕ) → bitOr (bitOr x y) y ≡ bitOr x y
 or-again x y = lines-ext _ _ (λ k. simp line-or (omega arith))
@@ -41,7 +45,7 @@ or-alike t p f v e = lines-ext _ _ (λ k.
 
 -- by the first sample as by neighbours
 pub apart-toggles : (s : ℕ → ℕ) (a n : ℕ) → apart s a (suc n) ≡ togglesOf s a n
-unfolding apart togglesOf
+unfolding apartFrom togglesOf
 apart-toggles s a zero = ap (λ (x : ℕ). bitXor (s x) (s a)) (add-zero a) ∙ xor-self (s a)
 apart-toggles s a (suc n) = on (apart-toggles s a n)
   where
@@ -57,14 +61,14 @@ apart-toggles s a (suc n) = on (apart-toggles s a n)
 
 -- ---- a scan that has come to i
 pub apart-none : (s : ℕ → ℕ) (a : ℕ) → apart s a (a - a) ≡ 0
-unfolding apart
+unfolding apartFrom
 apart-none s a = ap (apart s a) none
   where
     none : a - a ≡ 0
     none = omega arith
 
 pub apart-turn : (s : ℕ → ℕ) (a i m v w : ℕ) → a ≤ i → m ≡ apart s a (i - a) → v ≡ s i → w ≡ s a → bitOr m (bitXor v w) ≡ apart s a (i + 1 - a)
-unfolding apart
+unfolding apartFrom
 apart-turn s a i m v w h em ev ew = ap₂ bitOr em (ap₂ bitXor (ev ∙ ap s at) ew) ∙ sym (ap (apart s a) one)
   where
     at : i ≡ a + (i - a)

@@ -1,2 +1,3 @@
+pub mod Packed
 pub mod Rebuild
 pub mod Room

@@ -3,7 +3,7 @@ use mathlib.Core.Bool.{cond}
 use mathlib.Core.List.{List}
 use Prim.Native.Nat.{ℕ, zero, suc, _+_, _-_, _*_, _/_, min}
 use lib.Dec.{eqb}
-use Rattle.rules.specs.Node.{Node, join, span}
+use Rattle.rules.specs.Node.{Node, join, span, levelNode}
 use Rattle.rules.specs.Sample.{sampleOf}
 use Rattle.node.specs.Memory.{nodeIn, putNode}
 
@@ -29,6 +29,10 @@ madeOver nodes top j = joinOver nodes (j * 32) (min 31 (top - j * 32))
 -- the samples of a part of memory that starts at place base
 abbrev pub partSample : ℕ → List ℕ → ℕ → ℕ → ℕ
 partSample unit part base i = sampleOf unit part (i - base)
+
+-- level 1 with its nodes from number j on up to place top made from a part that starts at place base
+abbrev pub firstRaised : ℕ → List ℕ → ℕ → ℕ → List ℕ → ℕ → List ℕ
+firstRaised unit part base top level j = putNodes (levelNode (partSample unit part base) (top + 1) 1) level j (top / 32 + 1 - j)
 
 -- how many nodes of level l cover one of the places len to top; the first of them is len / span l
 abbrev pub touched : ℕ → ℕ → ℕ → ℕ

@@ -1,4 +1,6 @@
 // Nodes made anew: level 1 from the samples of a chunk's part, and each higher level from the one below.
+mod word;
+
 use level::span;
 use lines::Mask;
 use lines::get;
@@ -6,14 +8,17 @@ use lines::wide;
 use node::Node;
 use node::node_in;
 use node::put_node;
+use word::eight;
+use word::folded;
+use word::repeated;
 ghost use mathlib.Core.Path.{_≡_};
 ghost use Prim.Native.Nat.{_+_, _-_, _*_, _/_, _^_, _≤_, _<_, min};
 ghost use lib.ListN.{length};
-ghost use Rattle.rules.specs.Node.{nodeOf, levelNode};
+ghost use Rattle.rules.specs.Node.{nodeOf};
 ghost use Rattle.rules.specs.Refusal.{nodeSize};
 ghost use Rattle.rules.specs.Sample.{sampleOf};
 ghost use Rattle.node.specs.Memory.{asNode, nodeIn};
-ghost use Rattle.rebuild.specs.Rebuild.{putNodes, joinOver, joinOn, madeOver, partSample, raised};
+ghost use Rattle.rebuild.specs.Rebuild.{putNodes, joinOver, joinOn, madeOver, firstRaised, raised};
 ghost use Rattle.rebuild.specs.Room.{RangeIn, FirstRoom, LevelRoom, RaiseRoom};
 
 // Nodes of a level that make one of the next.
@@ -51,6 +56,24 @@ fn raw_one(part: &[u8], a: usize, b: usize) -> Node
     }
 }
 
+// The node of the 32 samples of unit 1 from place a on, eight at a time.
+fn raw_whole(part: &[u8], a: usize) -> Node
+    requires { ⌜ a + 32 ≤ length (now part) ⌝ }
+    ensures { λ r. ⌜ asNode r ≡ nodeOf (sampleOf 1 (now (part .entry))) a (a + 32) ⌝ }
+{
+    let first = part[a];
+    let firsts = repeated(first);
+    let m0 = eight(part, a) ^ firsts;
+    let m1 = eight(part, a + 8) ^ firsts;
+    let m2 = eight(part, a + 16) ^ firsts;
+    let m3 = eight(part, a + 24) ^ firsts;
+    Node {
+        first: wide(first),
+        last: wide(part[a + 31]),
+        mask: folded(m0 | m1 | m2 | m3),
+    }
+}
+
 // Unit 2.
 fn raw_two(part: &[u8], a: usize, b: usize) -> Node
     requires { ⌜ (a < b) × (b * 2 ≤ length (now part)) ⌝ }
@@ -79,6 +102,7 @@ fn end_of(a: usize, top: usize) -> usize
 }
 
 // The nodes of level 1 from number first on, from the samples of a part that starts at place base, up to place top.
+// In unit 1 whole nodes are made by a loop of their own, which is what long pushes spend their time on.
 pub fn rebuild_first(
     part: &[u8],
     level: &mut [Mask],
@@ -88,7 +112,41 @@ pub fn rebuild_first(
     top: usize,
 )
     requires { ⌜ FirstRoom unitsize base first top (length (now part)) (length (now level)) ⌝ }
-    ensures { λ _. ⌜ now (level .exit) ≡ putNodes (levelNode (partSample unitsize (now (part .entry)) base) (top + 1) 1) (now (level .entry)) first (top / 32 + 1 - first) ⌝ }
+    ensures { λ _. ⌜ now (level .exit) ≡ firstRaised unitsize (now (part .entry)) base top (now (level .entry)) first ⌝ }
+{
+    if unitsize == 1 {
+        let rest = rebuild_whole(part, level, base, first, top);
+        rebuild_each(part, level, 1, base, rest, top);
+    } else {
+        rebuild_each(part, level, unitsize, base, first, top);
+    }
+}
+
+// The whole ones of these nodes, in unit 1. The others are left to make, from the number answered on.
+fn rebuild_whole(part: &[u8], level: &mut [Mask], base: usize, first: usize, top: usize) -> usize
+    requires { ⌜ FirstRoom 1 base first top (length (now part)) (length (now level)) ⌝ }
+    ensures { λ r. ⌜ (first ≤ r) × (firstRaised 1 (now (part .entry)) base top (now (level .exit)) r ≡ firstRaised 1 (now (part .entry)) base top (now (level .entry)) first) ⌝ }
+{
+    let end = (top + 1) / FAN;
+    let mut j = first;
+    while j < end {
+        put_node(level, j, raw_whole(part, j * FAN - base));
+        j += 1;
+    }
+    j
+}
+
+// All of these nodes one by one, whole or partial.
+fn rebuild_each(
+    part: &[u8],
+    level: &mut [Mask],
+    unitsize: usize,
+    base: usize,
+    first: usize,
+    top: usize,
+)
+    requires { ⌜ FirstRoom unitsize base first top (length (now part)) (length (now level)) ⌝ }
+    ensures { λ _. ⌜ now (level .exit) ≡ firstRaised unitsize (now (part .entry)) base top (now (level .entry)) first ⌝ }
 {
     let last = top / FAN;
     let mut j = first;
