@@ -1,7 +1,7 @@
 -- Laws of the answer: which row refuses, and the record of equations in each case.
 use Prim.Native.Nat.{ℕ, _+_, _*_, _≤_, _<_}
 use mathlib.Core.Path.{_≡_, refl, sym, ap, _∙_, subst⁻¹}
-use mathlib.Core.Bool.{Bool, true, false, cond}
+use mathlib.Core.Bool.{Bool, false, cond}
 use mathlib.Core.List.{List, [], _∷_}
 use mathlib.Core.Logic.{_↔_}
 use native.Mathlib.Nat.{div-mul-le-self}
@@ -10,8 +10,8 @@ use lib.Dec.{ltb}
 use lib.ListN.{length}
 use borrow.Author.Tests.{le-ltb, lt-ltb, eq-eqb, ne-eqb, ltb-false}
 use Rattle.rules.specs.Sample.{countOf}
-use Rattle.rules.specs.Refusal.{Store, Lent, Row, firstOf, storeWrong, lentShort, storeRows, storeRefusal}
-use Rattle.rules.proofs.Refusal.{Sound, MarkInside, rows-passed, row-passed}
+use Rattle.rules.specs.Refusal.{Row, firstOf, storeRows, storeRefusal}
+use Rattle.rules.proofs.Refusal.{Sound, MarkInside, rows-left, rows-refused, rows-passed, row-passed}
 use Rattle.store.specs.Stored.{Stored}
 use Rattle.store.specs.Room.{AppendRoom}
 use Rattle.store.proofs.Fits.{sound-room}
@@ -20,24 +20,6 @@ use Rattle.capture.specs.declared.Capture.{Capture}
 use Rattle.capture.specs.Record.{storeOf, lentOf}
 use Rattle.append.specs.declared.Appended.the-variants.{Refused, Done}
 use Rattle.append.specs.Append.{grown, refusalOf, takenOf, Appends}
-
--- ---- rows 1 and 2, then those of a call
-module _ (st : Store) (lent : Lent) (rest : List Row) where
-  pub rows-refused : (storeRefusal st lent ≡ 0 → ⊥) → firstOf (storeRows st lent rest) ≡ storeRefusal st lent
-  rows-refused = go (storeWrong st) (lentShort st lent)
-    where
-      go : (a b : Bool) → (cond {A = ℕ} a 1 (cond b 2 0) ≡ 0 → ⊥) → cond {A = ℕ} a 1 (cond b 2 (firstOf rest)) ≡ cond a 1 (cond b 2 0)
-      go true b z = refl
-      go false true z = refl
-      go false false z = absurd (z refl)
-
-  pub rows-rest : storeRefusal st lent ≡ 0 → firstOf (storeRows st lent rest) ≡ firstOf rest
-  rows-rest = go (storeWrong st) (lentShort st lent)
-    where
-      go : (a b : Bool) → cond {A = ℕ} a 1 (cond b 2 0) ≡ 0 → cond {A = ℕ} a 1 (cond b 2 (firstOf rest)) ≡ firstOf rest
-      go true b e = absurd (omega arith)
-      go false true e = absurd (omega arith)
-      go false false e = refl
 
 pub whole-bytes : (unit : ℕ) (bytes : List ℕ) → countOf unit bytes * unit ≤ length bytes
 whole-bytes unit bytes = div-mul-le-self (length bytes) unit
@@ -53,16 +35,16 @@ module _ (c : Capture) (b s : List ℕ) (lv : ℕ → List ℕ) where
   -- ---- which row refuses
   pub refused-first : (k : ℕ) → k ≡ storeRefusal (storeOf c) (lentOf s lv) → (k ≡ 0 → ⊥) → k ≡ refusalOf c s lv b
   unfolding refusalOf
-  refused-first k e z = e ∙ sym (rows-refused (storeOf c) (lentOf s lv) (row-8 c b) (λ y. z (e ∙ y)))
+  refused-first k e z = e ∙ sym (rows-refused (storeOf c) (lentOf s lv) (λ y. z (e ∙ y)) (row-8 c b))
 
   module _ (f : storeRefusal (storeOf c) (lentOf s lv) ≡ 0) where
     pub refused-full : c .capacity < c .len + countOf (c .unitsize) b → 8 ≡ refusalOf c s lv b
     unfolding refusalOf
-    refused-full h = sym (rows-rest (storeOf c) (lentOf s lv) (row-8 c b) f ∙ ap (λ (t : Bool). cond {A = ℕ} t 8 0) (lt-ltb _ _ h))
+    refused-full h = sym (rows-left (storeOf c) (lentOf s lv) f (row-8 c b) ∙ ap (λ (t : Bool). cond {A = ℕ} t 8 0) (lt-ltb _ _ h))
 
     pub refused-none : c .len + countOf (c .unitsize) b ≤ c .capacity → 0 ≡ refusalOf c s lv b
     unfolding refusalOf
-    refused-none h = sym (rows-rest (storeOf c) (lentOf s lv) (row-8 c b) f ∙ ap (λ (t : Bool). cond {A = ℕ} t 8 0) (le-ltb _ _ h))
+    refused-none h = sym (rows-left (storeOf c) (lentOf s lv) f (row-8 c b) ∙ ap (λ (t : Bool). cond {A = ℕ} t 8 0) (le-ltb _ _ h))
 
   -- ---- the equations
   pub taken-none : (refusalOf c s lv b ≡ 0 → ⊥) → takenOf c s lv b ≡ 0

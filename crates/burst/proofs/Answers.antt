@@ -1,10 +1,9 @@
 -- The theorems about burst_at. All that is known of the call is what its contract promises: `Post` of its generated `Reads`.
 -- Where levels are right the answer is 01's burst; whatever memory holds, neither end jumps more often than the budget.
-use Prim.Native.Nat.{ℕ, zero, suc}
+use Prim.Native.Nat.{ℕ}
 use mathlib.Core.Path.{_≡_, sym, ap, ap₂, _∙_}
 use mathlib.Core.List.{List}
 use mathlib.Core.Option.{Option, some}
-use native.Mathlib.Omega.{arith}
 use contract.Lifetimes.{Lfts}
 use denote.Ref.{RefT, now}
 use Rattle.rules.specs.Sample.{sampleOf}
@@ -18,15 +17,11 @@ use Rattle.node.specs.Memory.{levelOf, readerOf, Right}
 use Rattle.node.proofs.Memory.{right-true}
 use Rattle.capture.specs.declared.Capture.{Capture}
 use Rattle.capture.specs.Record.{storeOf, lentOf}
+use Rattle.capture.proofs.Answer.{unless-given}
 use Rattle.burst.specs.declared.Bursts.{Bursts}
 use Rattle.burst.specs.Answer.{burstAs, burstOf, back, fore}
 use Rattle.burst.proofs.Grown.{Within, burst-within}
 use Rattle.burst.proofs.burst_at.Reads as burst-at
-
--- what is given was asked
-unless-given : {A : Type 0} (n : ℕ) (a b : A) → unless n a ≡ given b → a ≡ b
-unless-given zero a b e = cc
-unless-given (suc n) a b e = let z : _≡_ {A = ℕ} 0 1 = cc in absurd (omega arith)
 
 -- a call with these arguments, and its answer r. The references are whatever the caller lent
 module _ (κs : Lfts 2) (c : Capture) (samples l1 l2 l3 l4 : RefT (List ℕ)) (mask sample gap tolerance budget : ℕ) (r : Bursts) where
@@ -60,4 +55,4 @@ module _ (κs : Lfts 2) (c : Capture) (samples l1 l2 l3 l4 : RefT (List ℕ)) (m
   -- whatever memory holds
   pub jumps-within : BurstAnswered → (b : Burst) → burstAs r ≡ given (some b) → Within budget b
   unfolding burstOf
-  jumps-within p b e = burst-within (back (c .unitsize) (c .len) (now samples) levels mask) (fore (c .unitsize) (c .len) (now samples) levels mask) (c .len) sample gap tolerance budget b (unless-given rows _ (some b) (sym p ∙ e))
+  jumps-within p b e = burst-within (back (c .unitsize) (c .len) (now samples) levels mask) (fore (c .unitsize) (c .len) (now samples) levels mask) (c .len) sample gap tolerance budget b (unless-given _ rows (some b) (sym p ∙ e) .1)

@@ -1,34 +1,53 @@
--- The two sides of a place, case by case: too far from it, alone, or near enough.
+-- A side of a place, left or right, by what is found: no change, one too far from the place, one alone, or one near enough.
 use Prim.Native.Nat.{ℕ, _-_, _≤_, _<_}
-use mathlib.Core.Path.{_≡_, refl, sym, ap, _∙_}
-use mathlib.Core.Bool.{Bool, cond}
+use mathlib.Core.Path.{_≡_, refl, sym, ap, ap₂, _∙_}
+use mathlib.Core.Bool.{Bool, true, false, cond, not}
 use mathlib.Core.Option.{Option, none, some}
 use lib.Dec.{leb, ltb}
 use borrow.Author.Tests.{le-leb, lt-leb}
 use Rattle.rules.specs.Burst.{Side, sideIf, leftWith, rightWith}
+use Rattle.burst.specs.Answer.{sideOf}
 
--- what a side is, by the change beyond its nearer one
-pub record SideBy (distance tolerance : ℕ) (side : ℕ → Option Side) (with : Option ℕ → Option Side) : Type 0 where
-  pub alone : none ≡ with none
-  pub beyond : (q : ℕ) → cond (leb distance tolerance) (side q) none ≡ with (some q)
+module _ (start : Bool) (gap tolerance : ℕ) where
+  -- a change at distance d, and the one beyond it
+  abbrev pub pairAt : ℕ → ℕ → ℕ → Option Side
+  pairAt d p q = sideIf (ltb (cond start p q - cond start q p) gap) (record { distance = d; first = cond start q p; last = cond start p q })
 
-module _ (gap tolerance sample d : ℕ) where
-  abbrev sideAt : ℕ → ℕ → ℕ → Option Side
-  sideAt distance first last = sideIf (ltb (last - first) gap) (record { distance = distance; first = first; last = last })
+  abbrev pub sideWith : ℕ → ℕ → Option ℕ → Option Side
+  sideWith d p none = none
+  sideWith d p (some q) = cond (leb d tolerance) (pairAt d p q) none
 
-  pub left-is : (p : ℕ) → d ≡ sample - p → SideBy d tolerance (λ (q : ℕ). sideAt d q p) (leftWith gap tolerance sample p)
-  left-is p e = record { alone = refl; beyond = λ q. ap (λ (x : ℕ). cond (leb x tolerance) (sideAt x q p) none) e }
+  pub side-far : (d p : ℕ) (beyond : Option ℕ) → tolerance < d → none ≡ sideWith d p beyond
+  side-far d p none h = refl
+  side-far d p (some q) h = sym (ap (λ (b : Bool). cond b (pairAt d p q) none) (lt-leb d tolerance h))
 
-  pub right-is : (n : ℕ) → d ≡ n - sample → SideBy d tolerance (λ (r : ℕ). sideAt d n r) (rightWith gap tolerance sample n)
-  right-is n e = record { alone = refl; beyond = λ r. ap (λ (x : ℕ). cond (leb x tolerance) (sideAt x n r) none) e }
+  pub side-near : (d p q : ℕ) → d ≤ tolerance → pairAt d p q ≡ sideWith d p (some q)
+  side-near d p q h = sym (ap (λ (b : Bool). cond b (pairAt d p q) none) (le-leb d tolerance h))
 
-module _ {distance tolerance : ℕ} {side : ℕ → Option Side} {with : Option ℕ → Option Side} (s : SideBy distance tolerance side with) where
-  pub side-far : (o : Option ℕ) → tolerance < distance → none ≡ with o
-  side-far none h = s .alone
-  side-far (some q) h = sym (ap (λ (b : Bool). cond b (side q) none) (lt-leb distance tolerance h)) ∙ s .beyond q
+-- the place from which the change beyond p is sought, and how far p is from the place asked
+abbrev pub beyondFrom : Bool → ℕ → ℕ
+beyondFrom start p = cond start (p - 1) p
 
-  pub side-alone : {o : Option ℕ} → none ≡ o → none ≡ with o
-  side-alone e = s .alone ∙ ap with e
+abbrev pub apart : Bool → ℕ → ℕ → ℕ
+apart start sample p = cond start sample p - cond start p sample
 
-  pub side-near : {o : Option ℕ} (q : ℕ) → distance ≤ tolerance → some q ≡ o → side q ≡ with o
-  side-near q h e = sym (ap (λ (b : Bool). cond b (side q) none) (le-leb distance tolerance h)) ∙ s .beyond q ∙ ap with e
+module _ (back fore : ℕ → Option ℕ) where
+  pub side-none : (start : Bool) (gap tolerance sample : ℕ) → none ≡ sideOf back fore start gap tolerance sample none
+  side-none true gap tolerance sample = refl
+  side-none false gap tolerance sample = refl
+
+  by-side : (start : Bool) (gap tolerance sample p : ℕ) → sideWith start gap tolerance (apart start sample p) p (cond (not start) fore back (beyondFrom start p)) ≡ sideOf back fore start gap tolerance sample (some p)
+  by-side true gap tolerance sample p = go (back (p - 1))
+    where
+      go : (o : Option ℕ) → sideWith true gap tolerance (sample - p) p o ≡ leftWith gap tolerance sample p o
+      go none = refl
+      go (some q) = refl
+  by-side false gap tolerance sample p = go (fore p)
+    where
+      go : (o : Option ℕ) → sideWith false gap tolerance (p - sample) p o ≡ rightWith gap tolerance sample p o
+      go none = refl
+      go (some q) = refl
+
+  pub side-is : (start : Bool) (gap tolerance sample d p : ℕ) (beyond found : Option ℕ) → d ≡ apart start sample p → beyond ≡ cond (not start) fore back (beyondFrom start p) → found ≡ some p → sideWith start gap tolerance d p beyond ≡ sideOf back fore start gap tolerance sample found
+  side-is start gap tolerance sample d p beyond found d-is beyond-is found-is =
+      ap₂ (λ (x : ℕ) (o : Option ℕ). sideWith start gap tolerance x p o) d-is beyond-is ∙ by-side start gap tolerance sample p ∙ sym (ap (sideOf back fore start gap tolerance sample) found-is)

@@ -1,5 +1,5 @@
 -- What burst_at answers, over the nodes that memory holds. 01: Burst and render.
-use mathlib.Core.Bool.{Bool, true, false}
+use mathlib.Core.Bool.{Bool, true, false, cond}
 use mathlib.Core.List.{List}
 use mathlib.Core.Option.{Option, none, some}
 use Prim.Native.Nat.{ℕ, _-_, _<_}
@@ -51,8 +51,7 @@ placeOf (given place) = place
 
 -- what an end of a burst may jump to, and whether a change lies further out than it; true is the start
 abbrev pub reachOf : (ℕ → Option ℕ) → (ℕ → Option ℕ) → ℕ → Bool → ℕ → Option ℕ
-reachOf back fore gap true p = fore (p - gap)
-reachOf back fore gap false p = back (rule.sum p (gap - 1))
+reachOf back fore gap start p = cond start fore back (cond start (p - gap) (rule.sum p (gap - 1)))
 
 abbrev pub furtherOf : Bool → ℕ → ℕ → Bool
 furtherOf true p e = ltb e p
@@ -63,6 +62,11 @@ abbrev pub between : ℕ → Option ℕ → Option ℕ → Option rule.Side
 between gap none n = none
 between gap (some p) none = none
 between gap (some p) (some n) = rule.sideIf (ltb (n - p) gap) (record { distance = 0; first = p; last = n })
+
+-- a side by its nearer change; true is the left one
+abbrev pub sideOf : (ℕ → Option ℕ) → (ℕ → Option ℕ) → Bool → ℕ → ℕ → ℕ → Option ℕ → Option rule.Side
+sideOf back fore true = rule.leftOf back fore
+sideOf back fore false = rule.rightOf back fore
 
 -- a capture of at least one sample lies in memory
 pub record Filled (unit len : ℕ) (samples : List ℕ) (levels : ℕ → List ℕ) : Type 0 where

@@ -5,12 +5,13 @@ use search::Found;
 use search::next_from;
 use search::prev_from;
 ghost use mathlib.Core.Path.{_≡_};
+ghost use mathlib.Core.Bool.{cond};
 ghost use Prim.Native.Nat.{_-_, _≤_, min};
 ghost use lib.Dec.{ltb};
-ghost use Rattle.rules.specs.Burst.{sum, jump, sideIf, nearer, leftOf, rightOf, pairOf};
+ghost use Rattle.rules.specs.Burst.{sum, jump, sideIf, nearer, pairOf};
 ghost use Rattle.node.specs.Memory.{levelOf};
 ghost use Rattle.search.specs.Answer.{foundOf};
-ghost use Rattle.burst.specs.Answer.{burstAs, burstOf, placeOf, changeAs, endAs, sideAs, back, fore, reachOf, furtherOf, between, Filled};
+ghost use Rattle.burst.specs.Answer.{burstAs, burstOf, placeOf, changeAs, endAs, sideAs, back, fore, reachOf, furtherOf, between, sideOf, Filled};
 
 // The first and last change of a burst, and the jumps made at its end and at its start.
 pub struct Burst {
@@ -68,6 +69,13 @@ fn less(a: usize, b: usize) -> usize
     if a < b { 0 } else { a - b }
 }
 
+// x at the start of a burst or left of a place, y at the end or right of it.
+fn pick(start: bool, x: usize, y: usize) -> usize
+    ensures { λ r. ⌜ r ≡ cond start x y ⌝ }
+{
+    if start { x } else { y }
+}
+
 // The place of an answer that is no refusal.
 fn change_of(found: Found) -> Change
     ensures { λ r. ⌜ changeAs r ≡ placeOf (foundOf found) ⌝ }
@@ -119,8 +127,8 @@ fn next<'a>(
     change_of(next_from(samples, l1, l2, l3, l4, unitsize, len, mask, from))
 }
 
-// What an end may jump to: the furthest change within the gap, or at the start the earliest.
-fn reach<'a>(
+// The next change or the previous one.
+fn seek<'a>(
     samples: &[u8],
     l1: &'a [Mask],
     l2: &'a [Mask],
@@ -129,19 +137,28 @@ fn reach<'a>(
     unitsize: usize,
     len: usize,
     mask: Mask,
-    gap: usize,
-    start: bool,
-    place: usize,
+    forward: bool,
+    from: usize,
 ) -> Change
-    requires { ⌜ Filled unitsize len (now samples) (levelOf (now l1) (now l2) (now l3) (now l4)) × (2 ≤ gap) ⌝ }
-    ensures { λ r. ⌜ changeAs r ≡ reachOf (back unitsize len (now (samples .entry)) (levelOf (now (l1 .entry)) (now (l2 .entry)) (now (l3 .entry)) (now (l4 .entry))) mask) (fore unitsize len (now (samples .entry)) (levelOf (now (l1 .entry)) (now (l2 .entry)) (now (l3 .entry)) (now (l4 .entry))) mask) gap start place ⌝ }
+    requires { ⌜ Filled unitsize len (now samples) (levelOf (now l1) (now l2) (now l3) (now l4)) ⌝ }
+    ensures { λ r. ⌜ changeAs r ≡ cond forward (fore unitsize len (now (samples .entry)) (levelOf (now (l1 .entry)) (now (l2 .entry)) (now (l3 .entry)) (now (l4 .entry))) mask) (back unitsize len (now (samples .entry)) (levelOf (now (l1 .entry)) (now (l2 .entry)) (now (l3 .entry)) (now (l4 .entry))) mask) from ⌝ }
 {
-    if start {
-        let from = less(place, gap);
+    if forward {
         return next(samples, l1, l2, l3, l4, unitsize, len, mask, from);
     }
-    let to = sum_of(place, gap - 1);
-    previous(samples, l1, l2, l3, l4, unitsize, len, mask, to)
+    previous(samples, l1, l2, l3, l4, unitsize, len, mask, from)
+}
+
+// Where the search for a jump starts: for the furthest change within the gap, or at the start for the earliest.
+fn far(gap: usize, start: bool, place: usize) -> usize
+    requires { ⌜ 2 ≤ gap ⌝ }
+    ensures { λ r. ⌜ r ≡ cond start (place - gap) (sum place (gap - 1)) ⌝ }
+{
+    if start {
+        less(place, gap)
+    } else {
+        sum_of(place, gap - 1)
+    }
 }
 
 // Whether e lies further out than an end.
@@ -172,19 +189,8 @@ fn end_of<'a>(
     let mut place = from;
     let mut jumps = 0;
     while jumps < budget {
-        let change = reach(
-            samples,
-            l1,
-            l2,
-            l3,
-            l4,
-            unitsize,
-            len,
-            mask,
-            gap,
-            start,
-            place,
-        );
+        let reach = far(gap, start, place);
+        let change = seek(samples, l1, l2, l3, l4, unitsize, len, mask, start, reach);
         let Change::At(e) = change else {
             return End { place, jumps };
         };
@@ -220,8 +226,8 @@ fn between(gap: usize, before: Change, after: Change) -> Side
     side_of(gap, 0, p, n)
 }
 
-// The change before the place asked, and the change before that.
-fn left_side<'a>(
+// The change before the place asked and the change before that, or the change after it and the next one.
+fn one_side<'a>(
     samples: &[u8],
     l1: &'a [Mask],
     l2: &'a [Mask],
@@ -232,57 +238,26 @@ fn left_side<'a>(
     mask: Mask,
     gap: usize,
     tolerance: usize,
+    start: bool,
     sample: usize,
-    before: Change,
+    found: Change,
 ) -> Side
     requires { ⌜ Filled unitsize len (now samples) (levelOf (now l1) (now l2) (now l3) (now l4)) ⌝ }
-    ensures { λ r. ⌜ sideAs r ≡ leftOf (back unitsize len (now (samples .entry)) (levelOf (now (l1 .entry)) (now (l2 .entry)) (now (l3 .entry)) (now (l4 .entry))) mask) (fore unitsize len (now (samples .entry)) (levelOf (now (l1 .entry)) (now (l2 .entry)) (now (l3 .entry)) (now (l4 .entry))) mask) gap tolerance sample (changeAs before) ⌝ }
+    ensures { λ r. ⌜ sideAs r ≡ sideOf (back unitsize len (now (samples .entry)) (levelOf (now (l1 .entry)) (now (l2 .entry)) (now (l3 .entry)) (now (l4 .entry))) mask) (fore unitsize len (now (samples .entry)) (levelOf (now (l1 .entry)) (now (l2 .entry)) (now (l3 .entry)) (now (l4 .entry))) mask) start gap tolerance sample (changeAs found) ⌝ }
 {
-    let Change::At(p) = before else {
+    let Change::At(p) = found else {
         return Side::Nothing;
     };
-    let distance = less(sample, p);
+    let distance = less(pick(start, sample, p), pick(start, p, sample));
     if tolerance < distance {
         return Side::Nothing;
     }
-    let from = less(p, 1);
-    let change = previous(samples, l1, l2, l3, l4, unitsize, len, mask, from);
+    let from = pick(start, less(p, 1), p);
+    let change = seek(samples, l1, l2, l3, l4, unitsize, len, mask, !start, from);
     let Change::At(q) = change else {
         return Side::Nothing;
     };
-    side_of(gap, distance, q, p)
-}
-
-// The change after the place asked, and the change after that.
-fn right_side<'a>(
-    samples: &[u8],
-    l1: &'a [Mask],
-    l2: &'a [Mask],
-    l3: &'a [Mask],
-    l4: &'a [Mask],
-    unitsize: usize,
-    len: usize,
-    mask: Mask,
-    gap: usize,
-    tolerance: usize,
-    sample: usize,
-    after: Change,
-) -> Side
-    requires { ⌜ Filled unitsize len (now samples) (levelOf (now l1) (now l2) (now l3) (now l4)) ⌝ }
-    ensures { λ r. ⌜ sideAs r ≡ rightOf (back unitsize len (now (samples .entry)) (levelOf (now (l1 .entry)) (now (l2 .entry)) (now (l3 .entry)) (now (l4 .entry))) mask) (fore unitsize len (now (samples .entry)) (levelOf (now (l1 .entry)) (now (l2 .entry)) (now (l3 .entry)) (now (l4 .entry))) mask) gap tolerance sample (changeAs after) ⌝ }
-{
-    let Change::At(n) = after else {
-        return Side::Nothing;
-    };
-    let distance = less(n, sample);
-    if tolerance < distance {
-        return Side::Nothing;
-    }
-    let change = next(samples, l1, l2, l3, l4, unitsize, len, mask, n);
-    let Change::At(r) = change else {
-        return Side::Nothing;
-    };
-    side_of(gap, distance, n, r)
+    side_of(gap, distance, pick(start, q, p), pick(start, p, q))
 }
 
 // The nearer side, left at equal distance.
@@ -326,7 +301,7 @@ fn pair_of<'a>(
     if let Side::Pair(_, _, _) = near {
         return near;
     }
-    let l = left_side(
+    let l = one_side(
         samples,
         l1,
         l2,
@@ -337,10 +312,11 @@ fn pair_of<'a>(
         mask,
         gap,
         tolerance,
+        true,
         sample,
         before,
     );
-    let r = right_side(
+    let r = one_side(
         samples,
         l1,
         l2,
@@ -351,6 +327,7 @@ fn pair_of<'a>(
         mask,
         gap,
         tolerance,
+        false,
         sample,
         after,
     );

@@ -7,8 +7,8 @@ use native.Mathlib.Omega.{arith}
 use lib.Dec.{leb, eqb}
 use lib.ListN.{length}
 use Rattle.rules.specs.Answer.{refused, given, unless}
-use Rattle.rules.specs.Refusal.{Store, Lent, Row, firstOf, storeWrong, lentShort, storeRows, storeRefusal}
-use Rattle.rules.proofs.Refusal.{Sound, sound}
+use Rattle.rules.specs.Refusal.{Store, Lent, Row, firstOf, storeRows, storeRefusal}
+use Rattle.rules.proofs.Refusal.{Sound, sound, rows-left, rows-refused}
 use Rattle.node.specs.Memory.{levelOf}
 use Rattle.capture.specs.Record.{lentNumbers, lentOf}
 
@@ -20,6 +20,11 @@ module _ {A : Type 0} (a : A) where
 
   pub given-is : (r : ℕ) (b : A) → r ≡ 0 → b ≡ a → given b ≡ unless r a
   given-is r b e h = ap given h ∙ sym (ap (λ (k : ℕ). unless k a) e)
+
+  -- what is given was asked, and no row refuses
+  pub unless-given : (r : ℕ) (b : A) → unless r a ≡ given b → (r ≡ 0) × (a ≡ b)
+  unless-given zero b e = (refl, cc)
+  unless-given (suc r) b e = let z : _≡_ {A = ℕ} 0 1 = cc in absurd (omega arith)
 
 -- ---- the lengths of the lent slices
 level-lengths : (l1 l2 l3 l4 : List ℕ) (l : ℕ) → levelOf (length l1) (length l2) (length l3) (length l4) l ≡ length (levelOf l1 l2 l3 l4 l)
@@ -36,9 +41,6 @@ pub lent-same : (samples l1 l2 l3 l4 : List ℕ) → lentNumbers (length samples
 lent-same samples l1 l2 l3 l4 = λ i. record { samples = length samples; level = λ l. level-lengths l1 l2 l3 l4 l i }
 
 -- ---- rows 1 and 2, then a call's own
-abbrev rows-of : Bool → Bool → ℕ → ℕ
-rows-of a b x = cond a 1 (cond b 2 x)
-
 module _ (st : Store) (samples l1 l2 l3 l4 : List ℕ) (n : ℕ)
     (e : n ≡ storeRefusal st (lentNumbers (length samples) (length l1) (length l2) (length l3) (length l4))) where
   abbrev lent : Lent
@@ -47,19 +49,9 @@ module _ (st : Store) (samples l1 l2 l3 l4 : List ℕ) (n : ℕ)
   pub rows-are : storeRefusal st lent ≡ n
   rows-are = sym (e ∙ ap (storeRefusal st) (lent-same samples l1 l2 l3 l4))
 
-  first-two : (a b : Bool) (x : ℕ) → (rows-of a b 0 ≡ 0 → ⊥) → rows-of a b x ≡ rows-of a b 0
-  first-two true b x h = refl
-  first-two false true x h = refl
-  first-two false false x h = absurd (h refl)
-
-  neither-holds : (a b : Bool) (x : ℕ) → rows-of a b 0 ≡ 0 → rows-of a b x ≡ x
-  neither-holds true b x h = absurd (omega arith)
-  neither-holds false true x h = absurd (omega arith)
-  neither-holds false false x h = refl
-
   -- 1 or 2
   pub rows-refuse : (rest : List Row) → (n ≡ 0 → ⊥) → firstOf (storeRows st lent rest) ≡ n
-  rows-refuse rest h = first-two (storeWrong st) (lentShort st lent) (firstOf rest) (λ z. h (sym rows-are ∙ z)) ∙ rows-are
+  rows-refuse rest h = rows-refused st lent (λ z. h (sym rows-are ∙ z)) rest ∙ rows-are
 
   module _ (z : n ≡ 0) where
     pub rows-sound : Sound st lent
@@ -67,7 +59,7 @@ module _ (st : Store) (samples l1 l2 l3 l4 : List ℕ) (n : ℕ)
 
     -- the call's own row
     pub row-is : (k : ℕ) (b : Bool) → firstOf (storeRows st lent (record { number = k; holds = b } ∷ [])) ≡ cond b k 0
-    row-is k b = neither-holds (storeWrong st) (lentShort st lent) (cond b k 0) (rows-are ∙ z)
+    row-is k b = rows-left st lent (rows-are ∙ z) (record { number = k; holds = b } ∷ [])
 
     pub row-holds : (k : ℕ) (b : Bool) → b ≡ true → firstOf (storeRows st lent (record { number = k; holds = b } ∷ [])) ≡ k
     row-holds k b t = row-is k b ∙ ap (λ (x : Bool). cond x k 0) t

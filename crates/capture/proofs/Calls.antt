@@ -83,10 +83,14 @@ pub length-over : (s : ℕ → ℕ) (p k : ℕ) (output : List ℕ) → k ≤ le
 unfolding over
 length-over s p k output h = length-append (listFrom s p k) (drop k output) ∙ omega (arith, length-from s p k, length-drop k output)
 
+-- nothing is copied or drawn where a row refuses
+pub unrefused-none : (r n k : ℕ) → r ≡ n → (n ≡ 0 → ⊥) → unrefused r k ≡ 0
+unrefused-none r zero k e h = absurd (h refl)
+unrefused-none r (suc n) k e h = ap (λ (x : ℕ). unrefused x k) e
+
 module _ (s : ℕ → ℕ) (p k : ℕ) (output : List ℕ) where
   pub none-copied : (r n : ℕ) → r ≡ n → (n ≡ 0 → ⊥) → output ≡ over s p (unrefused r k) output
-  none-copied r zero e h = absurd (h refl)
-  none-copied r (suc n) e h = over-none s p output ∙ ap (λ (x : ℕ). over s p (unrefused x k) output) (sym e)
+  none-copied r n e h = over-none s p output ∙ ap (λ (x : ℕ). over s p x output) (sym (unrefused-none r n k e h))
 
   pub all-copied : (r : ℕ) → r ≡ 0 → over s p k output ≡ over s p (unrefused r k) output
   all-copied r e = ap (λ (x : ℕ). over s p (unrefused x k) output) (sym e)

@@ -38,7 +38,7 @@ fn mark_wrong(m: Mark, len: usize) -> bool
 }
 
 // The unit is neither 1 nor 2.
-fn unit_wrong(unitsize: usize) -> bool
+pub fn unit_wrong(unitsize: usize) -> bool
     ensures { λ r. ⌜ r ≡ unitWrong unitsize ⌝ }
 {
     if unitsize == 1 {
@@ -90,7 +90,7 @@ fn sizes_of(c: Capture) -> Sizes
 }
 
 // Row 2: a lent slice is shorter than needed.
-fn memory_short(c: Capture, samples: usize, n1: usize, n2: usize, n3: usize, n4: usize) -> bool
+pub fn memory_short(c: Capture, samples: usize, n1: usize, n2: usize, n3: usize, n4: usize) -> bool
     requires { ⌜ Small c ⌝ }
     ensures { λ r. ⌜ r ≡ lentShort (storeOf c) (lentNumbers samples n1 n2 n3 n4) ⌝ }
 {

@@ -1,6 +1,6 @@
 -- A recorder's start: each of its answers is the definition's; over a list of terms the definition is 01's; and a fresh recorder is within the bounds that a push asks.
 use mathlib.Core.Path.{_≡_, refl, sym, ap, _∙_, subst}
-use mathlib.Core.Bool.{Bool, true, false, cond, _||_}
+use mathlib.Core.Bool.{Bool, true, false, cond}
 use mathlib.Core.List.{List, [], _∷_, _++_, map}
 use mathlib.Core.Option.{none}
 use Prim.Native.Nat.{ℕ, zero, suc, _*_, _≤_, _<_, _^_}
@@ -14,7 +14,8 @@ use Rattle.rules.specs.Trigger as trigger
 use Rattle.rules.specs.Selection.{Settings}
 use Rattle.rules.specs.Refusal.{Store, Lent, Row, firstOf, storeRows, storeRefusal, fresh, ringNeed, lineWrong, wishWrong, numberWrong, preOf, startRefusal}
 use Rattle.rules.specs.Answer.{Answer, refused, given, unless}
-use Rattle.rules.proofs.Refusal.{Sound, SoundRecorder}
+use Rattle.rules.proofs.Refusal.{neither, Sound, SoundRecorder}
+use Rattle.capture.proofs.Answer.{refused-is, unless-given}
 use Rattle.terms.specs.declared.Terms.{Terms}
 use Rattle.terms.specs.declared.TriggerTerm.{TriggerTerm}
 use Rattle.terms.specs.Terms.{noTerms, withTerm, withTerms, termsOf, armedBy}
@@ -24,22 +25,13 @@ use Rattle.feeder.specs.declared.Feeder.{Feeder}
 use Rattle.feeder.specs.declared.Started.the-variants.{Fresh}
 use Rattle.feeder.specs.Record.{wishOf, recorderOf}
 use Rattle.feeder.specs.Start.{Begun, freshOf, begun, startRule, startedOf, settingsRows, keptRow, answerOf, startOf, settingsOf, Workable}
-use Rattle.feeder.proofs.Rows.{Numbered, Passed, all-passed, rows-stop, rows-then, store-passed, either}
+use Rattle.feeder.proofs.Rows.{Numbered, Passed, all-passed, rows-stop, rows-then, store-passed}
 
 -- ---- refusals as answers
-refused-is : (n : ℕ) (b : Begun) → (n ≡ 0 → ⊥) → refused n ≡ unless n b
-refused-is zero b h = absurd (h refl)
-refused-is (suc n) b h = refl
-
 -- where a row holds, the record does not matter
 unless-same : (n : ℕ) (a b : Begun) → (n ≡ 0 → a ≡ b) → unless n a ≡ unless n b
 unless-same zero a b h = ap given (h refl)
 unless-same (suc n) a b h = refl
-
--- an answer that is given is of no refusal
-pub given-is : (n : ℕ) (a b : Begun) → given b ≡ unless n a → (n ≡ 0) × (b ≡ a)
-given-is zero a b e = (refl, cc)
-given-is (suc n) a b e = absurd (let z : _≡_ {A = ℕ} 0 1 = cc in omega arith)
 
 -- ---- rows 1 to 6; n is the number of the first of rows 1 and 2
 module _ (st : Store) (lent : Lent) (limit : ℕ) (wrong : Bool) (wish : rule.Pretrigger) (rate n : ℕ) (told : n ≡ storeRefusal st lent) where
@@ -85,8 +77,7 @@ module _ (channels capacity limit : ℕ) (terms : Terms) (wish : Pretrigger) (ra
     pub start-refused : (n ≡ 0 → ⊥) → refused n ≡ startOf channels capacity limit terms wish rate lent ring
     start-refused h =
         let kept = rule.keptOf (wishOf wish) limit rate u in
-        refused-is n (freshOf store limit (armedBy terms) kept) h
-        ∙ ap (λ (x : ℕ). unless x (freshOf store limit (armedBy terms) kept)) (told ∙ sym (rows-stop rows (keptRow store (kept .samples) ring ∷ []) (λ z. h (told ∙ z))))
+        refused-is (freshOf store limit (armedBy terms) kept) _ n (rows-stop rows (keptRow store (kept .samples) ring ∷ []) (λ z. h (told ∙ z)) ∙ sym told) h
         ∙ start-is kept refl
 
     module _ (none-holds : n ≡ 0) where
@@ -168,7 +159,7 @@ pub begun-sound : (st : Settings) (lent : Lent) (ring : ℕ) → startRefusal st
 begun-sound st lent ring e =
     let t = all-passed (startRows st lent ring) (seven st lent ring) e in
     let p = store-passed (fresh (st .channels) (st .capacity)) lent (t .0) (t .1 .0) in
-    let t7 = either (leb (st .capacity) (preOf st)) (ltb ring (ringNeed (preOf st) (unitOf (st .channels)))) (t .1 .1 .1 .1 .1 .1 .0) in
+    let t7 = neither (leb (st .capacity) (preOf st)) (ltb ring (ringNeed (preOf st) (unitOf (st .channels)))) .0 (t .1 .1 .1 .1 .1 .1 .0) in
     record {
       store = p .0;
       mark = p .1;
@@ -183,5 +174,5 @@ begun-sound st lent ring e =
 -- the record that the call gives
 pub fresh-sound : (st : Settings) (lent : Lent) (ring : ℕ) (f : Feeder) (cut : Bool) → startedOf (Fresh f cut) ≡ startRule st lent ring → SoundRecorder (recorderOf f) lent ring
 fresh-sound st lent ring f cut e =
-    let t = given-is (startRefusal st lent ring) (begun st) (record { recorder = recorderOf f; was-cut = cut }) e in
-    subst (λ (b : Begun). SoundRecorder (b .recorder) lent ring) (sym (t .1)) (begun-sound st lent ring (t .0))
+    let t = unless-given (begun st) (startRefusal st lent ring) (record { recorder = recorderOf f; was-cut = cut }) (sym e) in
+    subst (λ (b : Begun). SoundRecorder (b .recorder) lent ring) (t .1) (begun-sound st lent ring (t .0))

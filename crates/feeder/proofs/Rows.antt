@@ -1,14 +1,14 @@
 -- Rows in order, in two parts; and the rows of a recorder after start as bounds.
 use mathlib.Core.Path.{_≡_, refl, sym, ap, _∙_}
-use mathlib.Core.Bool.{Bool, true, false, cond, not, _&&_, _||_}
+use mathlib.Core.Bool.{Bool, true, false, cond, not, _&&_, _||_, or-true}
 use mathlib.Core.List.{List, [], _∷_, _++_}
 use Prim.Native.Nat.{ℕ, zero, suc, _+_, _*_, _≤_, _<_, _^_}
 use native.Mathlib.Nat.{mul-le-mul}
 use native.Mathlib.Omega.{arith}
 use lib.Dec.{ltb, leb, eqb}
 use borrow.Author.Tests.{leb-false, le-ltb}
-use Rattle.rules.specs.Refusal.{Store, Lent, Row, firstOf, storeWrong, lentShort, storeRows, storeRefusal, Recorder, recorderWrong, ringNeed, pushRefusal}
-use Rattle.rules.proofs.Refusal.{row-passed, ranged, Sound, MarkInside, rows-passed, SoundRecorder, push-passed}
+use Rattle.rules.specs.Refusal.{Store, Lent, Row, firstOf, storeWrong, lentShort, storeRefusal, Recorder, recorderWrong, ringNeed, pushRefusal}
+use Rattle.rules.proofs.Refusal.{row-passed, neither, ranged, Sound, MarkInside, rows-passed, SoundRecorder, push-passed}
 use Rattle.feeder.specs.Record.{placeWrong, settingWrong, ringShort, recorderRows, recorderRefusal}
 
 -- ---- rows in order
@@ -51,10 +51,6 @@ store-passed st lent e f =
     (t .0, t .1)
 
 -- ---- a recorder after start
-pub either : (a b : Bool) → (a || b) ≡ false → (a ≡ false) × (b ≡ false)
-either true b e = (e, cc)
-either false b e = (refl, e)
-
 -- row 1 is the store's half, then the recorder's
 pub halves : (r : Recorder) → recorderWrong r ≡ (storeWrong (r .store) || settingWrong r)
 halves r =
@@ -84,7 +80,7 @@ pre-below r h =
     (second (ltb (r .store .capacity) (r .limit)) (leb (r .store .capacity) (r .pre)) (ltb (r .pre) (r .kept)) (placeWrong (r .pre) (r .place)) (not (eqb (r .limit) 0) && ltb (r .limit) (r .store .len)) h)
   where
     second : (a b c d e : Bool) → (a || b || c || d || e) ≡ false → b ≡ false
-    second a b c d e h = either a b (either (a || b) c (either (a || b || c) d (either (a || b || c || d) e h .0) .0) .0) .1
+    second a b c d e h = neither a b .0 (neither (a || b) c .0 (neither (a || b || c) d .0 (neither (a || b || c || d) e .0 h .0) .0) .0) .1
 
 -- what the number n of rows 1 and 2 of the store tells
 store-1 : (w s : Bool) (n : ℕ) → n ≡ cond w 1 (cond s 2 0) → n ≡ 1 → w ≡ true
@@ -103,10 +99,6 @@ store-2 false n e h = absurd (h e)
 past-2 : (s : Bool) (n : ℕ) → n ≡ cond s 2 0 → n ≡ 0 → s ≡ false
 past-2 true n e h = absurd (omega arith)
 past-2 false n e h = refl
-
-or-true : (a : Bool) → (a || true) ≡ true
-or-true true = refl
-or-true false = refl
 
 abbrev two : Bool → Bool → Bool → Bool → ℕ
 two w a s g = cond (w || a) 1 (cond (s || g) 2 0)
@@ -171,7 +163,7 @@ module _ (r : Recorder) (lent : Lent) (ring n : ℕ) where
 pub recorder-sound : (r : Recorder) (lent : Lent) (ring : ℕ) → recorderRefusal r lent ring ≡ 0 → SoundRecorder r lent ring
 recorder-sound r lent ring e =
     let t = all-passed (recorderRows r lent ring) (omega arith, (omega arith, tt)) e in
-    let w = either (storeWrong (r .store)) (settingWrong r) (sym (halves r) ∙ t .0) in
+    let w = neither (storeWrong (r .store)) (settingWrong r) .0 (sym (halves r) ∙ t .0) in
     let len-most : r .store .len + 0 ≤ r .store .capacity = omega (arith, ranged (r .store) (w .0) .len-most) in
     push-passed r lent ring 0 .0 (push-then r lent ring 0 e ∙ ap (λ (b : Bool). cond {A = ℕ} b 8 0) (le-ltb (r .store .capacity) (r .store .len + 0) len-most)) .0
 

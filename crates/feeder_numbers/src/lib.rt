@@ -28,7 +28,8 @@ fn mask_in(n: usize) -> Mask
     (n % 65536) as u16
 }
 
-fn masks_in(high: usize, low: usize, rising: usize, falling: usize, edge: usize) -> Masks
+// The five masks of a recorder that waits.
+pub fn masks_in(high: usize, low: usize, rising: usize, falling: usize, edge: usize) -> Masks
     ensures { λ r. ⌜ r ≡ masksIn high low rising falling edge ⌝ }
 {
     Masks {
@@ -49,7 +50,8 @@ fn armed_in(armed: usize, masks: Masks) -> Armed
     Armed::Waiting(masks)
 }
 
-fn previous_in(known: usize, v: usize) -> Previous
+// The previous sample, where there is one.
+pub fn previous_in(known: usize, v: usize) -> Previous
     ensures { λ r. ⌜ r ≡ previousIn known v ⌝ }
 {
     if known == 0 {

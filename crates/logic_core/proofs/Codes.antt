@@ -46,6 +46,12 @@ module _ {A B X R : Type 0} (write : A → B → B) (reply : Answer X → Reply 
       → Out write (reply (asks c′)) code old new
   told-of asks code old new d e g h k = told code old new (e ∙ ap asks d) g h k
 
+  -- and of a call whose answer another function tells
+  pub told-by : (asks : Capture → Answer X) {c c′ : Capture} (r : R) (code : ℕ) (old new : B)
+      → c ≡ c′ → answerOf r ≡ asks c → Out write (reply (answerOf r)) code old new
+      → Out write (reply (asks c′)) code old new
+  told-by asks r code old new d e o = subst (λ (x : Answer X). Out write (reply x) code old new) (e ∙ ap asks d) o
+
 -- the five numbers, with the mark by its cases
 pub mark-written : (c : Capture) (m : Mark) (old : List ℕ) → c .trigger ≡ m → sets old 0 (c .unitsize ∷ c .capacity ∷ c .len ∷ markNumbers (markOf m)) ≡ storeNumbers (storeOf c) old
 mark-written c m old e = sym (ap (λ (x : Mark). sets old 0 (c .unitsize ∷ c .capacity ∷ c .len ∷ markNumbers (markOf x))) e)

@@ -1,12 +1,24 @@
 -- From the answer of a push to what the boundary says.
-use mathlib.Core.Path.{_≡_, ap, subst, _∙_}
+use mathlib.Core.Path.{_≡_, sym, ap, subst, subst₂, _∙_}
+use mathlib.Core.Bool.{Bool, true, false}
 use mathlib.Core.List.{List}
-use Prim.Native.Nat.{ℕ}
+use Prim.Native.Nat.{ℕ, _-_}
+use native.Mathlib.Nat.{sub-self}
+use lib.ListN.{length, getD}
+use Rattle.rules.specs.Selection.{going-on}
+use Rattle.rules.specs.Refusal.{Lent}
+use Rattle.rebuild.proofs.Right.{after-none}
+use Rattle.store.specs.Stored.{firstNodes}
 use Rattle.ring.specs.Push.{Left}
+use Rattle.node.specs.Memory.{levelOf}
+use Rattle.capture.specs.Record.{lentNumbers, lentOf}
+use Rattle.capture.proofs.Answer.{lent-same}
 use Rattle.feeder.specs.declared.Feeder.{Feeder}
 use Rattle.feeder.specs.Record.{recorderOf}
 use Rattle.feeder_push.specs.declared.Pushed.{Pushed}
-use Rattle.feeder_push.specs.Push.{replyAs, feederIn, Pushes}
+use Rattle.feeder_numbers.specs.Numbers.{feederFrom}
+use Rattle.feeder_push.specs.Push.{leftOf, replyAs, feederIn, Pushes}
+use Rattle.feeder_wait.specs.Wait.{Untouched, waitedOf, ShortWent, ShortAfter}
 use Rattle.logic_core.specs.Recorder.{replyCode, numbersAfter, levelFor, PushesOut}
 
 module _ (bytes samples : List ℕ) (levels : ℕ → List ℕ) (ring samples′ : List ℕ) (levels′ : ℕ → List ℕ) (ring′ : List ℕ) where
@@ -24,3 +36,40 @@ module _ (bytes samples : List ℕ) (levels : ℕ → List ℕ) (ring samples′
     where
       done : Pushes f′ bytes samples levels ring r′ samples′ levels′ ring′
       done = subst (λ (x : Feeder). Pushes x bytes samples levels ring r′ samples′ levels′ ring′) d (subst (λ (x : Pushed). Pushes f bytes samples levels ring x samples′ levels′ ring′) g e)
+
+-- ---- a short push
+-- where it went to the ring: what push leaves, and no level changed
+short-told : (numbers bytes samples : List ℕ) (levels : ℕ → List ℕ) (ring numbers′ ring′ : List ℕ) → ShortWent numbers (lentOf samples levels) ring bytes numbers′ ring′ → PushesOut (feederFrom numbers) bytes samples levels ring 0 numbers numbers′ samples levels ring′
+short-told numbers bytes samples levels ring numbers′ ring′ d = record {
+  code-is = ap (λ (x : Left). replyCode (x .reply)) left;
+  numbers-are = d .numbers-are ∙ ap (λ (x : Left). numbersAfter (x .reply) (x .recorder) numbers) left;
+  samples-are = ap (λ (x : Left). x .samples) left;
+  ring-is = ap (λ (x : Left). x .ring) left;
+  levels-are = λ l a b. same l ∙ ap (λ (x : Left). levelFor (getD numbers 0 0) samples levels (getD numbers 2 0) (x .recorder .store .len) l) left;
+}
+  where
+    left : record { reply = going-on; recorder = waitedOf numbers bytes; samples = samples; ring = ring′ } ≡ leftOf (recorderOf (feederFrom numbers)) (lentOf samples levels) samples ring bytes
+    left = sym (d .left-is samples)
+
+    same : (l : ℕ) → levels l ≡ levelFor (getD numbers 0 0) samples levels (getD numbers 2 0) (getD numbers 2 0) l
+    same l = sym (after-none (firstNodes (getD numbers 0 0) samples (getD numbers 2 0)) levels (getD numbers 2 0) (getD numbers 2 0 - getD numbers 2 0) l (sub-self (getD numbers 2 0)))
+
+-- the two answers of a short push, t
+module _ (bytes samples l1 l2 l3 l4 : List ℕ) (numbers ring numbers₁ ring₁ : List ℕ) (t : Bool) (d : ShortAfter t numbers (lentNumbers (length samples) (length l1) (length l2) (length l3) (length l4)) ring bytes numbers₁ ring₁) where
+  abbrev levels : ℕ → List ℕ
+  levels = levelOf l1 l2 l3 l4
+
+  pub waited-told : t ≡ true → PushesOut (feederFrom numbers) bytes samples levels ring 0 numbers numbers₁ samples levels ring₁
+  waited-told e =
+      short-told numbers bytes samples levels ring numbers₁ ring₁
+      (subst (λ (x : Lent). ShortWent numbers x ring bytes numbers₁ ring₁) (lent-same samples l1 l2 l3 l4)
+      (subst (λ (x : Bool). ShortAfter x numbers (lentNumbers (length samples) (length l1) (length l2) (length l3) (length l4)) ring bytes numbers₁ ring₁) e d))
+
+  -- it left all as it was: what is said of the numbers and the ring after it holds of those before
+  pub passed-told : t ≡ false → {code : ℕ} {numbers′ samples′ : List ℕ} {levels′ : ℕ → List ℕ} {ring′ : List ℕ}
+      → PushesOut (feederFrom numbers₁) bytes samples levels ring₁ code numbers₁ numbers′ samples′ levels′ ring′ → PushesOut (feederFrom numbers) bytes samples levels ring code numbers numbers′ samples′ levels′ ring′
+  passed-told e {code} {numbers′} {samples′} {levels′} {ring′} p =
+      subst₂ (λ (n g : List ℕ). PushesOut (feederFrom n) bytes samples levels g code n numbers′ samples′ levels′ ring′) (same .numbers-same) (same .ring-same) p
+    where
+      same : Untouched numbers ring numbers₁ ring₁
+      same = subst (λ (x : Bool). ShortAfter x numbers (lentNumbers (length samples) (length l1) (length l2) (length l3) (length l4)) ring bytes numbers₁ ring₁) e d

@@ -21,7 +21,7 @@ ghost use mathlib.Core.Path.{_≡_};
 ghost use Rattle.node.specs.Memory.{levelOf};
 ghost use Rattle.capture.specs.Record.{storeOf};
 ghost use Rattle.capture.specs.Calls.{rawOf, Lies};
-ghost use Rattle.search.specs.Answer.{nextOf, previousOf};
+ghost use Rattle.search.specs.Answer.{foundOf, nextOf, previousOf};
 ghost use Rattle.burst.specs.Answer.{burstOf};
 ghost use Rattle.logic_core.specs.Record.{captureIn, storeNumbers, lentNumbers, nodeNumbers, burstNumbers, number, placeLevel, placeNumber};
 ghost use Rattle.logic_core.specs.Asked.{neededFor, startedFor, gotFor, summedFor, wrongFor, CopiesOut, AppendsOut, DrawsOut};
@@ -280,6 +280,20 @@ pub extern "C" fn lc_summary<'a>(
     }
 }
 
+// What a search answers: its code, and the place where it finds one.
+fn found_code(answer: Found, place: &mut usize) -> u32
+    ensures { λ r. ⌜ Out number (perhaps (foundOf answer)) r (now (place .entry)) (now (place .exit)) ⌝ }
+{
+    match answer {
+        Found::Refused(n) => code(n),
+        Found::At(i) => {
+            *place = i;
+            0
+        }
+        Found::Nothing => NONE,
+    }
+}
+
 // 01's Next: the place, or 100 where there is none. Refuses with 1 and 2.
 #[no_mangle]
 pub extern "C" fn lc_next_change<'a>(
@@ -296,14 +310,7 @@ pub extern "C" fn lc_next_change<'a>(
     ensures { λ r. ⌜ Out number (perhaps (nextOf (captureIn (now (numbers .entry))) (now (samples .entry)) (levelOf (now (l1 .entry)) (now (l2 .entry)) (now (l3 .entry)) (now (l4 .entry))) mask from)) r (now (place .entry)) (now (place .exit)) ⌝ }
 {
     let answer = search::next_change(capture_in(numbers), samples, l1, l2, l3, l4, mask, from);
-    match answer {
-        Found::Refused(n) => code(n),
-        Found::At(i) => {
-            *place = i;
-            0
-        }
-        Found::Nothing => NONE,
-    }
+    found_code(answer, place)
 }
 
 // 01's Previous: the place, or 100 where there is none. Refuses with 1 and 2.
@@ -322,14 +329,7 @@ pub extern "C" fn lc_prev_change<'a>(
     ensures { λ r. ⌜ Out number (perhaps (previousOf (captureIn (now (numbers .entry))) (now (samples .entry)) (levelOf (now (l1 .entry)) (now (l2 .entry)) (now (l3 .entry)) (now (l4 .entry))) mask from)) r (now (place .entry)) (now (place .exit)) ⌝ }
 {
     let answer = search::prev_change(capture_in(numbers), samples, l1, l2, l3, l4, mask, from);
-    match answer {
-        Found::Refused(n) => code(n),
-        Found::At(i) => {
-            *place = i;
-            0
-        }
-        Found::Nothing => NONE,
-    }
+    found_code(answer, place)
 }
 
 // 01's burst_at: first, last, the jumps at the end and at the start, or 100 where there is none. Refuses with 1 and 2.

@@ -87,6 +87,19 @@ pub extern "C" fn lc_push(
 ) -> u32
     ensures { λ r. ⌜ PushesOut (feederFrom (now (numbers .entry))) (now (bytes .entry)) (now (samples .entry)) (levelOf (now (l1 .entry)) (now (l2 .entry)) (now (l3 .entry)) (now (l4 .entry))) (now (ring .entry)) r (now (numbers .entry)) (now (numbers .exit)) (now (samples .exit)) (levelOf (now (l1 .exit)) (now (l2 .exit)) (now (l3 .exit)) (now (l4 .exit))) (now (ring .exit)) ⌝ }
 {
+    let waited = feeder_wait::wait_short(
+        numbers,
+        samples.len(),
+        l1.len(),
+        l2.len(),
+        l3.len(),
+        l4.len(),
+        ring,
+        bytes,
+    );
+    if waited {
+        return 0;
+    }
     let f = feeder_numbers::feeder_in(&*numbers);
     let answer = feeder_push::push(f, samples, l1, l2, l3, l4, ring, bytes);
     match answer {

@@ -15,9 +15,9 @@ use Rattle.rules.specs.Search.{next, previous, summary}
 use Rattle.rules.specs.Burst.{burst}
 use Rattle.rules.specs.Burst as rule-burst
 use Rattle.rules.specs.Pixel.{render}
-use Rattle.rules.specs.Refusal.{firstOf, storeRefusal, renderRefusal}
+use Rattle.rules.specs.Refusal.{firstOf, storeRefusal, viewRows, renderRefusal}
 use Rattle.rules.specs.Answer.{Answer, refused, given, unless}
-use Rattle.rules.proofs.Refusal.{none-refused}
+use Rattle.rules.proofs.Refusal.{none-refused, rows-left}
 use Rattle.rules.proofs.Row.{row-length}
 use Rattle.alike.proofs.Below.{summary-below, render-below, next-below, previous-below, burst-below}
 use Rattle.node.specs.declared.Node.{Node}
@@ -40,8 +40,7 @@ use Rattle.pixel.specs.declared.View.{View}
 use Rattle.pixel.specs.Ranges.{viewAs}
 use Rattle.render.specs.declared.Drawn.{Drawn}
 use Rattle.render.specs.declared.Drawn.the-variants as drawn-as
-use Rattle.render.specs.Render.{drawnOf, drawn, viewRows}
-use Rattle.render.proofs.Refusals.{view-rows}
+use Rattle.render.specs.Render.{drawnOf, drawn}
 use Rattle.render.proofs.Answers.{render-row}
 use Rattle.recording.specs.Claim.{Memory, levels, Ref, Places, MaySummary, MayNext, MayPrevious, MayBurst, MayRender, pixelsOf, pixelsIn, Recording, store, s, len, Answered, Answers}
 use Rattle.recording.proofs.Selection.{recorder-sound, len-is, samples-are, right, selection}
@@ -145,7 +144,7 @@ module _ (r : Recording) where
 
     -- 10 and 11 decide
     numbered : number ≡ firstOf (viewRows (viewAs view) width (length output))
-    numbered = view-rows (storeOf c) (lentOf (m .samples) (levels m)) (viewAs view) width (length output) passed
+    numbered = rows-left (storeOf c) (lentOf (m .samples) (levels m)) passed (viewRows (viewAs view) width (length output))
 
     -- the first 2 × width numbers, where nothing refuses
     drawn-row : (o : List ℕ) → o ≡ render t (c .len) (viewAs view) width ++ drop (2 * width) output → take (2 * width) o ≡ render (s r) (len r) (viewAs view) width

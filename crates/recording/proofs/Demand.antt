@@ -3,12 +3,11 @@ use mathlib.Core.Path.{_≡_, refl, sym, ap, _∙_}
 use Prim.Native.Nat.{ℕ, zero, suc, _+_, _≤_, _<_}
 use native.Mathlib.Omega.{arith}
 use Rattle.rules.specs.Search.{summary}
-use Rattle.rules.specs.Refusal.{firstOf}
+use Rattle.rules.specs.Refusal.{firstOf, viewRows}
 use Rattle.rules.specs.Answer.{given, unless}
 use Rattle.alike.specs.Alike.{cutSummary, cutPixels, Alike}
 use Rattle.alike.proofs.Alike.{same-alike, alike-same}
 use Rattle.pixel.specs.Ranges.{viewAs}
-use Rattle.render.specs.Render.{viewRows}
 use Rattle.recording.specs.Claim.{Recording, store, s, len, Answered, Answers, Usize, seen, Agree, LookAlike, Same, Demand3}
 use Rattle.recording.proofs.Selection.{recorder-sound, len-is}
 use Rattle.recording.proofs.Answers.{answers}

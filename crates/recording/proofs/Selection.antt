@@ -21,10 +21,9 @@ use Rattle.ring.proofs.Lists.{Recorded, start-goes, all-go, held, start-sound, 
 use Rattle.node.specs.Memory.{Right}
 use Rattle.rebuild.proofs.Right.{right-same}
 use Rattle.capture.specs.Record.{lentOf}
-use Rattle.capture.proofs.Answer.{lent-same}
+use Rattle.capture.proofs.Answer.{unless-given, lent-same}
 use Rattle.feeder.specs.Record.{recorderOf, armedAs}
 use Rattle.feeder.specs.Start.{begun}
-use Rattle.feeder.proofs.Begun.{given-is}
 use Rattle.recording.specs.Claim.{levels, settings, lengths, Recording, store, ruled, run, s, len, Waits, Selects}
 use Rattle.recording.proofs.Pushes.{Going, Kept, kept-sound, all-kept}
 
@@ -41,8 +40,8 @@ module _ (r : Recording) where
   -- ---- the start
   start-is : (startRefusal (settings (r .setup)) lent (length (r .before .ring)) ≡ 0) × (recorderOf (r .fresh) ≡ started (ruled r))
   start-is =
-      let t = given-is (startRefusal (settings (r .setup)) lent (length (r .before .ring))) (begun (settings (r .setup))) (record { recorder = recorderOf (r .fresh); was-cut = r .was-cut }) (r .started) in
-      (t .0, ap (λ b. b .recorder) (t .1))
+      let t = unless-given (begun (settings (r .setup))) (startRefusal (settings (r .setup)) lent (length (r .before .ring))) (record { recorder = recorderOf (r .fresh); was-cut = r .was-cut }) (sym (r .started)) in
+      (t .0, sym (ap (λ b. b .recorder) (t .1)))
 
   sound-start : SoundRecorder (started (ruled r)) lent (length (r .before .ring))
   sound-start = start-sound (settings (r .setup)) (r .before .samples) (r .before .ring) lent refl (start-is .0)

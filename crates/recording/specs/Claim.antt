@@ -19,7 +19,7 @@ use Rattle.rules.specs.Pixel.{render}
 use Rattle.rules.specs.Trigger.{Masks, waiting}
 use Rattle.rules.specs.Selection.{Settings, Rule, ruleOf, accepted, runOf, Reply, repliesOf}
 use Rattle.rules.specs.Selection as selected
-use Rattle.rules.specs.Refusal.{Lent, firstOf, startRefusal}
+use Rattle.rules.specs.Refusal.{Lent, firstOf, viewRows, startRefusal}
 use Rattle.rules.specs.Answer.{Answer, refused, given, unless}
 use Rattle.alike.specs.Alike.{Within, cutSummary, cutPixels}
 use Rattle.alike.specs.Alike as alike
@@ -40,7 +40,6 @@ use Rattle.pixel.specs.declared.View.{View}
 use Rattle.pixel.specs.Ranges.{viewAs}
 use Rattle.render.specs.declared.Drawn.{Drawn}
 use Rattle.render.specs.declared.Drawn.the-variants as drawn
-use Rattle.render.specs.Render.{viewRows}
 use Rattle.render.proofs.render.Reads as render-call
 use Rattle.terms.specs.declared.TriggerTerm.{TriggerTerm}
 use Rattle.feeder.specs.declared.Feeder.{Feeder}
@@ -211,7 +210,7 @@ pub record Answered {X A : Type 0} (may : X → Type 0) (told : X → A) (x : A)
   pub allowed : may answer
 
 -- "Each of these answers, from either recording, is 01's for its run", asked "with the record and whole memory that the list leaves".
--- Length and mark are in `selects`. After a recording rows 1 and 2 refuse no question; 10 and 11, render's `viewRows`, do
+-- Length and mark are in `selects`. After a recording rows 1 and 2 refuse no question; 10 and 11, `viewRows`, do
 pub record Answers (r : Recording) : Type 0 where
   pub selects : Selects r
   pub summary-is : (a b : ℕ) → Answered (MaySummary (store r) (r .memory) a b) summedOf (given (summary (s r) (len r) a b))

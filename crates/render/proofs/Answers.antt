@@ -13,6 +13,7 @@ use Rattle.node.specs.Memory.{levelOf, Right}
 use Rattle.capture.specs.declared.Capture.{Capture}
 use Rattle.capture.specs.Record.{storeOf, lentOf}
 use Rattle.capture.specs.Calls.{unrefused}
+use Rattle.capture.proofs.Calls.{unrefused-none}
 use Rattle.pixel.specs.declared.View.{View}
 use Rattle.pixel.specs.Ranges.{viewAs}
 use Rattle.summary.specs.Summary.{summed}
@@ -47,11 +48,10 @@ module _ (κs : Lfts 3) (c : Capture) (samples l1 l2 l3 l4 : RefT (List ℕ)) (v
 
   -- whatever memory holds, a refusal leaves output as it was,
   pub render-refused : Answered → (number ≡ 0 → ⊥) → output′ ≡ now output
-  render-refused p h = p .output-is ∙ go number h
-    where
-      go : (n : ℕ) → (n ≡ 0 → ⊥) → drawn (summed levels s) (viewAs view) (c .len) (unrefused n width) (now output) ≡ now output
-      go zero h = absurd (h refl)
-      go (suc n) h = sym (drawn-none (summed levels s) (viewAs view) (c .len) (now output))
+  render-refused p h =
+      p .output-is
+      ∙ ap (λ (n : ℕ). drawn (summed levels s) (viewAs view) (c .len) n (now output)) (unrefused-none number number width refl h)
+      ∙ sym (drawn-none (summed levels s) (viewAs view) (c .len) (now output))
 
   -- and what stands past 2 × width stays
   pub render-rest : Answered → drop (2 * width) output′ ≡ drop (2 * width) (now output)

@@ -2,7 +2,7 @@
 use Prim.Native.Nat.{ℕ, zero, suc, _*_}
 use mathlib.Core.Path.{_≡_, refl, sym, ap, _∙_}
 use mathlib.Core.Bool.{Bool, cond, not, _||_}
-use mathlib.Core.List.{List, []}
+use mathlib.Core.List.{List}
 use native.Mathlib.Omega.{arith}
 use lib.Dec.{ltb}
 use lib.ListN.{length}
@@ -10,25 +10,22 @@ use lib.Ieee.Scale.{finite}
 use borrow.Author.Tests.{ltb-false}
 use Rattle.rules.specs.Node.{Node}
 use Rattle.rules.specs.Pixel.{View}
-use Rattle.rules.specs.Refusal.{Store, Lent, mostPixels, firstOf, storeRefusal, renderRefusal}
-use Rattle.rules.proofs.Refusal.{neither, row-passed, rows-rest, rows-passed}
+use Rattle.rules.specs.Refusal.{Store, Lent, mostPixels, firstOf, storeRefusal, viewRows, renderRefusal}
+use Rattle.rules.proofs.Refusal.{neither, row-passed, sound}
 use Rattle.capture.specs.Calls.{unrefused}
 use Rattle.capture.proofs.Answer.{refused-is, given-is}
+use Rattle.capture.proofs.Calls.{unrefused-none}
 use Rattle.render.specs.declared.Drawn.the-variants.{Refused, Done}
-use Rattle.render.specs.Render.{drawn, Draws, viewRows, Drawable}
+use Rattle.render.specs.Render.{drawn, Draws, Drawable}
 use Rattle.render.proofs.Row.{drawn-none}
 
 -- ---- rows 10 and 11
 module _ (st : Store) (lent : Lent) (v : View) (width output : ℕ) (stored : storeRefusal st lent ≡ 0) where
-  -- past rows 1 and 2 they decide
-  pub view-rows : renderRefusal st lent v width output ≡ firstOf (viewRows v width output)
-  view-rows = let p = rows-passed st lent [] .0 stored in rows-rest st lent (p .0) (p .1) (viewRows v width output)
-
   pub drawable : firstOf (viewRows v width output) ≡ 0 → Drawable st lent width output
   drawable e =
       let t = row-passed 10 (cond (many || short) 11 0) (not (finite (v .start)) || not (finite (v .spp))) (omega arith) .0 e in
       let f = neither many short .0 (row-passed 11 0 (many || short) (omega arith) .0 (t .1) .0) in
-      record { sound = rows-passed st lent [] .0 stored .0; most = ltb-false mostPixels width (f .0); room = ltb-false output (2 * width) (f .1) }
+      record { sound = sound st lent stored; most = ltb-false mostPixels width (f .0); room = ltb-false output (2 * width) (f .1) }
     where
       many : Bool
       many = ltb mostPixels width
@@ -43,11 +40,7 @@ module _ (node : ℕ → ℕ → Node) (st : Store) (lent : Lent) (v : View) (wi
 
   -- nothing is drawn
   pub draws-refused : (k : ℕ) → number ≡ k → (k ≡ 0 → ⊥) → Draws node st lent v width output (Refused k) output
-  draws-refused k e h = record { answer-is = refused-is tt number k e h; output-is = drawn-none node v (st .len) output ∙ ap (λ (n : ℕ). drawn node v (st .len) n output) (sym (none k e h)) }
-    where
-      none : (k : ℕ) → number ≡ k → (k ≡ 0 → ⊥) → unrefused number width ≡ 0
-      none zero e h = absurd (h refl)
-      none (suc k) e h = ap (λ (x : ℕ). unrefused x width) e
+  draws-refused k e h = record { answer-is = refused-is tt number k e h; output-is = drawn-none node v (st .len) output ∙ ap (λ (n : ℕ). drawn node v (st .len) n output) (sym (unrefused-none number k width e h)) }
 
   -- every pixel is drawn
   pub draws-done : (output′ : List ℕ) → number ≡ 0 → output′ ≡ drawn node v (st .len) width output → Draws node st lent v width output Done output′

@@ -1,16 +1,13 @@
 -- What render answers and what it leaves in output, whatever memory holds. 01: Burst and render; Where each number is checked, 1, 2, 10 and 11.
 use mathlib.Core.Path.{_≡_}
-use mathlib.Core.Bool.{not, _||_}
-use mathlib.Core.List.{List, [], _∷_, _++_}
+use mathlib.Core.List.{List, _++_}
 use mathlib.Core.Option.{Option, none, some}
 use Prim.Native.Nat.{ℕ, _*_, _≤_, _<_}
-use lib.Dec.{ltb}
-use lib.Ieee.Scale.{finite}
 use lib.ListN.{length, drop}
 use Rattle.rules.specs.Node.{Node, leaf}
 use Rattle.rules.specs.Pixel.{View, Range, rowBy}
 use Rattle.rules.specs.Answer.{Answer, refused, given, unless}
-use Rattle.rules.specs.Refusal.{Store, Lent, Row, mostPixels, renderRefusal}
+use Rattle.rules.specs.Refusal.{Store, Lent, mostPixels, renderRefusal}
 use Rattle.rules.proofs.Refusal.{Sound}
 use Rattle.capture.specs.Calls.{unrefused}
 use Rattle.render.specs.declared.Drawn.{Drawn}
@@ -29,13 +26,6 @@ drawn node v len k output = rowBy node v len 0 k ++ drop (2 * k) output
 pub record Draws (node : ℕ → ℕ → Node) (st : Store) (lent : Lent) (v : View) (width : ℕ) (output : List ℕ) (r : Drawn) (output′ : List ℕ) : Type 0 where
   pub answer-is : drawnOf r ≡ unless (renderRefusal st lent v width (length output)) tt
   pub output-is : output′ ≡ drawn node v (st .len) (unrefused (renderRefusal st lent v width (length output)) width) output
-
--- ---- rows 10 and 11: renderRefusal's own, which decide where rows 1 and 2 let pass (`Refusals.view-rows`)
-abbrev pub viewRows : View → ℕ → ℕ → List Row
-viewRows v width output =
-    record { number = 10; holds = not (finite (v .start)) || not (finite (v .spp)) }
-    ∷ record { number = 11; holds = ltb mostPixels width || ltb output (2 * width) }
-    ∷ []
 
 -- ---- one pixel
 -- the node that a pixel shows the first and the toggles of

@@ -11,12 +11,12 @@ use summary::summary_in;
 ghost use mathlib.Core.Path.{_≡_};
 ghost use lib.ListN.{length};
 ghost use Rattle.rules.specs.Sample.{sampleOf};
-ghost use Rattle.rules.specs.Refusal.{firstOf};
+ghost use Rattle.rules.specs.Refusal.{firstOf, viewRows};
 ghost use Rattle.node.specs.Memory.{asNode, levelOf};
 ghost use Rattle.capture.specs.Record.{storeOf, lentOf};
 ghost use Rattle.pixel.specs.Ranges.{viewAs, rangeAs};
 ghost use Rattle.summary.specs.Summary.{summed};
-ghost use Rattle.render.specs.Render.{viewRows, pixelNode, drawn, Draws, Covered, Drawable};
+ghost use Rattle.render.specs.Render.{pixelNode, drawn, Draws, Covered, Drawable};
 
 const MOST_PIXELS: usize = 65536;
 

@@ -58,6 +58,21 @@ fn write_around(ring: &mut [u8], unitsize: usize, pre: usize, place: usize, n: u
     copy_run(ring, 0, bytes, (passed + k) * unitsize, (m - k) * unitsize);
 }
 
+// The ring after the first n samples of the bytes, which fit in before its end.
+pub fn write_ahead(
+    ring: &mut [u8],
+    unitsize: usize,
+    pre: usize,
+    place: usize,
+    n: usize,
+    bytes: &[u8],
+)
+    requires { ⌜ RingRoom unitsize pre place n (length (now ring)) (length (now bytes)) × (n ≤ pre - place) ⌝ }
+    ensures { λ _. ⌜ now (ring .exit) ≡ ringBytes unitsize pre (now (ring .entry)) place n (now (bytes .entry)) ⌝ }
+{
+    copy_run(ring, place * unitsize, bytes, 0, n * unitsize);
+}
+
 // The ring after the first n samples of the bytes.
 pub fn ring_write(
     ring: &mut [u8],
@@ -71,7 +86,7 @@ pub fn ring_write(
     ensures { λ _. ⌜ now (ring .exit) ≡ ringBytes unitsize pre (now (ring .entry)) place n (now (bytes .entry)) ⌝ }
 {
     if n <= pre - place {
-        copy_run(ring, place * unitsize, bytes, 0, n * unitsize);
+        write_ahead(ring, unitsize, pre, place, n, bytes);
         return;
     }
     if pre == 0 {

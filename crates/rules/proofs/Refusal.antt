@@ -166,6 +166,18 @@ module _ (st : Store) (lent : Lent) where
           let s = rows-then (t1 .0) (t2 .0) in
           (s .0, s .1, t2 .1)
 
+  -- where rows 1 and 2 pass, the further rows decide, and where one of them refuses, it does
+  pub rows-left : storeRefusal st lent ≡ 0 → (rest : List Row) → firstOf (storeRows st lent rest) ≡ firstOf rest
+  rows-left e rest = let p = rows-passed [] .0 e in rows-rest (p .0) (p .1) rest
+
+  pub rows-refused : (storeRefusal st lent ≡ 0 → ⊥) → (rest : List Row) → firstOf (storeRows st lent rest) ≡ storeRefusal st lent
+  rows-refused h rest = go (storeWrong st) (lentShort st lent) h
+    where
+      go : (a b : Bool) → (cond {A = ℕ} a 1 (cond b 2 0) ≡ 0 → ⊥) → cond {A = ℕ} a 1 (cond b 2 (firstOf rest)) ≡ cond a 1 (cond b 2 0)
+      go true b z = refl
+      go false true z = refl
+      go false false z = absurd (z refl)
+
   pub sound : storeRefusal st lent ≡ 0 → Sound st lent
   sound e = rows-passed [] .0 e .0
 

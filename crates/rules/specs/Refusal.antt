@@ -108,13 +108,14 @@ samplesRefusal st lent start n output = firstOf (storeRows st lent (record { num
 abbrev pub mostPixels : ℕ
 mostPixels = 65536
 
-abbrev pub renderRefusal : Store → Lent → View → ℕ → ℕ → ℕ
-renderRefusal st lent v width output =
-    firstOf
-    (storeRows st lent
-    (record { number = 10; holds = not (finite (v .start)) || not (finite (v .spp)) }
+abbrev pub viewRows : View → ℕ → ℕ → List Row
+viewRows v width output =
+    record { number = 10; holds = not (finite (v .start)) || not (finite (v .spp)) }
     ∷ record { number = 11; holds = ltb mostPixels width || ltb output (2 * width) }
-    ∷ []))
+    ∷ []
+
+abbrev pub renderRefusal : Store → Lent → View → ℕ → ℕ → ℕ
+renderRefusal st lent v width output = firstOf (storeRows st lent (viewRows v width output))
 
 -- ---- a recorder
 -- "Recorder. A store, limit (0: none), pre .., armed .., previous sample or none, ring place, kept count"

@@ -115,6 +115,16 @@ fn fire_in_blocks(w: Wanted, prev: Mask, bytes: &[u8], unitsize: usize, n: usize
     a
 }
 
+// The first of some samples that fires, one after the other.
+pub fn fire_few(masks: Masks, prev: Previous, bytes: &[u8], unitsize: usize, n: usize) -> usize
+    requires { ⌜ Holds unitsize n (length (now bytes)) × (1 ≤ n) ⌝ }
+    ensures { λ r. ⌜ r ≡ firstFire (asMasks masks) (previousOf prev) (units unitsize n (now (bytes .entry))) ⌝ }
+{
+    let w = Wanted::of(masks);
+    let p = before(prev, bytes, unitsize);
+    fire_in(w, p, bytes, unitsize, 0, n)
+}
+
 // Below this many samples blocks cost more than they save.
 const FEW: usize = 8;
 
@@ -126,11 +136,11 @@ pub fn first_fire(masks: Masks, prev: Previous, bytes: &[u8], unitsize: usize, n
     if n == 0 {
         return 0;
     }
+    if n < FEW {
+        return fire_few(masks, prev, bytes, unitsize, n);
+    }
     let w = Wanted::of(masks);
     let p = before(prev, bytes, unitsize);
-    if n < FEW {
-        return fire_in(w, p, bytes, unitsize, 0, n);
-    }
     // The unit is a number in each branch, so that each gets its own loops.
     if unitsize == 1 {
         fire_in_blocks(w, p, bytes, 1, n)

@@ -14,6 +14,10 @@ use Rattle.search.specs.declared.Found.{Found}
 use Rattle.search.specs.declared.Found.the-variants.{Refused, At, Nothing}
 use Rattle.search.specs.Answer.{foundOf}
 use Rattle.search.proofs.Found.{the-type}
+use Rattle.find.specs.declared.Place.{Place}
+use Rattle.find.specs.declared.Place.the-variants as chunk-found
+use Rattle.find.specs.Way.{placeOf}
+use Rattle.find.proofs.Place.{the-type as chunk-type}
 
 -- the walk over n chunks from chunk c on finds what it would find from the start; v is the value before place p
 pub record Coursing (k : Course) (mask : ℕ) (finds : Option ℕ) (n c p v : ℕ) : Type 0 where
@@ -43,11 +47,19 @@ pub not-nothing : (f : Found) → (tagOf the-type f ≡ 0) ⊎ (tagOf the-type f
 not-nothing f t e = let n : tagOf the-type f ≡ 2 = ap (tagOf the-type) e in ⊎-elim (λ a. omega arith) (λ a. omega arith) t
 
 -- a result that is not none has a place
-is-place : (f : Found) (x rest : Option ℕ) → (f ≡ Nothing → ⊥) → foundOf f ≡ given x → x ≡ orFound x rest
-is-place (Refused n) x rest t e = let z : _≡_ {A = ℕ} 0 1 = cc in absurd (omega arith)
-is-place (At i) (some j) rest t e = refl
-is-place (At i) none rest t e = let z : _≡_ {A = ℕ} 0 1 = cc in absurd (omega arith)
-is-place Nothing x rest t e = absurd (t refl)
+has-place : (f : Found) (x : Option ℕ) → (f ≡ Nothing → ⊥) → foundOf f ≡ given x → x ≡ none → ⊥
+has-place (Refused n) x t e z = let w : _≡_ {A = ℕ} 0 1 = cc in omega arith
+has-place (At i) x t e z = let w : _≡_ {A = ℕ} 0 1 = cc in omega arith
+has-place Nothing x t e z = t refl
+
+-- so has a chunk's answer
+pub chunk-place : (p : Place) → tagOf chunk-type p ≡ 0 → placeOf p ≡ none → ⊥
+chunk-place (chunk-found.At i) t z = let w : _≡_ {A = ℕ} 0 1 = cc in omega arith
+chunk-place chunk-found.Nothing t z = omega arith
+
+first-found : (x rest : Option ℕ) → (x ≡ none → ⊥) → x ≡ orFound x rest
+first-found none rest h = absurd (h refl)
+first-found (some i) rest h = refl
 
 no-place : (x : Option ℕ) → foundOf Nothing ≡ given x → none ≡ x
 no-place x e = cc
@@ -57,8 +69,8 @@ module _ {k : Course} {mask : ℕ} {finds : Option ℕ} {n c p v : ℕ} (g : Cou
   unfolding chunks
   coursing-end z = sym (ap (λ (x : ℕ). chunks k mask x c p v .found) z) ∙ g .same
 
-  -- after f, the answer for chunk c, with m chunks left
-  module _ (f : Found) (m : ℕ) (em : n ≡ suc m) (e : foundOf f ≡ given (walkFrom (k .way c) mask p v .found)) where
+  -- with m chunks left after chunk c
+  module _ (m : ℕ) (em : n ≡ suc m) where
     abbrev rest : Option ℕ
     rest = chunks k mask m (k .next-chunk c) (k .entry c) (k .value c) .found
 
@@ -66,8 +78,13 @@ module _ {k : Course} {mask : ℕ} {finds : Option ℕ} {n c p v : ℕ} (g : Cou
     unfolding chunks
     opened = sym (ap (λ (x : ℕ). chunks k mask x c p v .found) em) ∙ g .same
 
-    pub coursing-found : (f ≡ Nothing → ⊥) → foundOf f ≡ given finds
-    coursing-found t = e ∙ ap given (is-place f _ rest t e ∙ opened)
+    pub coursing-first : (walkFrom (k .way c) mask p v .found ≡ none → ⊥) → walkFrom (k .way c) mask p v .found ≡ finds
+    coursing-first h = first-found _ rest h ∙ opened
 
-    pub coursing-on : f ≡ Nothing → Coursing k mask finds m (k .next-chunk c) (k .entry c) (k .value c)
-    coursing-on z = record { same = ap (λ (x : Option ℕ). orFound x rest) (no-place _ (ap foundOf (sym z) ∙ e)) ∙ opened }
+    -- after f, the answer for chunk c
+    module _ (f : Found) (e : foundOf f ≡ given (walkFrom (k .way c) mask p v .found)) where
+      pub coursing-found : (f ≡ Nothing → ⊥) → foundOf f ≡ given finds
+      coursing-found t = e ∙ ap given (coursing-first (has-place f _ t e))
+
+      pub coursing-on : f ≡ Nothing → Coursing k mask finds m (k .next-chunk c) (k .entry c) (k .value c)
+      coursing-on z = record { same = ap (λ (x : Option ℕ). orFound x rest) (no-place _ (ap foundOf (sym z) ∙ e)) ∙ opened }

@@ -1,9 +1,8 @@
 pub mod Step
-pub mod Going
 pub mod Same
 pub mod Part
-pub mod Run
 pub mod Chunks
+pub mod Near
 pub mod Asked
 pub mod Within
 pub mod Change

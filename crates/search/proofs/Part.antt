@@ -1,46 +1,22 @@
--- Reading a part of memory: what a search may read there, and that the part holds what the whole holds.
-use Prim.Native.Nat.{ℕ, zero, suc, _+_, _-_, _*_, _/_, _≤_, _<_}
+-- A chunk's part of memory holds what the whole holds, so that a search over the part is one over the whole.
+use Prim.Native.Nat.{ℕ, zero, suc, _+_, _-_, _*_, _≤_, _<_}
 use mathlib.Core.Path.{_≡_, refl, sym, ap, ap₂, _∙_}
-use mathlib.Core.Bool.{Bool, cond}
+use mathlib.Core.Bool.{Bool}
 use mathlib.Core.List.{List}
-use native.Mathlib.Nat.{div-add-mod', mul-le-mul-left, mul-le-mul-right, add-mul}
+use native.Mathlib.Nat.{mul-le-mul-right, add-mul}
 use native.Mathlib.Decide.{ℕ-discrete}
 use native.Mathlib.Omega.{arith}
-use borrow.Author.Tests.{eq-eqb, ne-eqb}
-use lib.ListN.{length, take, drop, length-take, length-drop}
+use lib.ListN.{take, drop, length-take, length-drop}
 use lib.Seq.{getD-take, getD-drop}
 use Rattle.rules.specs.Sample.{little, sampleOf}
-use Rattle.rules.specs.Node.{Node, leaf, mirror, span, topLevel}
+use Rattle.rules.specs.Node.{Node, leaf, mirror, span}
 use Rattle.rules.specs.Walk.{forward, backward, walkFrom}
-use Rattle.rules.proofs.Walk.{span-pos}
-use Rattle.lines.specs.Held.{Held}
-use Rattle.node.specs.Memory.{nodeIn, readerOf}
+use Rattle.node.specs.Memory.{readerOf}
 use Rattle.node.proofs.Memory.{reads-sample, reads-node}
-use Rattle.search.specs.Part.{readerFrom, Bytes, Part, NodeIn, Stored}
+use Rattle.find.specs.Part.{readerFrom, Part}
+use Rattle.find.proofs.Part.{from-sample, from-node, bytes-less}
+use Rattle.search.specs.Part.{Stored}
 use Rattle.search.proofs.Same.{walked-same}
-
-module _ (base unit : ℕ) (part : List ℕ) (levels : ℕ → List ℕ) (l p : ℕ) where
-  pub from-sample : l ≡ 0 → readerFrom base unit part levels l p ≡ leaf (sampleOf unit part (p - base))
-  unfolding readerFrom
-  from-sample z = ap (λ (b : Bool). cond b (leaf (sampleOf unit part (p - base))) (nodeIn (levels l) (p / span l))) (eq-eqb l 0 z)
-
-  pub from-node : (l ≡ 0 → ⊥) → readerFrom base unit part levels l p ≡ nodeIn (levels l) (p / span l)
-  unfolding readerFrom
-  from-node z = ap (λ (b : Bool). cond b (leaf (sampleOf unit part (p - base))) (nodeIn (levels l) (p / span l))) (ne-eqb l 0 z)
-
--- a node within the part can be read
-pub node-inside : (unit base hi : ℕ) (part : List ℕ) (levels : ℕ → List ℕ) (l p : ℕ) → Part unit base hi part levels → 1 ≤ l → l ≤ topLevel → p + span l ≤ hi → NodeIn levels l p
-node-inside unit base hi part levels l p r low high h = record { low = low; high = high; room = r .nodes .inside l (p / span l) low high (omega (arith, div-add-mod' p (span l), span-pos l)) }
-
--- samples within bytes, n of them
-pub bytes-held : (unit n p : ℕ) (bytes : List ℕ) → Bytes unit n bytes → p < n → Held unit p (length bytes)
-bytes-held unit n p bytes b h = record { low = b .low; high = b .high; room = omega (arith, mul-le-mul-right unit h, b .room) }
-
-pub bytes-less : (unit n k : ℕ) (bytes : List ℕ) → Bytes unit n bytes → k ≤ n → Bytes unit k bytes
-bytes-less unit n k bytes b h = record { low = b .low; high = b .high; room = omega (arith, mul-le-mul-right unit h, b .room) }
-
-pub bytes-few : (unit n : ℕ) (bytes : List ℕ) → Bytes unit n bytes → n ≤ length bytes
-bytes-few unit n bytes b = omega (arith, mul-le-mul-left n (b .low), b .room)
 
 -- ---- the part and the whole
 -- u bytes of a part are those of the whole

@@ -1,38 +1,9 @@
--- A chunk's part of sample memory, read by places of the capture, and what a search over it may read.
-use mathlib.Core.Bool.{cond}
+-- What a search over a capture may read, and the places at which it enters a chunk.
 use mathlib.Core.List.{List}
-use Prim.Native.Nat.{ℕ, _+_, _-_, _*_, _/_, _≤_, _<_}
-use lib.Dec.{eqb}
-use lib.ListN.{length}
-use Rattle.rules.specs.Sample.{sampleOf}
-use Rattle.rules.specs.Node.{Node, leaf, span, chunk, topLevel}
-use Rattle.rules.specs.Refusal.{nodeSize, mostSamples}
-use Rattle.node.specs.Memory.{nodeIn}
-
--- what memory has for the node of level l that starts at place p, where the lent samples start at place base
-unfoldable pub readerFrom : ℕ → ℕ → List ℕ → (ℕ → List ℕ) → ℕ → ℕ → Node
-readerFrom base unit part levels l p = cond (eqb l 0) (leaf (sampleOf unit part (p - base))) (nodeIn (levels l) (p / span l))
-
--- levels have a node for each place below hi
-pub record Nodes (hi : ℕ) (levels : ℕ → List ℕ) : Type 0 where
-  pub inside : (l j : ℕ) → 1 ≤ l → l ≤ topLevel → j * span l < hi → j * nodeSize + nodeSize ≤ length (levels l)
-
--- the first n samples lie in bytes
-pub record Bytes (unit n : ℕ) (bytes : List ℕ) : Type 0 where
-  pub low : 1 ≤ unit
-  pub high : unit ≤ 2
-  pub room : n * unit ≤ length bytes
-
--- the samples from base to hi, and the nodes below hi, lie in memory
-pub record Part (unit base hi : ℕ) (part : List ℕ) (levels : ℕ → List ℕ) : Type 0 where
-  pub bytes : Bytes unit (hi - base) part
-  pub nodes : Nodes hi levels
-
--- the node of level l that starts at p lies in its level
-pub record NodeIn (levels : ℕ → List ℕ) (l p : ℕ) : Type 0 where
-  pub low : 1 ≤ l
-  pub high : l ≤ topLevel
-  pub room : p / span l * nodeSize + nodeSize ≤ length (levels l)
+use Prim.Native.Nat.{ℕ, _+_, _*_, _≤_, _<_}
+use Rattle.rules.specs.Node.{chunk}
+use Rattle.rules.specs.Refusal.{mostSamples}
+use Rattle.find.specs.Part.{Bytes, Nodes}
 
 -- a capture of len samples lies in memory
 pub record Stored (unit len : ℕ) (samples : List ℕ) (levels : ℕ → List ℕ) : Type 0 where
@@ -40,12 +11,13 @@ pub record Stored (unit len : ℕ) (samples : List ℕ) (levels : ℕ → List �
   pub most : len ≤ mostSamples
   pub nodes : Nodes len levels
 
--- a place of chunk c with a stored sample before it, forward
+-- a place of chunk c with a stored sample before it, or the one past it, forward
 pub record Ahead (len c p : ℕ) : Type 0 where
   pub starts : c * chunk < len
   pub low : c * chunk ≤ p
+  pub high : p ≤ (c + 1) * chunk
   pub first : 1 ≤ p
-  pub high : p ≤ len
+  pub stored : p ≤ len
 
 -- a stored place of chunk c, or the one past it, backward
 pub record Behind (len c p : ℕ) : Type 0 where

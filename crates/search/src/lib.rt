@@ -1,176 +1,27 @@
 // Next and previous change of a capture, by summaries: 01's walk over the nodes that memory holds, chunk by chunk.
-// Places are the capture's; a chunk's samples are lent as their part of sample memory, levels are lent whole.
 use capture::Capture;
+use find::Place;
+use find::find;
+use find::near;
 use lines::Mask;
-use node::Node;
 ghost use mathlib.Core.Path.{_≡_};
-ghost use Prim.Native.Nat.{_+_, _-_, _*_, _/_, _≤_, _<_, min};
-ghost use Rattle.rules.specs.Node.{mirror, span, chunk};
+ghost use Prim.Native.Nat.{_+_, _-_, _*_, _≤_, _<_, min};
+ghost use Rattle.rules.specs.Node.{chunk};
 ghost use Rattle.rules.specs.Refusal.{mostSamples};
 ghost use Rattle.rules.specs.Walk.{forward, backward, walkFrom, nextWalk, previousFrom, allLevels};
 ghost use Rattle.rules.specs.Answer.{given};
-ghost use Rattle.node.specs.Memory.{asNode, nodeIn, levelOf, readerOf};
-ghost use Rattle.search.specs.Part.{readerFrom, Bytes, NodeIn, Part, Stored, Ahead, Behind};
-ghost use Rattle.search.specs.Run.{aheadOf, behindOf, Run};
+ghost use Rattle.node.specs.Memory.{levelOf, readerOf};
+ghost use Rattle.find.specs.Way.{placeOf};
+ghost use Rattle.search.specs.Part.{Stored, Ahead, Behind};
 ghost use Rattle.search.specs.Answer.{foundOf, nextOf, previousOf};
 
 const CHUNK: usize = 1048576;
-
-// A node has this many of the level below; a multiple of it is where level 1 has a border.
-const FAN: usize = 32;
 
 // The answer: the number of a refusal, a place, or none.
 pub enum Found {
     Refused(u8),
     At(usize),
     Nothing,
-}
-
-// The node of a level, 1 to 4, that starts at pos, as memory has it.
-fn node_at<'a>(
-    l1: &'a [Mask],
-    l2: &'a [Mask],
-    l3: &'a [Mask],
-    l4: &'a [Mask],
-    level: usize,
-    pos: usize,
-) -> Node
-    requires { ⌜ NodeIn (levelOf (now l1) (now l2) (now l3) (now l4)) level pos ⌝ }
-    ensures { λ r. ⌜ asNode r ≡ nodeIn (levelOf (now (l1 .entry)) (now (l2 .entry)) (now (l3 .entry)) (now (l4 .entry)) level) (pos / span level) ⌝ }
-{
-    let t = node::level_of(l1, l2, l3, l4, level);
-    node::node_in(t, pos >> (5 * level))
-}
-
-// The node read from its other end.
-fn mirror(n: Node) -> Node
-    ensures { λ r. ⌜ asNode r ≡ mirror (asNode n) ⌝ }
-{
-    Node {
-        first: n.last,
-        last: n.first,
-        mask: n.mask,
-    }
-}
-
-// How many of the n samples from number `from` of the part on have the masked lines of before, up to the first that does not.
-fn run_fwd(part: &[u8], unitsize: usize, from: usize, n: usize, before: Mask, mask: Mask) -> usize
-    requires { ⌜ Bytes unitsize (from + n) (now part) ⌝ }
-    ensures { λ r. ⌜ Run (aheadOf unitsize (now (part .entry)) from) mask before n r ⌝ }
-{
-    let held = before & mask;
-    let mut k = 0;
-    while k < n {
-        if lines::get(part, unitsize, from + k) & mask != held {
-            return k;
-        }
-        k += 1;
-    }
-    k
-}
-
-// The same of the n samples before number `from`, downward.
-fn run_back(part: &[u8], unitsize: usize, from: usize, n: usize, after: Mask, mask: Mask) -> usize
-    requires { ⌜ Bytes unitsize from (now part) × (n ≤ from) ⌝ }
-    ensures { λ r. ⌜ Run (behindOf unitsize (now (part .entry)) from) mask after n r ⌝ }
-{
-    let held = after & mask;
-    let mut k = 0;
-    while k < n {
-        if lines::get(part, unitsize, from - (k + 1)) & mask != held {
-            return k;
-        }
-        k += 1;
-    }
-    k
-}
-
-// The first place of the part from lo on at which a masked line changes; before is the value before lo.
-// Level 0 goes in runs up to the next multiple of 32: until there no higher level has a border.
-fn find_fwd<'a>(
-    part: &[u8],
-    l1: &'a [Mask],
-    l2: &'a [Mask],
-    l3: &'a [Mask],
-    l4: &'a [Mask],
-    unitsize: usize,
-    base: usize,
-    hi: usize,
-    mask: Mask,
-    lo: usize,
-    before: Mask,
-) -> Found
-    requires { ⌜ Part unitsize base hi (now part) (levelOf (now l1) (now l2) (now l3) (now l4)) × (base ≤ lo) ⌝ }
-    ensures { λ r. ⌜ foundOf r ≡ given (walkFrom (forward allLevels (readerFrom base unitsize (now (part .entry)) (levelOf (now (l1 .entry)) (now (l2 .entry)) (now (l3 .entry)) (now (l4 .entry)))) hi) mask lo before .found) ⌝ }
-{
-    let mut pos = lo;
-    let mut maxl = level::LEVELS;
-    let mut prev = before;
-    while pos < hi {
-        let l = level::best_level(pos, hi - pos, maxl);
-        if l == 0 {
-            let n = least(FAN - pos % FAN, hi - pos);
-            let k = run_fwd(part, unitsize, pos - base, n, prev, mask);
-            if k < n {
-                return Found::At(pos + k);
-            }
-            pos += n;
-            prev = lines::get(part, unitsize, pos - 1 - base);
-        } else {
-            let n = node_at(l1, l2, l3, l4, l, pos);
-            if n.quiet(prev, mask) {
-                prev = n.last;
-                pos += level::span(l);
-            } else {
-                maxl = l - 1; // never raised again in this chunk
-            }
-        }
-    }
-    Found::Nothing
-}
-
-// The last place of the part up to at, and above base, at which a masked line changes; after is the value at `at`.
-fn find_back<'a>(
-    part: &[u8],
-    l1: &'a [Mask],
-    l2: &'a [Mask],
-    l3: &'a [Mask],
-    l4: &'a [Mask],
-    unitsize: usize,
-    base: usize,
-    hi: usize,
-    mask: Mask,
-    at: usize,
-    after: Mask,
-) -> Found
-    requires { ⌜ Part unitsize base hi (now part) (levelOf (now l1) (now l2) (now l3) (now l4)) × (at ≤ hi) ⌝ }
-    ensures { λ r. ⌜ foundOf r ≡ given (walkFrom (backward allLevels (readerFrom base unitsize (now (part .entry)) (levelOf (now (l1 .entry)) (now (l2 .entry)) (now (l3 .entry)) (now (l4 .entry)))) base) mask at after .found) ⌝ }
-{
-    let mut cur = at;
-    let mut maxl = level::LEVELS;
-    let mut carry = after;
-    while base < cur {
-        let l = level::best_level(cur, cur - base, maxl);
-        if l == 0 {
-            let n = least((cur - 1) % FAN + 1, cur - base);
-            let k = run_back(part, unitsize, cur - base, n, carry, mask);
-            if k < n {
-                return Found::At(cur - k);
-            }
-            cur -= n;
-            carry = lines::get(part, unitsize, cur - base);
-        } else {
-            let start = cur - level::span(l);
-            let n = mirror(node_at(l1, l2, l3, l4, l, start));
-            if n.quiet(carry, mask) {
-                carry = n.last;
-                cur = start;
-            } else {
-                maxl = l - 1;
-            }
-        }
-    }
-    Found::Nothing
 }
 
 fn least(a: usize, b: usize) -> usize
@@ -187,7 +38,17 @@ fn chunk_end(ci: usize, len: usize) -> usize
     least((ci + 1) * CHUNK, len)
 }
 
-// find_fwd in chunk ci, from lo on; the value before lo is the sample there.
+// What a chunk answers is given.
+fn given(p: Place) -> Found
+    ensures { λ r. ⌜ foundOf r ≡ given (placeOf p) ⌝ }
+{
+    match p {
+        Place::At(i) => Found::At(i),
+        Place::Nothing => Found::Nothing,
+    }
+}
+
+// The search in chunk ci, from lo on; the value before lo is the sample there.
 fn chunk_fwd<'a>(
     samples: &[u8],
     l1: &'a [Mask],
@@ -208,7 +69,7 @@ fn chunk_fwd<'a>(
     let before = lines::get(samples, unitsize, lo - 1);
     let a = base * unitsize;
     let e = hi * unitsize;
-    find_fwd(
+    given(find(
         &samples[a..e],
         l1,
         l2,
@@ -217,13 +78,14 @@ fn chunk_fwd<'a>(
         unitsize,
         base,
         hi,
+        false,
         mask,
         lo,
         before,
-    )
+    ))
 }
 
-// find_back in chunk ci, from `at` down; the value after is the sample at `at`, which may be the next chunk's first.
+// The search back in chunk ci, from `at` down; the value after is the sample at `at`, which may be the next chunk's first.
 fn chunk_back<'a>(
     samples: &[u8],
     l1: &'a [Mask],
@@ -244,7 +106,7 @@ fn chunk_back<'a>(
     let after = lines::get(samples, unitsize, at);
     let a = base * unitsize;
     let e = hi * unitsize;
-    find_back(
+    given(find(
         &samples[a..e],
         l1,
         l2,
@@ -253,14 +115,15 @@ fn chunk_back<'a>(
         unitsize,
         base,
         hi,
+        true,
         mask,
         at,
         after,
-    )
+    ))
 }
 
 // The next change after from, chunk after chunk.
-pub fn next_from<'a>(
+fn chunks_fwd<'a>(
     samples: &[u8],
     l1: &'a [Mask],
     l2: &'a [Mask],
@@ -288,8 +151,31 @@ pub fn next_from<'a>(
     Found::Nothing
 }
 
+// The next change after from. Where changes are dense it is one of the next few samples.
+pub fn next_from<'a>(
+    samples: &[u8],
+    l1: &'a [Mask],
+    l2: &'a [Mask],
+    l3: &'a [Mask],
+    l4: &'a [Mask],
+    unitsize: usize,
+    len: usize,
+    mask: Mask,
+    from: usize,
+) -> Found
+    requires { ⌜ Stored unitsize len (now samples) (levelOf (now l1) (now l2) (now l3) (now l4)) × (from + 1 < len) ⌝ }
+    ensures { λ r. ⌜ foundOf r ≡ given (nextWalk allLevels (readerOf unitsize (now (samples .entry)) (levelOf (now (l1 .entry)) (now (l2 .entry)) (now (l3 .entry)) (now (l4 .entry)))) len mask from .found) ⌝ }
+{
+    let value = lines::get(samples, unitsize, from);
+    let n = near(samples, l1, unitsize, len, false, mask, from + 1, value);
+    let Place::Nothing = n else {
+        return given(n);
+    };
+    chunks_fwd(samples, l1, l2, l3, l4, unitsize, len, mask, from)
+}
+
 // The last change up to start, chunk before chunk; an earlier chunk is entered at its length.
-pub fn prev_from<'a>(
+fn chunks_back<'a>(
     samples: &[u8],
     l1: &'a [Mask],
     l2: &'a [Mask],
@@ -315,6 +201,29 @@ pub fn prev_from<'a>(
         left = ci;
     }
     Found::Nothing
+}
+
+// The last change up to start. Where changes are dense it is one of the few samples before it.
+pub fn prev_from<'a>(
+    samples: &[u8],
+    l1: &'a [Mask],
+    l2: &'a [Mask],
+    l3: &'a [Mask],
+    l4: &'a [Mask],
+    unitsize: usize,
+    len: usize,
+    mask: Mask,
+    start: usize,
+) -> Found
+    requires { ⌜ Stored unitsize len (now samples) (levelOf (now l1) (now l2) (now l3) (now l4)) × (start < len) ⌝ }
+    ensures { λ r. ⌜ foundOf r ≡ given (previousFrom allLevels (readerOf unitsize (now (samples .entry)) (levelOf (now (l1 .entry)) (now (l2 .entry)) (now (l3 .entry)) (now (l4 .entry)))) mask start .found) ⌝ }
+{
+    let value = lines::get(samples, unitsize, start);
+    let n = near(samples, l1, unitsize, len, true, mask, start, value);
+    let Place::Nothing = n else {
+        return given(n);
+    };
+    chunks_back(samples, l1, l2, l3, l4, unitsize, len, mask, start)
 }
 
 // 01's Next: the smallest place after from, and below len, at which a masked line changes.

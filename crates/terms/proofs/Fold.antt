@@ -1,11 +1,12 @@
 -- What a list of terms comes to, term by term, is 01's masks of the list, and wrong exactly when row 3 says so.
 use Prim.Native.Nat.{ℕ, _^_, _≤_, _<_}
 use mathlib.Core.Path.{_≡_, refl, sym, ap, ap₂, _∙_}
-use mathlib.Core.Bool.{Bool, true, false, cond, _||_}
+use mathlib.Core.Bool.{Bool, true, false, cond, _||_, or-assoc, or-true, or-false}
 use mathlib.Core.List.{List, [], _∷_, map}
 use lib.Dec.{ltb}
 use borrow.Author.Tests.{lt-ltb, le-ltb}
 use Rattle.rules.specs.Refusal.{topLine, lineWrong}
+use Rattle.rules.proofs.Refusal.{neither}
 use Rattle.rules.specs.Trigger as rule
 use Rattle.terms.specs.declared.Condition.{Condition}
 use Rattle.terms.specs.declared.Condition.the-variants.{Rising, Falling, Edge, High, Low}
@@ -13,18 +14,6 @@ use Rattle.terms.specs.declared.TriggerTerm.{TriggerTerm}
 use Rattle.terms.specs.declared.Masks.{Masks}
 use Rattle.terms.specs.declared.Terms as declared
 use Rattle.terms.specs.Terms.{conditionOf, termOf, asMasks, noTerms, withLine, withTerm, withTerms, termsOf, armedBy}
-
-or-assoc : (a b c : Bool) → (a || b || c) ≡ (a || (b || c))
-or-assoc true b c = refl
-or-assoc false b c = refl
-
-or-true : (a : Bool) → (a || true) ≡ true
-or-true true = refl
-or-true false = refl
-
-or-false : (a : Bool) → (a || false) ≡ a
-or-false true = refl
-or-false false = refl
 
 -- ---- one term, as the code adds it
 module _ (ts : declared.Terms) (t : TriggerTerm) where
@@ -40,10 +29,6 @@ module _ (ts : declared.Terms) (t : TriggerTerm) where
       ∙ sym (ap (λ (b : Bool). made (ts .wrong || b) (cond b (ts .masks) (withLine (ts .masks) (t .condition) (2 ^ t .channel)))) (le-ltb topLine (t .channel) h) ∙ ap (λ (b : Bool). made b (withLine (ts .masks) (t .condition) (2 ^ t .channel))) (or-false (ts .wrong)))
 
 -- ---- a list of terms
-neither : (a b : Bool) → (a || b) ≡ false → (a ≡ false) × (b ≡ false)
-neither true b e = (e, cc)
-neither false b e = (refl, e)
-
 -- wrong exactly when a line is above the highest
 wrong-from : (list : List TriggerTerm) (ts : declared.Terms) → withTerms ts list .wrong ≡ (ts .wrong || lineWrong (map termOf list))
 unfolding withTerms lineWrong
@@ -72,7 +57,7 @@ masks-from : (list : List TriggerTerm) (ts : declared.Terms) → lineWrong (map 
 unfolding withTerms lineWrong rule.withTerms
 masks-from [] ts e = refl
 masks-from (t ∷ list) ts e =
-    let b = neither (ltb topLine (t .channel)) (lineWrong (map termOf list)) e in
+    let b = neither (ltb topLine (t .channel)) (lineWrong (map termOf list)) .0 e in
     masks-from list (withTerm ts t) (b .1) ∙ ap (λ (m : rule.Masks). rule.withTerms m (map termOf list)) (term-is ts t (b .0))
 
 pub terms-masks : (list : List TriggerTerm) → lineWrong (map termOf list) ≡ false → asMasks (termsOf list .masks) ≡ rule.masksOf (map termOf list)

@@ -1,7 +1,7 @@
 -- `burst::end_of` meets its contract: the loop's jumps are the definition's, at either end. Assumes nothing.
 use Prim.Native.Nat.{ℕ, _-_}
-use mathlib.Core.Path.{sym, ap, _∙_}
-use mathlib.Core.Bool.{Bool}
+use mathlib.Core.Path.{_≡_, sym, ap, _∙_}
+use mathlib.Core.Bool.{Bool, cond}
 use mathlib.Core.List.{List}
 use mathlib.Core.Option.{Option}
 use native.Mathlib.Omega.{arith}
@@ -23,13 +23,26 @@ Inv-loop samples l1 l2 l3 l4 unitsize len mask gap budget start from place₀ ju
 abbrev μ-loop : tie.MeasureT-loop
 μ-loop samples l1 l2 l3 l4 unitsize len mask gap budget start from place₀ jumps₀ place jumps = budget - jumps
 
+-- what a jump may reach, and that the search finds it
+abbrev reach-at : tie.Start Inv-loop μ-loop → ℕ → Option ℕ
+reach-at s = reachIn (s .args .unitsize) (s .args .len) (now (s .args .samples)) (levelOf (now (s .args .l1)) (now (s .args .l2)) (now (s .args .l3)) (now (s .args .l4))) (s .args .mask) (s .args .gap) (s .args .start)
+
+reached : (f : tie.After-seek Inv-loop μ-loop) → reach-at (f .before .before .before .before .before .before .before .before .before) (f .before .before .before .loop .place) ≡ changeAs (f .seek .result)
+reached f =
+    let a = f .before .before .before .before .before .before .before .before .before .args in
+    let levels = levelOf (now (a .l1)) (now (a .l2)) (now (a .l3)) (now (a .l4)) in
+    sym (f .seek .ensures ∙ ap (cond (a .start) (fore (a .unitsize) (a .len) (now (a .samples)) levels (a .mask)) (back (a .unitsize) (a .len) (now (a .samples)) levels (a .mask))) (f .before .far .ensures))
+
 loop-holds : tie.Need-loop-holds Inv-loop μ-loop
 loop-holds c =
-    let a = c .before .before .before .before .before .args in
-    jumping-starts (reachIn (a .unitsize) (a .len) (now (a .samples)) (levelOf (now (a .l1)) (now (a .l2)) (now (a .l3)) (now (a .l4))) (a .mask) (a .gap) (a .start)) (furtherOf (a .start)) (a .budget) (a .from)
+    let s = c .before .before .before .before .before in
+    jumping-starts (reach-at s) (furtherOf (s .args .start)) (s .args .budget) (s .args .from)
 
-reach-requires : tie.Need-reach-requires Inv-loop μ-loop
-reach-requires c κs = search needs
+far-requires : tie.Need-far-requires Inv-loop μ-loop
+far-requires c κs = search needs
+
+seek-requires : tie.Need-seek-requires Inv-loop μ-loop
+seek-requires c κs = search needs
 
 enum-known-change : tie.Need-enum-known-change Inv-loop μ-loop
 enum-known-change c = search needs
@@ -40,10 +53,9 @@ enum-told c = search needs
 returns : tie.Need-returns Inv-loop μ-loop
 returns c =
     let f = c .before .before in
-    let l = f .before .before in
-    let a = l .before .before .before .before .before .before .args in
-    jumping-none (reachIn (a .unitsize) (a .len) (now (a .samples)) (levelOf (now (a .l1)) (now (a .l2)) (now (a .l3)) (now (a .l4))) (a .mask) (a .gap) (a .start)) (furtherOf (a .start)) (a .budget) (a .from) (l .loop .place) (l .loop .jumps) (l .loop .inv) (f .before .loop-test .taken)
-    (sym (f .reach .ensures) ∙ ap changeAs (c .enum-told .given .1))
+    let l = f .before .before .before in
+    let s = l .before .before .before .before .before .before in
+    jumping-none (reach-at s) (furtherOf (s .args .start)) (s .args .budget) (s .args .from) (l .loop .place) (l .loop .jumps) (l .loop .inv) (f .before .before .loop-test .taken) (reached f ∙ ap changeAs (c .enum-told .given .1))
 
 further-requires : tie.Need-further-requires Inv-loop μ-loop
 further-requires c κs = search needs
@@ -51,10 +63,9 @@ further-requires c κs = search needs
 returns-2 : tie.Need-returns-2 Inv-loop μ-loop
 returns-2 c =
     let f = c .before .before .before .before .before in
-    let l = f .before .before in
-    let a = l .before .before .before .before .before .before .args in
-    jumping-near (reachIn (a .unitsize) (a .len) (now (a .samples)) (levelOf (now (a .l1)) (now (a .l2)) (now (a .l3)) (now (a .l4))) (a .mask) (a .gap) (a .start)) (furtherOf (a .start)) (a .budget) (a .from) (l .loop .place) (l .loop .jumps) (l .loop .inv) _ (f .before .loop-test .taken)
-    (sym (f .reach .ensures) ∙ ap changeAs (c .before .before .before .change .given .1))
+    let l = f .before .before .before in
+    let s = l .before .before .before .before .before .before in
+    jumping-near (reach-at s) (furtherOf (s .args .start)) (s .args .budget) (s .args .from) (l .loop .place) (l .loop .jumps) (l .loop .inv) _ (f .before .before .loop-test .taken) (reached f ∙ ap changeAs (c .before .before .before .change .given .1))
     (sym (c .before .further .ensures) ∙ not-true (c .before .further .result) (c .if1 .taken))
 
 add-jumps : tie.Need-add-jumps Inv-loop μ-loop
@@ -66,19 +77,18 @@ loop-less c = omega arith
 loop-again : tie.Need-loop-again Inv-loop μ-loop
 loop-again c =
     let f = c .before .before .before .before .before in
-    let l = f .before .before in
-    let a = l .before .before .before .before .before .before .args in
-    jumping-on (reachIn (a .unitsize) (a .len) (now (a .samples)) (levelOf (now (a .l1)) (now (a .l2)) (now (a .l3)) (now (a .l4))) (a .mask) (a .gap) (a .start)) (furtherOf (a .start)) (a .budget) (a .from) (l .loop .place) (l .loop .jumps) (l .loop .inv) _ (f .before .loop-test .taken)
-    (sym (f .reach .ensures) ∙ ap changeAs (c .before .before .before .change .given .1))
+    let l = f .before .before .before in
+    let s = l .before .before .before .before .before .before in
+    jumping-on (reach-at s) (furtherOf (s .args .start)) (s .args .budget) (s .args .from) (l .loop .place) (l .loop .jumps) (l .loop .inv) _ (f .before .before .loop-test .taken) (reached f ∙ ap changeAs (c .before .before .before .change .given .1))
     (sym (c .before .further .ensures) ∙ not-false (c .before .further .result) (c .if1 .left))
 
 returns-3 : tie.Need-returns-3 Inv-loop μ-loop
 returns-3 c =
     let l = c .before in
-    let a = l .before .before .before .before .before .before .args in
-    jumping-spent (reachIn (a .unitsize) (a .len) (now (a .samples)) (levelOf (now (a .l1)) (now (a .l2)) (now (a .l3)) (now (a .l4))) (a .mask) (a .gap) (a .start)) (furtherOf (a .start)) (a .budget) (a .from) (l .loop .place) (l .loop .jumps) (l .loop .inv) (c .loop-test .left)
+    let s = l .before .before .before .before .before .before in
+    jumping-spent (reach-at s) (furtherOf (s .args .start)) (s .args .budget) (s .args .from) (l .loop .place) (l .loop .jumps) (l .loop .inv) (c .loop-test .left)
 
 pub end-of-spec : {M : Type 1} → statement M
 end-of-spec =
     tie.close
-    (tie.spec Inv-loop μ-loop loop-holds reach-requires enum-known-change enum-told returns further-requires returns-2 add-jumps loop-less loop-again returns-3)
+    (tie.spec Inv-loop μ-loop loop-holds far-requires seek-requires enum-known-change enum-told returns further-requires returns-2 add-jumps loop-less loop-again returns-3)

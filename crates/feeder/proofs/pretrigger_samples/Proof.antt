@@ -1,6 +1,6 @@
 -- `feeder::pretrigger_samples` meets its contract, case by case. Assumes nothing.
 use mathlib.Core.Path.{_≡_, sym, ap, _∙_}
-use mathlib.Core.Bool.{false, _||_}
+use mathlib.Core.Bool.{false}
 use Prim.Native.Nat.{ℕ, _≤_}
 use native.Mathlib.Omega.{arith}
 use borrow.Author.Needs.{needs}
@@ -9,17 +9,17 @@ use lib.Dec.{ltb}
 use lib.Ieee.{Float, isNan}
 use Rattle.rules.specs.Pretrigger.{Kept, keptOf}
 use Rattle.rules.specs.Refusal.{numberWrong}
+use Rattle.rules.proofs.Refusal.{neither}
 use Rattle.feeder.specs.Record.{wishOf}
 use Rattle.feeder.specs.Start.{Workable}
 use Rattle.feeder.specs.declared.Pretrigger.{Pretrigger}
 use Rattle.feeder.specs.declared.Pretrigger.the-variants.{Fraction, Seconds}
-use Rattle.feeder.proofs.Rows.{either}
 use Rattle.feeder.proofs.pretrigger_samples.Statement.{statement}
 use Rattle.feeder.proofs.pretrigger_samples.Tie as tie
 
 -- seconds at a rate that is not refused
 rate-most : (wish : Pretrigger) (t : Float) (limit rate unit : ℕ) → wish ≡ Seconds t → Workable (wishOf wish) limit rate unit → rate ≤ 1000000000
-rate-most wish t limit rate unit e w = ltb-false 1000000000 rate (either (isNan t) (ltb 1000000000 rate) (sym (ap (λ (x : Pretrigger). numberWrong (wishOf x) rate) e) ∙ w .number) .1)
+rate-most wish t limit rate unit e w = ltb-false 1000000000 rate (neither (isNan t) (ltb 1000000000 rate) .0 (sym (ap (λ (x : Pretrigger). numberWrong (wishOf x) rate) e) ∙ w .number) .1)
 
 enum-known-wish : tie.Need-enum-known-wish
 enum-known-wish c = search needs

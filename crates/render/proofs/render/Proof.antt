@@ -6,14 +6,14 @@ use denote.Ref.{now}
 use borrow.Author.Needs.{needs}
 use Rattle.rules.specs.Sample.{sampleOf}
 use Rattle.rules.specs.Node.{Node}
-use Rattle.rules.specs.Refusal.{Lent, storeRefusal}
+use Rattle.rules.specs.Refusal.{Lent, storeRefusal, viewRows}
+use Rattle.rules.proofs.Refusal.{rows-left}
 use Rattle.node.specs.Memory.{levelOf}
 use Rattle.capture.specs.Record.{storeOf, lentOf}
 use Rattle.capture.proofs.Answer.{rows-are, rows-refuse}
 use Rattle.pixel.specs.Ranges.{viewAs}
 use Rattle.summary.specs.Summary.{summed}
-use Rattle.render.specs.Render.{viewRows}
-use Rattle.render.proofs.Refusals.{view-rows, drawable, draws-refused, draws-done}
+use Rattle.render.proofs.Refusals.{drawable, draws-refused, draws-done}
 use Rattle.render.proofs.render.Statement.{statement}
 use Rattle.render.proofs.render.Tie as tie
 
@@ -54,7 +54,7 @@ returns-2 c =
     let a = e .before .before .before .before .before .before .before .before .args in
     let v = viewAs (a .view) in
     draws-refused (node-at (e .before)) (storeOf (a .c)) (lent-at (e .before)) v (a .width) (now (a .output)) (c .before .view-refusal .result)
-    (view-rows (storeOf (a .c)) (lent-at (e .before)) v (a .width) (length (now (a .output))) (stored e) ∙ sym (c .before .view-refusal .ensures)) (c .if2 .taken)
+    (rows-left (storeOf (a .c)) (lent-at (e .before)) (stored e) (viewRows v (a .width) (length (now (a .output)))) ∙ sym (c .before .view-refusal .ensures)) (c .if2 .taken)
 
 draw-requires : tie.Need-draw-requires
 draw-requires c κs =
@@ -72,7 +72,7 @@ returns-3 c =
     let a = e .before .before .before .before .before .before .before .before .args in
     let v = viewAs (a .view) in
     draws-done (node-at (e .before)) (storeOf (a .c)) (lent-at (e .before)) v (a .width) (now (a .output)) _
-    (view-rows (storeOf (a .c)) (lent-at (e .before)) v (a .width) (length (now (a .output))) (stored e) ∙ sym (d .before .view-refusal .ensures) ∙ d .if2 .left) (c .before .before .draw .ensures)
+    (rows-left (storeOf (a .c)) (lent-at (e .before)) (stored e) (viewRows v (a .width) (length (now (a .output)))) ∙ sym (d .before .view-refusal .ensures) ∙ d .if2 .left) (c .before .before .draw .ensures)
 
 pub render-spec : {M : Type 1} → statement M
 render-spec = tie.close (tie.spec refusal-requires returns view-refusal-requires returns-2 draw-requires same-length returns-3)

@@ -1,34 +1,23 @@
 -- `ring_write::ring_write` meets its contract: one run, no slots, or around. Assumes nothing.
-use mathlib.Core.Path.{sym, _∙_}
+use mathlib.Core.Path.{sym}
 use native.Mathlib.Omega.{arith}
 use borrow.Author.Needs.{needs}
 use denote.Ref.{now}
 use Rattle.ring.proofs.Bytes.{bytes-none}
-use Rattle.ring_write.proofs.Runs.{one-run, run-room}
 use Rattle.ring_write.proofs.ring_write.Statement.{statement}
 use Rattle.ring_write.proofs.ring_write.Tie as tie
 
 sub-if1 : tie.Need-sub-if1
 sub-if1 c = search needs
 
-mul-copy-run : tie.Need-mul-copy-run
-mul-copy-run c = let s = c .before .before .before .before in omega (arith, run-room _ _ _ _ _ _ (s .pre) (c .before .if1 .taken))
-
-mul-copy-run-2 : tie.Need-mul-copy-run-2
-mul-copy-run-2 c = search needs
-
-copy-run-requires : tie.Need-copy-run-requires
-copy-run-requires c κs = let s = c .before .before .before .before in (run-room _ _ _ _ _ _ (s .pre) (c .before .if1 .taken), omega (arith, s .pre .samples))
+write-ahead-requires : tie.Need-write-ahead-requires
+write-ahead-requires c κs = search needs
 
 same-length : tie.Need-same-length
 same-length c = search needs
 
 returns : tie.Need-returns
-returns c =
-    let s = c .before .before .before .before .before .before .before in
-    let a = s .args in
-    c .before .before .copy-run .ensures
-    ∙ one-run (a .unitsize) (a .pre) (a .n) (now (a .ring)) (a .place) (now (a .bytes)) (omega arith) (s .pre .slots) (s .pre .samples)
+returns c = search needs
 
 returns-2 : tie.Need-returns-2
 returns-2 c =
@@ -49,9 +38,7 @@ ring-write-spec =
     tie.close
     (tie.spec
     sub-if1
-    mul-copy-run
-    mul-copy-run-2
-    copy-run-requires
+    write-ahead-requires
     same-length
     returns
     returns-2

@@ -4,11 +4,13 @@ use mathlib.Core.Path.{ap, _∙_}
 use native.Mathlib.Nat.{mul-le-mul-right}
 use native.Mathlib.Omega.{arith}
 use denote.Ref.{now}
+use borrow.Author.Needs.{needs}
 use Rattle.rules.specs.Node.{chunk}
 use Rattle.rules.specs.Walk.{Walked, backward, walkFrom, allLevels}
 use Rattle.rules.specs.Answer.{given}
 use Rattle.node.specs.Memory.{levelOf, readerOf}
-use Rattle.search.proofs.Part.{bytes-held, bytes-less, stored-value, stored-part, part-behind}
+use Rattle.find.proofs.Part.{bytes-held, bytes-less}
+use Rattle.search.proofs.Part.{stored-value, stored-part, part-behind}
 use Rattle.search.proofs.chunk_back.Statement.{statement}
 use Rattle.search.proofs.chunk_back.Tie as tie
 
@@ -33,38 +35,42 @@ mul-e c =
     let s = c .before .before .before .before .before .before .before in
     omega (arith, bytes-less (s .args .unitsize) (s .args .len) (c .before .chunk-end .result) (now (s .args .samples)) (s .pre .0 .bytes) (omega arith) .room)
 
-sub-find-back : tie.Need-sub-find-back
-sub-find-back c =
+sub-find : tie.Need-sub-find
+sub-find c =
     let s = c .before .before .before .before .before .before .before in
     mul-le-mul-right (s .args .unitsize) (omega arith)
 
-part-find-back-start : tie.Need-part-find-back-start
-part-find-back-start c =
+part-find-start : tie.Need-part-find-start
+part-find-start c =
     let s = c .before .before .before .before .before .before .before in
     mul-le-mul-right (s .args .unitsize) (omega arith)
 
-part-find-back-end : tie.Need-part-find-back-end
-part-find-back-end c =
+part-find-end : tie.Need-part-find-end
+part-find-end c =
     let s = c .before .before .before .before .before .before .before in
     bytes-less (s .args .unitsize) (s .args .len) (c .before .chunk-end .result) (now (s .args .samples)) (s .pre .0 .bytes) (omega arith) .room
 
-find-back-requires : tie.Need-find-back-requires
-find-back-requires c κs =
+find-requires : tie.Need-find-requires
+find-requires c κs =
     let h = c .before .before in
     let s = h .before .before .before .before .before .before in
-    (stored-part (s .args .unitsize) (s .args .len) (now (s .args .samples)) (levelOf (now (s .args .l1)) (now (s .args .l2)) (now (s .args .l3)) (now (s .args .l4))) (s .pre .0) (s .args .ci * chunk) (h .chunk-end .result) (omega arith) (omega arith), omega arith)
+    (stored-part (s .args .unitsize) (s .args .len) (now (s .args .samples)) (levelOf (now (s .args .l1)) (now (s .args .l2)) (now (s .args .l3)) (now (s .args .l4))) (s .pre .0) (s .args .ci * chunk) (h .chunk-end .result) (omega arith) (omega arith), omega arith, omega arith)
+
+given-requires : tie.Need-given-requires
+given-requires c κs = search needs
 
 returns : tie.Need-returns
 returns c =
-    let v = c .before .before in
+    let v = c .before .before .before in
     let h = v .before in
     let s = h .before .before .before .before .before .before in
     let a = s .args in
     let lv = levelOf (now (a .l1)) (now (a .l2)) (now (a .l3)) (now (a .l4)) in
-    c .find-back .ensures
+    c .given .ensures
+    ∙ ap given (c .before .find .ensures)
     ∙ ap (λ (r : Walked). given (r .found)) (part-behind (a .ci * chunk) (h .chunk-end .result) (a .unitsize) (now (a .samples)) lv allLevels (a .mask) (a .at) (v .get .result) (omega arith))
     ∙ ap (λ (x : ℕ). given (walkFrom (backward allLevels (readerOf (a .unitsize) (now (a .samples)) lv) (a .ci * chunk)) (a .mask) (a .at) x .found))
     (stored-value (a .unitsize) (a .len) (now (a .samples)) lv (s .pre .0) (a .at) (v .get .result) (v .get .ensures))
 
 pub chunk-back-spec : {M : Type 1} → statement M
-chunk-back-spec = tie.close (tie.spec mul-base chunk-end-requires get-requires mul-a mul-e sub-find-back part-find-back-start part-find-back-end find-back-requires returns)
+chunk-back-spec = tie.close (tie.spec mul-base chunk-end-requires get-requires mul-a mul-e sub-find part-find-start part-find-end find-requires given-requires returns)

@@ -4,11 +4,13 @@ use mathlib.Core.Path.{ap, ap₂, _∙_}
 use native.Mathlib.Nat.{mul-le-mul-right}
 use native.Mathlib.Omega.{arith}
 use denote.Ref.{now}
+use borrow.Author.Needs.{needs}
 use Rattle.rules.specs.Node.{chunk}
 use Rattle.rules.specs.Walk.{Walked, forward, walkFrom, allLevels}
 use Rattle.rules.specs.Answer.{given}
 use Rattle.node.specs.Memory.{levelOf, readerOf}
-use Rattle.search.proofs.Part.{bytes-held, bytes-less, stored-value, stored-part, part-ahead}
+use Rattle.find.proofs.Part.{bytes-held, bytes-less}
+use Rattle.search.proofs.Part.{stored-value, stored-part, part-ahead}
 use Rattle.search.proofs.chunk_fwd.Statement.{statement}
 use Rattle.search.proofs.chunk_fwd.Tie as tie
 
@@ -36,38 +38,42 @@ mul-e c =
     let s = c .before .before .before .before .before .before .before in
     omega (arith, bytes-less (s .args .unitsize) (s .args .len) (c .before .chunk-end .result) (now (s .args .samples)) (s .pre .0 .bytes) (omega arith) .room)
 
-sub-find-fwd : tie.Need-sub-find-fwd
-sub-find-fwd c =
+sub-find : tie.Need-sub-find
+sub-find c =
     let s = c .before .before .before .before .before .before .before in
     mul-le-mul-right (s .args .unitsize) (omega arith)
 
-part-find-fwd-start : tie.Need-part-find-fwd-start
-part-find-fwd-start c =
+part-find-start : tie.Need-part-find-start
+part-find-start c =
     let s = c .before .before .before .before .before .before .before in
     mul-le-mul-right (s .args .unitsize) (omega arith)
 
-part-find-fwd-end : tie.Need-part-find-fwd-end
-part-find-fwd-end c =
+part-find-end : tie.Need-part-find-end
+part-find-end c =
     let s = c .before .before .before .before .before .before .before in
     bytes-less (s .args .unitsize) (s .args .len) (c .before .chunk-end .result) (now (s .args .samples)) (s .pre .0 .bytes) (omega arith) .room
 
-find-fwd-requires : tie.Need-find-fwd-requires
-find-fwd-requires c κs =
+find-requires : tie.Need-find-requires
+find-requires c κs =
     let h = c .before .before in
     let s = h .before .before .before .before .before .before in
-    (stored-part (s .args .unitsize) (s .args .len) (now (s .args .samples)) (levelOf (now (s .args .l1)) (now (s .args .l2)) (now (s .args .l3)) (now (s .args .l4))) (s .pre .0) (s .args .ci * chunk) (h .chunk-end .result) (omega arith) (omega arith), omega arith)
+    (stored-part (s .args .unitsize) (s .args .len) (now (s .args .samples)) (levelOf (now (s .args .l1)) (now (s .args .l2)) (now (s .args .l3)) (now (s .args .l4))) (s .pre .0) (s .args .ci * chunk) (h .chunk-end .result) (omega arith) (omega arith), omega arith, omega arith)
+
+given-requires : tie.Need-given-requires
+given-requires c κs = search needs
 
 returns : tie.Need-returns
 returns c =
-    let v = c .before .before in
+    let v = c .before .before .before in
     let h = v .before in
     let s = h .before .before .before .before .before .before in
     let a = s .args in
     let lv = levelOf (now (a .l1)) (now (a .l2)) (now (a .l3)) (now (a .l4)) in
-    c .find-fwd .ensures
+    c .given .ensures
+    ∙ ap given (c .before .find .ensures)
     ∙ ap (λ (r : Walked). given (r .found)) (part-ahead (a .ci * chunk) (h .chunk-end .result) (a .unitsize) (now (a .samples)) lv allLevels (a .mask) (a .lo) (v .get .result) (omega arith))
     ∙ ap₂ (λ (hi x : ℕ). given (walkFrom (forward allLevels (readerOf (a .unitsize) (now (a .samples)) lv) hi) (a .mask) (a .lo) x .found)) (h .chunk-end .ensures)
     (stored-value (a .unitsize) (a .len) (now (a .samples)) lv (s .pre .0) (a .lo - 1) (v .get .result) (v .get .ensures))
 
 pub chunk-fwd-spec : {M : Type 1} → statement M
-chunk-fwd-spec = tie.close (tie.spec mul-base chunk-end-requires sub-get get-requires mul-a mul-e sub-find-fwd part-find-fwd-start part-find-fwd-end find-fwd-requires returns)
+chunk-fwd-spec = tie.close (tie.spec mul-base chunk-end-requires sub-get get-requires mul-a mul-e sub-find part-find-start part-find-end find-requires given-requires returns)

@@ -1,89 +1,50 @@
--- `search::next_from` meets its contract: the loop follows the walk chunk by chunk. Assumes nothing.
-use Prim.Native.Nat.{_+_, _-_, _*_, _≤_, _<_}
-use mathlib.Core.Path.{ap}
+-- `search::next_from` meets its contract: what is near is the find of the first chunk. Assumes nothing.
+use mathlib.Core.Path.{ap, _∙_}
 use native.Mathlib.Omega.{arith}
-use denote.Ref.{now}
 use borrow.Author.Needs.{needs}
-use Rattle.rules.specs.Node.{chunk}
-use Rattle.rules.specs.Walk.{ahead, chunksFor, nextWalk, allLevels}
+use denote.Ref.{now}
 use Rattle.rules.specs.Answer.{given}
-use Rattle.node.specs.Memory.{levelOf, readerOf}
-use Rattle.search.proofs.Chunks.{Coursing, next-starts, not-nothing, coursing-found, coursing-on, coursing-end}
+use Rattle.node.specs.Memory.{levelOf}
+use Rattle.find.specs.Way.{placeOf}
+use Rattle.find.proofs.Part.{bytes-held}
+use Rattle.search.proofs.Chunks.{chunk-place}
+use Rattle.search.proofs.Near.{near-next}
 use Rattle.search.proofs.next_from.Statement.{statement}
 use Rattle.search.proofs.next_from.Tie as tie
 
-abbrev Inv-loop : tie.InvT-loop
-Inv-loop samples l1 l2 l3 l4 unitsize len mask from end lo₀ ci₀ lo ci =
-    let reader = readerOf unitsize samples (levelOf l1 l2 l3 l4) in
-    Coursing (ahead allLevels reader len) mask (nextWalk allLevels reader len mask from .found) (chunksFor len - ci) ci lo (reader 0 (lo - 1) .first) × (1 ≤ lo) × (ci * chunk ≤ lo) × (ci * chunk < len → lo ≤ len)
-
-abbrev μ-loop : tie.MeasureT-loop
-μ-loop samples l1 l2 l3 l4 unitsize len mask from end lo₀ ci₀ lo ci = chunksFor len - ci
-
-sub-end : tie.Need-sub-end Inv-loop μ-loop
-sub-end c = omega arith
-
-add-end : tie.Need-add-end Inv-loop μ-loop
-add-end c = omega arith
-
-add-lo : tie.Need-add-lo Inv-loop μ-loop
-add-lo c = omega arith
-
-loop-holds : tie.Need-loop-holds Inv-loop μ-loop
-loop-holds c =
+get-requires : tie.Need-get-requires
+get-requires c κs =
     let s = c .before .before .before .before .before in
-    let a = s .args in
-    (next-starts allLevels (readerOf (a .unitsize) (now (a .samples)) (levelOf (now (a .l1)) (now (a .l2)) (now (a .l3)) (now (a .l4)))) (a .mask) (a .len) (a .from) (s .pre .1), omega arith, omega arith, λ h. omega arith)
+    bytes-held (s .args .unitsize) (s .args .len) (s .args .from) (now (s .args .samples)) (s .pre .0 .bytes) (omega arith)
 
-chunk-fwd-requires : tie.Need-chunk-fwd-requires Inv-loop μ-loop
-chunk-fwd-requires c κs =
-    let s = c .before .before .before .before .before .before .before in
-    (s .pre .0, record { starts = omega arith; low = omega arith; first = omega arith; high = c .before .loop .inv .3 (omega arith) })
+add-near : tie.Need-add-near
+add-near c = omega arith
 
-enum-told : tie.Need-enum-told Inv-loop μ-loop
+near-requires : tie.Need-near-requires
+near-requires c κs = (c .before .before .before .before .before .before .pre .0 .bytes, omega arith)
+
+enum-told : tie.Need-enum-told
 enum-told c = search needs
 
-returns : tie.Need-returns Inv-loop μ-loop
+enum-told-2 : tie.Need-enum-told-2
+enum-told-2 c = search needs
+
+given-requires : tie.Need-given-requires
+given-requires c κs = search needs
+
+returns : tie.Need-returns
 returns c =
-    let p = c .before .before .before .loop in
-    let s = c .before .before .before .before .before .before .before .before .before in
-    let f = c .before .chunk-fwd in
-    coursing-found (p .inv .0) (f .result) (chunksFor (s .args .len) - (p .ci + 1)) (omega arith) (f .ensures) (not-nothing (f .result) (c .match .keys2))
+    let n = c .before .before .before in
+    let s = n .before .before .before .before .before .before .before in
+    let a = s .args in
+    c .given .ensures
+    ∙ ap given (near-next (a .unitsize) (a .len) (now (a .samples)) (now (a .l1)) (levelOf (now (a .l1)) (now (a .l2)) (now (a .l3)) (now (a .l4))) (a .mask) (n .before .get .result) (placeOf (n .near .result)) (chunk-place (n .near .result) (c .before .before .match .keys2)) (a .from) (s .pre .1) (n .before .get .ensures) (n .near .ensures))
 
-add-ci : tie.Need-add-ci Inv-loop μ-loop
-add-ci c = omega arith
+chunks-fwd-requires : tie.Need-chunks-fwd-requires
+chunks-fwd-requires c κs = search needs
 
-mul-lo : tie.Need-mul-lo Inv-loop μ-loop
-mul-lo c = omega arith
-
-loop-less : tie.Need-loop-less Inv-loop μ-loop
-loop-less c = omega arith
-
-loop-again : tie.Need-loop-again Inv-loop μ-loop
-loop-again c =
-    let p = c .before .before .before .before .loop in
-    let s = c .before .before .before .before .before .before .before .before .before .before in
-    let f = c .before .before .chunk-fwd in
-    (coursing-on (p .inv .0) (f .result) (chunksFor (s .args .len) - (p .ci + 1)) (omega arith) (f .ensures) (c .enum-told .given .1), omega arith, omega arith, λ h. omega arith)
-
-returns-2 : tie.Need-returns-2 Inv-loop μ-loop
-returns-2 c = ap given (coursing-end (c .before .loop .inv .0) (omega arith))
+returns-2 : tie.Need-returns-2
+returns-2 c = c .chunks-fwd .ensures
 
 pub next-from-spec : {M : Type 1} → statement M
-next-from-spec =
-    tie.close
-    (tie.spec
-    Inv-loop
-    μ-loop
-    sub-end
-    add-end
-    add-lo
-    loop-holds
-    chunk-fwd-requires
-    enum-told
-    returns
-    add-ci
-    mul-lo
-    loop-less
-    loop-again
-    returns-2)
+next-from-spec = tie.close (tie.spec get-requires add-near near-requires enum-told enum-told-2 given-requires returns chunks-fwd-requires returns-2)

@@ -1,0 +1,162 @@
+-- A recorder that waits is refused by no row, and a push whose samples do not fire is a case of push.
+use mathlib.Core.Path.{_≡_, refl, sym, ap, ap₂, _∙_, subst}
+use mathlib.Core.Bool.{Bool, true, false}
+use mathlib.Core.List.{List, [], _∷_}
+use mathlib.Core.Option.{Option, none, some}
+use Prim.Native.Nat.{ℕ, _+_, _-_, _*_, _/_, _≤_, _<_, min}
+use native.Mathlib.Omega.{arith}
+use borrow.Author.Tests.{eq-eqb, le-ltb}
+use lib.ListN.{length, getD, set}
+use lib.Seq.{sets, set-getD}
+use Rattle.rules.specs.Sample.{sampleOf, countOf, samplesOf}
+use Rattle.rules.specs.Trigger as rule
+use Rattle.rules.specs.Selection.{going-on}
+use Rattle.rules.specs.Refusal.{Store, Lent, Recorder}
+use Rattle.rules.proofs.Refusal.{Sound, SoundRecorder}
+use Rattle.rules.proofs.Sample.{list-length}
+use Rattle.rules.proofs.Trigger.{fire-le}
+use Rattle.ring.specs.Ring.{placeAfter}
+use Rattle.ring.specs.Bytes.{units, ringBytes}
+use Rattle.ring.specs.Push.{Left, waitedFor, firingBytes, takenBytes, pushBytes}
+use Rattle.ring_write.proofs.Place.{place-ahead}
+use Rattle.capture.specs.declared.Mark.{Mark}
+use Rattle.capture.specs.declared.Mark.the-variants.{Absent}
+use Rattle.capture.specs.Record.{markOf, storeOf}
+use Rattle.terms.specs.declared.Masks.{Masks}
+use Rattle.terms.specs.declared.Previous.{Previous}
+use Rattle.terms.specs.Terms.{asMasks, previousOf}
+use Rattle.scan.proofs.Last.{last-some}
+use Rattle.feeder.specs.Record.{armedAs, recorderOf, recorderRefusal}
+use Rattle.feeder.proofs.Rows.{sound-recorder}
+use Rattle.feeder_numbers.specs.Numbers.{markIn, armedIn, previousIn, feederFrom, markedNumber, markNumber, waitsNumber, pushedNumbers}
+use Rattle.feeder_push.specs.Push.{leftOf}
+use Rattle.feeder_wait.specs.Wait.{Waiting, masksOf, FewRoom, FewWent, Untouched, FewAfter, waitedOf, ShortWent, ShortAfter}
+
+-- the room of k samples at a unit v that is known
+pub few-room : (r : List ℕ) (lent : Lent) (g b : ℕ) → Waiting r lent g → getD r 15 0 < getD r 6 0 → (v k : ℕ) → getD r 0 0 ≡ v → k * v ≤ b → 1 ≤ k → k < getD r 6 0 - getD r 15 0 → FewRoom r g b v k
+few-room r lent g b w inside v k ev samples some-samples ahead = record {
+  low = omega (arith, w .store .unit-least);
+  high = omega (arith, w .store .unit-most);
+  some-samples = some-samples;
+  samples = samples;
+  place-inside = inside;
+  pre-most = omega (arith, w .pre-most, w .store .capacity-most);
+  ahead = ahead;
+  kept-most = w .kept-most;
+  slots = subst (λ (x : ℕ). getD r 6 0 * x ≤ g) ev (w .slots);
+}
+
+-- the numbers that the code writes
+pub few-went : (r g b : List ℕ) (u n : ℕ) (masks : Masks) (previous : Previous) (fired last k : ℕ) (g′ : List ℕ) → masks ≡ masksOf r → previous ≡ previousIn (getD r 13 0) (getD r 14 0)
+    → fired ≡ rule.firstFire (asMasks masks) (previousOf previous) (units u n b) → n ≤ fired → last ≡ sampleOf u b (n - 1) → getD r 16 0 ≤ getD r 6 0 → k ≡ min n (getD r 6 0 - getD r 16 0)
+    → g′ ≡ ringBytes u (getD r 6 0) g (getD r 15 0) n b → FewWent r g b u n (sets r 13 (1 ∷ last ∷ (getD r 15 0 + n) ∷ (getD r 16 0 + k) ∷ [])) g′
+few-went r g b u n masks previous fired last k g′ em ep ef most-fired el most ek eg = record {
+  none-fires = ap₂ (λ (m : Masks) (p : Previous). rule.firstFire (asMasks m) (previousOf p) (units u n b)) (sym em) (sym ep) ∙ none;
+  numbers-are = λ i. sets r 13 (1 ∷ el i ∷ (getD r 15 0 + n) ∷ kept i ∷ []);
+  ring-is = eg;
+}
+  where
+    kept : getD r 16 0 + k ≡ min (getD r 6 0) (getD r 16 0 + n)
+    kept = omega arith
+
+    none : rule.firstFire (asMasks masks) (previousOf previous) (units u n b) ≡ n
+    none = omega (arith, fire-le (asMasks masks) (previousOf previous) (units u n b), list-length (sampleOf u b) 0 n)
+
+module _ (r : List ℕ) (lent : Lent) (g b : List ℕ) (w : Waiting r lent (length g)) (inside : getD r 15 0 < getD r 6 0) where
+  abbrev c : Recorder
+  c = recorderOf (feederFrom r)
+
+  abbrev u : ℕ
+  u = getD r 0 0
+
+  -- ---- as it waits
+  no-mark : markIn (getD r 3 0) (getD r 4 0) ≡ Absent
+  no-mark = ap (λ (x : ℕ). markIn x (getD r 4 0)) (w .unmarked)
+
+  store-is : c .store ≡ record { unit = u; capacity = getD r 1 0; len = 0; mark = none }
+  store-is = λ i. record { unit = u; capacity = getD r 1 0; len = w .len i; mark = markOf (no-mark i) }
+
+  armed-is : c .armed ≡ rule.waiting (asMasks (masksOf r))
+  armed-is = ap (λ (x : ℕ). armedAs (armedIn x (masksOf r))) (w .waits)
+
+  -- ---- no row refuses it
+  sound : SoundRecorder c lent (length g)
+  sound = record {
+    store = subst (λ (st : Store). Sound st lent) (sym store-is) (w .store);
+    mark = λ k e. absurd (never k (sym (ap (λ (st : Store). st .mark) store-is) ∙ e));
+    limit-most = w .limit-most;
+    pre-most = w .pre-most;
+    kept-most = w .kept-most;
+    place-inside = omega (arith, inside);
+    len-limit = λ h. omega (arith, w .len);
+    ring = w .slots;
+  }
+    where
+      never : (k : ℕ) → _≡_ {A = Option ℕ} none (some k) → ⊥
+      never k e = let z : _≡_ {A = ℕ} 0 1 = cc in omega arith
+
+  free : recorderRefusal c lent (length g) ≡ 0
+  free = sound-recorder c lent (length g) sound
+
+  -- ---- the numbers that it leaves as they are
+  same-2 : sets r 2 (c .store .len ∷ markedNumber (c .store .mark) ∷ markNumber (c .store .mark) ∷ []) ≡ r
+  same-2 =
+      ap (λ (st : Store). sets r 2 (st .len ∷ markedNumber (st .mark) ∷ markNumber (st .mark) ∷ [])) store-is
+      ∙ (λ i. sets r 2 (sym (w .len) i ∷ sym (w .unmarked) i ∷ sym (w .mark) i ∷ []))
+      ∙ ap (λ (x : List ℕ). set (set x 3 (getD r 3 0)) 4 (getD r 4 0)) (set-getD r 2 0)
+      ∙ ap (λ (x : List ℕ). set x 4 (getD r 4 0)) (set-getD r 3 0)
+      ∙ set-getD r 4 0
+
+  same-7 : sets r 7 (waitsNumber (c .armed) ∷ []) ≡ r
+  same-7 =
+      ap (λ (a : rule.Armed). sets r 7 (waitsNumber a ∷ [])) armed-is
+      ∙ ap (λ (x : ℕ). set r 7 x) (sym (w .waits))
+      ∙ set-getD r 7 0
+
+  -- ---- all its samples, of which none fires
+  module _ (some-samples : 1 ≤ countOf u b) (ahead : countOf u b < getD r 6 0 - getD r 15 0) (new g′ : List ℕ) (d : FewWent r g b u (countOf u b) new g′) where
+    abbrev n : ℕ
+    n = countOf u b
+
+    count : length (samplesOf u b) ≡ n
+    count = list-length (sampleOf u b) 0 n
+
+    left : (s : List ℕ) → leftOf c lent s g b ≡ record { reply = going-on; recorder = waitedOf r b; samples = s; ring = g′ }
+    unfolding leftOf pushBytes
+    left s =
+        rw (eq-eqb (recorderRefusal c lent (length g)) 0 free)
+        (ap (λ (a : rule.Armed). takenBytes a c s g b) armed-is
+        ∙ ap (firingBytes c s g b n) (d .none-fires)
+        ∙ rw (le-ltb n n (omega arith)) (ap (λ (x : List ℕ). record { reply = going-on; recorder = waitedOf r b; samples = s; ring = x }) (sym (d .ring-is))))
+
+    numbers : new ≡ pushedNumbers (waitedOf r b) r
+    numbers =
+        d .numbers-are
+        ∙ (λ i. sets r 13 (markedNumber (previous i) ∷ markNumber (previous i) ∷ place i ∷ kept i ∷ []))
+        ∙ ap (λ (x : List ℕ). put x) (sym (ap (λ (x : List ℕ). sets x 7 (waitsNumber (c .armed) ∷ [])) same-2 ∙ same-7))
+      where
+        previous : some (sampleOf u b (n - 1)) ≡ rule.lastOf (c .previous) (samplesOf u b)
+        previous = last-some (sampleOf u b) (c .previous) n some-samples
+
+        place : getD r 15 0 + n ≡ placeAfter (getD r 6 0) (getD r 15 0) (length (samplesOf u b))
+        place = place-ahead (getD r 6 0) (getD r 15 0) n (omega (arith, inside)) ahead ∙ ap (placeAfter (getD r 6 0) (getD r 15 0)) (sym count)
+
+        kept : min (getD r 6 0) (getD r 16 0 + n) ≡ min (getD r 6 0) (getD r 16 0 + length (samplesOf u b))
+        kept = ap (λ (k : ℕ). min (getD r 6 0) (getD r 16 0 + k)) (sym count)
+
+        put : List ℕ → List ℕ
+        put x =
+            sets x 13
+            (markedNumber (rule.lastOf (c .previous) (samplesOf u b)) ∷ markNumber (rule.lastOf (c .previous) (samplesOf u b)) ∷ placeAfter (getD r 6 0) (getD r 15 0) (length (samplesOf u b)) ∷ min (getD r 6 0) (getD r 16 0 + length (samplesOf u b)) ∷ [])
+
+    went : ShortWent r lent g b new g′
+    went = record { left-is = left; numbers-are = numbers }
+
+  -- at a unit v and a count k that are known
+  pub short-is : (v k : ℕ) → u ≡ v → k ≡ length b / v → 1 ≤ k → k < getD r 6 0 - getD r 15 0 → (new g′ : List ℕ) (t : Bool) → FewAfter t r g b v k new g′ → ShortAfter t r lent g b new g′
+  short-is v k ev ek some-samples ahead new g′ true d =
+      went (subst (λ (x : ℕ). 1 ≤ x) same some-samples) (subst (λ (x : ℕ). x < getD r 6 0 - getD r 15 0) same ahead) new g′ (subst (λ (x : ℕ). FewWent r g b x (countOf u b) new g′) (sym ev) (subst (λ (x : ℕ). FewWent r g b v x new g′) same d))
+    where
+      same : k ≡ countOf u b
+      same = ek ∙ ap (λ (x : ℕ). length b / x) (sym ev)
+  short-is v k ev ek some-samples ahead new g′ false d = d

@@ -1,0 +1,77 @@
+-- What a short push of a recorder that waits asks, and what it leaves, over the recorder's numbers (Rattle.feeder_numbers.specs.Numbers).
+use mathlib.Core.Path.{_≡_}
+use mathlib.Core.Bool.{Bool, true, false}
+use mathlib.Core.List.{List, [], _∷_}
+use mathlib.Core.Option.{none}
+use Prim.Native.Nat.{ℕ, _+_, _-_, _*_, _≤_, _<_, min}
+use lib.ListN.{length, getD}
+use lib.Seq.{sets}
+use Rattle.rules.specs.Sample.{sampleOf, samplesOf}
+use Rattle.rules.specs.Trigger.{firstFire}
+use Rattle.rules.specs.Selection.{going-on}
+use Rattle.rules.specs.Refusal.{Lent, Recorder, mostSamples}
+use Rattle.rules.proofs.Refusal.{Sound}
+use Rattle.ring.specs.Bytes.{units, ringBytes}
+use Rattle.ring.specs.Push.{waitedFor}
+use Rattle.terms.specs.declared.Masks.{Masks}
+use Rattle.terms.specs.Terms.{asMasks, previousOf}
+use Rattle.feeder.specs.Record.{recorderOf}
+use Rattle.feeder_numbers.specs.Numbers.{masksIn, previousIn, feederFrom, pushedNumbers}
+use Rattle.feeder_push.specs.Push.{leftOf}
+
+-- the recorder waits, nothing is stored and there is no mark; rows 1 and 2 do not hold, but for the ring's place
+pub record Waiting (numbers : List ℕ) (lent : Lent) (ring : ℕ) : Type 0 where
+  pub waits : getD numbers 7 0 ≡ 1
+  pub len : getD numbers 2 0 ≡ 0
+  pub unmarked : getD numbers 3 0 ≡ 0
+  pub mark : getD numbers 4 0 ≡ 0
+  pub store : Sound (record { unit = getD numbers 0 0; capacity = getD numbers 1 0; len = 0; mark = none }) lent
+  pub limit-most : getD numbers 5 0 ≤ getD numbers 1 0
+  pub pre-most : getD numbers 6 0 < getD numbers 1 0
+  pub kept-most : getD numbers 16 0 ≤ getD numbers 6 0
+  pub slots : getD numbers 6 0 * getD numbers 0 0 ≤ ring
+
+-- ---- n samples of a unit
+abbrev pub masksOf : List ℕ → Masks
+masksOf r = masksIn (getD r 8 0) (getD r 9 0) (getD r 10 0) (getD r 11 0) (getD r 12 0)
+
+-- there are some, the bytes hold them, and they do not reach the ring's end
+pub record FewRoom (numbers : List ℕ) (ring bytes unit n : ℕ) : Type 0 where
+  pub low : 1 ≤ unit
+  pub high : unit ≤ 2
+  pub some-samples : 1 ≤ n
+  pub samples : n * unit ≤ bytes
+  pub place-inside : getD numbers 15 0 < getD numbers 6 0
+  pub pre-most : getD numbers 6 0 ≤ mostSamples
+  pub ahead : n < getD numbers 6 0 - getD numbers 15 0
+  pub kept-most : getD numbers 16 0 ≤ getD numbers 6 0
+  pub slots : getD numbers 6 0 * unit ≤ ring
+
+-- none fires; they went to the ring, and previous sample, place and kept count are theirs
+pub record FewWent (numbers ring bytes : List ℕ) (unit n : ℕ) (numbers′ ring′ : List ℕ) : Type 0 where
+  pub none-fires : firstFire (asMasks (masksOf numbers)) (previousOf (previousIn (getD numbers 13 0) (getD numbers 14 0))) (units unit n bytes) ≡ n
+  pub numbers-are : numbers′ ≡ sets numbers 13 (1 ∷ sampleOf unit bytes (n - 1) ∷ (getD numbers 15 0 + n) ∷ min (getD numbers 6 0) (getD numbers 16 0 + n) ∷ [])
+  pub ring-is : ring′ ≡ ringBytes unit (getD numbers 6 0) ring (getD numbers 15 0) n bytes
+
+-- or nothing is written
+pub record Untouched (numbers ring numbers′ ring′ : List ℕ) : Type 0 where
+  pub numbers-same : numbers′ ≡ numbers
+  pub ring-same : ring′ ≡ ring
+
+abbrev pub FewAfter : Bool → List ℕ → List ℕ → List ℕ → ℕ → ℕ → List ℕ → List ℕ → Type 0
+FewAfter true numbers ring bytes unit n numbers′ ring′ = FewWent numbers ring bytes unit n numbers′ ring′
+FewAfter false numbers ring bytes unit n numbers′ ring′ = Untouched numbers ring numbers′ ring′
+
+-- ---- a push
+-- the recorder once the samples of the bytes went to the ring
+abbrev pub waitedOf : List ℕ → List ℕ → Recorder
+waitedOf numbers bytes = waitedFor (recorderOf (feederFrom numbers)) (samplesOf (getD numbers 0 0) bytes)
+
+-- what a push leaves, over any sample memory s: it goes on
+pub record ShortWent (numbers : List ℕ) (lent : Lent) (ring bytes numbers′ ring′ : List ℕ) : Type 0 where
+  pub left-is : (s : List ℕ) → leftOf (recorderOf (feederFrom numbers)) lent s ring bytes ≡ record { reply = going-on; recorder = waitedOf numbers bytes; samples = s; ring = ring′ }
+  pub numbers-are : numbers′ ≡ pushedNumbers (waitedOf numbers bytes) numbers
+
+abbrev pub ShortAfter : Bool → List ℕ → Lent → List ℕ → List ℕ → List ℕ → List ℕ → Type 0
+ShortAfter true numbers lent ring bytes numbers′ ring′ = ShortWent numbers lent ring bytes numbers′ ring′
+ShortAfter false numbers lent ring bytes numbers′ ring′ = Untouched numbers ring numbers′ ring′

@@ -1,0 +1,5 @@
+pub mod Part
+pub mod Run
+pub mod Way
+pub mod Takes
+pub mod Near

@@ -1,0 +1,89 @@
+-- `search::chunks_fwd` meets its contract: the loop follows the walk chunk by chunk. Assumes nothing.
+use Prim.Native.Nat.{_+_, _-_, _*_, _≤_, _<_}
+use mathlib.Core.Path.{ap}
+use native.Mathlib.Omega.{arith}
+use denote.Ref.{now}
+use borrow.Author.Needs.{needs}
+use Rattle.rules.specs.Node.{chunk}
+use Rattle.rules.specs.Walk.{ahead, chunksFor, nextWalk, allLevels}
+use Rattle.rules.specs.Answer.{given}
+use Rattle.node.specs.Memory.{levelOf, readerOf}
+use Rattle.search.proofs.Chunks.{Coursing, next-starts, not-nothing, coursing-found, coursing-on, coursing-end}
+use Rattle.search.proofs.chunks_fwd.Statement.{statement}
+use Rattle.search.proofs.chunks_fwd.Tie as tie
+
+abbrev Inv-loop : tie.InvT-loop
+Inv-loop samples l1 l2 l3 l4 unitsize len mask from end lo₀ ci₀ lo ci =
+    let reader = readerOf unitsize samples (levelOf l1 l2 l3 l4) in
+    Coursing (ahead allLevels reader len) mask (nextWalk allLevels reader len mask from .found) (chunksFor len - ci) ci lo (reader 0 (lo - 1) .first) × (1 ≤ lo) × (ci * chunk ≤ lo) × (lo ≤ (ci + 1) * chunk) × (ci * chunk < len → lo ≤ len)
+
+abbrev μ-loop : tie.MeasureT-loop
+μ-loop samples l1 l2 l3 l4 unitsize len mask from end lo₀ ci₀ lo ci = chunksFor len - ci
+
+sub-end : tie.Need-sub-end Inv-loop μ-loop
+sub-end c = omega arith
+
+add-end : tie.Need-add-end Inv-loop μ-loop
+add-end c = omega arith
+
+add-lo : tie.Need-add-lo Inv-loop μ-loop
+add-lo c = omega arith
+
+loop-holds : tie.Need-loop-holds Inv-loop μ-loop
+loop-holds c =
+    let s = c .before .before .before .before .before in
+    let a = s .args in
+    (next-starts allLevels (readerOf (a .unitsize) (now (a .samples)) (levelOf (now (a .l1)) (now (a .l2)) (now (a .l3)) (now (a .l4)))) (a .mask) (a .len) (a .from) (s .pre .1), omega arith, omega arith, omega arith, λ h. omega arith)
+
+chunk-fwd-requires : tie.Need-chunk-fwd-requires Inv-loop μ-loop
+chunk-fwd-requires c κs =
+    let s = c .before .before .before .before .before .before .before in
+    (s .pre .0, record { starts = omega arith; low = omega arith; high = omega arith; first = omega arith; stored = c .before .loop .inv .4 (omega arith) })
+
+enum-told : tie.Need-enum-told Inv-loop μ-loop
+enum-told c = search needs
+
+returns : tie.Need-returns Inv-loop μ-loop
+returns c =
+    let p = c .before .before .before .loop in
+    let s = c .before .before .before .before .before .before .before .before .before in
+    let f = c .before .chunk-fwd in
+    coursing-found (p .inv .0) (chunksFor (s .args .len) - (p .ci + 1)) (omega arith) (f .result) (f .ensures) (not-nothing (f .result) (c .match .keys2))
+
+add-ci : tie.Need-add-ci Inv-loop μ-loop
+add-ci c = omega arith
+
+mul-lo : tie.Need-mul-lo Inv-loop μ-loop
+mul-lo c = omega arith
+
+loop-less : tie.Need-loop-less Inv-loop μ-loop
+loop-less c = omega arith
+
+loop-again : tie.Need-loop-again Inv-loop μ-loop
+loop-again c =
+    let p = c .before .before .before .before .loop in
+    let s = c .before .before .before .before .before .before .before .before .before .before in
+    let f = c .before .before .chunk-fwd in
+    (coursing-on (p .inv .0) (chunksFor (s .args .len) - (p .ci + 1)) (omega arith) (f .result) (f .ensures) (c .enum-told .given .1), omega arith, omega arith, omega arith, λ h. omega arith)
+
+returns-2 : tie.Need-returns-2 Inv-loop μ-loop
+returns-2 c = ap given (coursing-end (c .before .loop .inv .0) (omega arith))
+
+pub chunks-fwd-spec : {M : Type 1} → statement M
+chunks-fwd-spec =
+    tie.close
+    (tie.spec
+    Inv-loop
+    μ-loop
+    sub-end
+    add-end
+    add-lo
+    loop-holds
+    chunk-fwd-requires
+    enum-told
+    returns
+    add-ci
+    mul-lo
+    loop-less
+    loop-again
+    returns-2)
