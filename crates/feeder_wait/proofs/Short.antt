@@ -5,7 +5,8 @@ use mathlib.Core.List.{List, [], _∷_}
 use mathlib.Core.Option.{Option, none, some}
 use Prim.Native.Nat.{ℕ, _+_, _-_, _*_, _/_, _≤_, _<_, min}
 use native.Mathlib.Omega.{arith}
-use borrow.Author.Tests.{eq-eqb, le-ltb}
+use borrow.Author.Tests.{eq-eqb, le-ltb, ltb-false}
+use lib.Dec.{ltb}
 use lib.ListN.{length, getD, set}
 use lib.Seq.{sets, set-getD}
 use Rattle.rules.specs.Sample.{sampleOf, countOf, samplesOf}
@@ -47,10 +48,10 @@ few-room r lent g b w inside v k ev samples some-samples ahead = record {
 }
 
 -- the numbers that the code writes
-pub few-went : (r g b : List ℕ) (u n : ℕ) (masks : Masks) (previous : Previous) (fired last k : ℕ) (g′ : List ℕ) → masks ≡ masksOf r → previous ≡ previousIn (getD r 13 0) (getD r 14 0)
-    → fired ≡ rule.firstFire (asMasks masks) (previousOf previous) (units u n b) → n ≤ fired → last ≡ sampleOf u b (n - 1) → getD r 16 0 ≤ getD r 6 0 → k ≡ min n (getD r 6 0 - getD r 16 0)
+pub few-went : (r g b : List ℕ) (u n : ℕ) (masks : Masks) (previous : Previous) (last k : ℕ) (g′ : List ℕ) → masks ≡ masksOf r → previous ≡ previousIn (getD r 13 0) (getD r 14 0)
+    → ltb (rule.firstFire (asMasks masks) (previousOf previous) (units u n b)) n ≡ false → last ≡ sampleOf u b (n - 1) → getD r 16 0 ≤ getD r 6 0 → k ≡ min n (getD r 6 0 - getD r 16 0)
     → g′ ≡ ringBytes u (getD r 6 0) g (getD r 15 0) n b → FewWent r g b u n (sets r 13 (1 ∷ last ∷ (getD r 15 0 + n) ∷ (getD r 16 0 + k) ∷ [])) g′
-few-went r g b u n masks previous fired last k g′ em ep ef most-fired el most ek eg = record {
+few-went r g b u n masks previous last k g′ em ep quiet el most ek eg = record {
   none-fires = ap₂ (λ (m : Masks) (p : Previous). rule.firstFire (asMasks m) (previousOf p) (units u n b)) (sym em) (sym ep) ∙ none;
   numbers-are = λ i. sets r 13 (1 ∷ el i ∷ (getD r 15 0 + n) ∷ kept i ∷ []);
   ring-is = eg;
@@ -60,7 +61,7 @@ few-went r g b u n masks previous fired last k g′ em ep ef most-fired el most 
     kept = omega arith
 
     none : rule.firstFire (asMasks masks) (previousOf previous) (units u n b) ≡ n
-    none = omega (arith, fire-le (asMasks masks) (previousOf previous) (units u n b), list-length (sampleOf u b) 0 n)
+    none = omega (arith, fire-le (asMasks masks) (previousOf previous) (units u n b), list-length (sampleOf u b) 0 n, ltb-false _ n quiet)
 
 module _ (r : List ℕ) (lent : Lent) (g b : List ℕ) (w : Waiting r lent (length g)) (inside : getD r 15 0 < getD r 6 0) where
   abbrev c : Recorder

@@ -3,7 +3,7 @@ use mathlib.Core.Path.{_≡_}
 use mathlib.Core.Bool.{Bool, true, false}
 use mathlib.Core.List.{List, [], _∷_}
 use mathlib.Core.Option.{none}
-use Prim.Native.Nat.{ℕ, _+_, _-_, _*_, _≤_, _<_, min}
+use Prim.Native.Nat.{ℕ, _+_, _-_, _*_, _/_, _≤_, _<_, min}
 use lib.ListN.{length, getD}
 use lib.Seq.{sets}
 use Rattle.rules.specs.Sample.{sampleOf, samplesOf}
@@ -34,6 +34,13 @@ pub record Waiting (numbers : List ℕ) (lent : Lent) (ring : ℕ) : Type 0 wher
 -- ---- n samples of a unit
 abbrev pub masksOf : List ℕ → Masks
 masksOf r = masksIn (getD r 8 0) (getD r 9 0) (getD r 10 0) (getD r 11 0) (getD r 12 0)
+
+-- the samples in len bytes
+pub record Count (unit len n : ℕ) : Type 0 where
+  pub is : n ≡ len / unit
+  pub held : n * unit ≤ len
+  pub most : n ≤ len
+  pub least : len ≤ n * 2 + 1
 
 -- there are some, the bytes hold them, and they do not reach the ring's end
 pub record FewRoom (numbers : List ℕ) (ring bytes unit n : ℕ) : Type 0 where

@@ -7,13 +7,14 @@ use feeder_numbers::masks_in;
 use feeder_numbers::previous_in;
 use lines::get;
 use ring_write::write_ahead;
-use scan::fire_few;
+use scan::few_fire;
 use store::lesser;
 ghost use mathlib.Core.Path.{_≡_};
 ghost use mathlib.Core.Bool.{true};
+ghost use Prim.Native.Nat.{_≤_};
 ghost use lib.ListN.{length};
 ghost use Rattle.capture.specs.Record.{lentNumbers};
-ghost use Rattle.feeder_wait.specs.Wait.{Waiting, FewRoom, FewAfter, ShortAfter};
+ghost use Rattle.feeder_wait.specs.Wait.{Waiting, Count, FewRoom, FewAfter, ShortAfter};
 
 const MOST_SAMPLES: usize = 67108864;
 
@@ -84,7 +85,7 @@ fn wait_few(
         numbers[12],
     );
     let prev = previous_in(numbers[13], numbers[14]);
-    if fire_few(masks, prev, bytes, unitsize, n) < n {
+    if few_fire(masks, prev, bytes, unitsize, n) {
         return false;
     }
     let pre = numbers[6];
@@ -97,6 +98,14 @@ fn wait_few(
     numbers[15] = place + n;
     numbers[16] = kept + lesser(n, pre - kept);
     true
+}
+
+// The whole samples in len bytes; a division would take longer.
+fn count_in(unitsize: usize, len: usize) -> usize
+    requires { ⌜ (1 ≤ unitsize) × (unitsize ≤ 2) ⌝ }
+    ensures { λ r. ⌜ Count unitsize len r ⌝ }
+{
+    if unitsize == 1 { len } else { len / 2 }
 }
 
 // Fewer bytes than this are a short push.
@@ -123,6 +132,9 @@ pub fn wait_short(
     if SHORT <= len {
         return false;
     }
+    if len < 2 {
+        return false;
+    }
     let pre = numbers[6];
     let place = numbers[15];
     if pre <= place {
@@ -131,12 +143,7 @@ pub fn wait_short(
     if pre - place <= len {
         return false;
     }
-    if len < 2 {
-        return false;
-    }
-    // The unit is a number in each branch, so that each gets its own loops.
-    if numbers[0] == 1 {
-        return wait_few(numbers, ring, bytes, 1, len);
-    }
-    wait_few(numbers, ring, bytes, 2, len / 2)
+    let unitsize = numbers[0];
+    let n = count_in(unitsize, len);
+    wait_few(numbers, ring, bytes, unitsize, n)
 }

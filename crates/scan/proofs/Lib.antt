@@ -3,3 +3,4 @@ pub mod Last
 pub mod Lines
 pub mod Fire
 pub mod Answer
+pub mod Level

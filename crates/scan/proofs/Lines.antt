@@ -89,7 +89,7 @@ module _ (m : Masks) where
       x : ℕ
       x = bitXor p v
 
-  matches-same : (p v : ℕ) → rule.matches (masksFor (wantedOf m)) p v ≡ rule.matches (asMasks m) p v
+  pub matches-same : (p v : ℕ) → rule.matches (masksFor (wantedOf m)) p v ≡ rule.matches (asMasks m) p v
   matches-same p v = sym (test-is (wantedOf m) p v) ∙ ap (λ (x : ℕ). eqb x 0) (unmet-same p v) ∙ unmet-none (asMasks m) p v
 
   -- the first sample fires as one that comes after itself

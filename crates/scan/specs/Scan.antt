@@ -1,7 +1,12 @@
 -- What the scan's inner functions ask and promise.
+use mathlib.Core.Bool.{Bool}
+use mathlib.Core.Path.{_≡_}
+use mathlib.Core.List.{List}
 use mathlib.Core.Option.{Option, none, some}
 use Prim.Native.Nat.{ℕ, _+_, _-_, _*_, _≤_}
-use lib.Bits.{bitOr}
+use lib.Bits.{bitAnd, bitOr, bitXor}
+use lib.Dec.{eqb}
+use lib.ListN.{length}
 use Rattle.rules.specs.Sample.{listFrom}
 use Rattle.rules.specs.Trigger as rule
 use Rattle.terms.specs.declared.Masks.{Masks}
@@ -23,6 +28,14 @@ wantedOf m = record {
 
 abbrev pub masksFor : Wanted → rule.Masks
 masksFor w = record { high = w .high; low = w .low; rising = 0; falling = 0; edge = w .edge }
+
+-- v has the levels: of the lines of high and low, 1 in those of high and 0 in those of low
+abbrev pub levelMet : Wanted → ℕ → Bool
+levelMet w v = eqb (bitXor (bitAnd v (bitXor (w .high) (w .low))) (w .high)) 0
+
+-- none of the samples fires, whatever sample came before
+abbrev pub NoneFires : rule.Masks → List ℕ → Type 0
+NoneFires m xs = (q : Option ℕ) → rule.firstFire m q xs ≡ length xs
 
 -- the sample before v, or v itself where there is none
 abbrev pub beforeOr : Option ℕ → ℕ → ℕ

@@ -4,6 +4,7 @@ use lines::get;
 use terms::Masks;
 use terms::Previous;
 ghost use mathlib.Core.Path.{_≡_};
+ghost use mathlib.Core.Bool.{false};
 ghost use Prim.Native.Nat.{_+_, _-_, _≤_, _<_, min};
 ghost use lib.Dec.{ltb};
 ghost use lib.ListN.{length};
@@ -11,7 +12,7 @@ ghost use Rattle.rules.specs.Sample.{sampleOf};
 ghost use Rattle.rules.specs.Trigger.{matches, firstFire, lastOf};
 ghost use Rattle.ring.specs.Bytes.{units};
 ghost use Rattle.terms.specs.Terms.{asMasks, previousOf};
-ghost use Rattle.scan.specs.Scan.{Holds, wantedOf, masksFor, beforeOr, fireFrom};
+ghost use Rattle.scan.specs.Scan.{Holds, wantedOf, masksFor, levelMet, NoneFires, beforeOr, fireFrom};
 
 // What the five masks ask of a sample and the one before it: these lines are 1, these are 0, these differ.
 // Rising is High and Edge on one line, Falling is Low and Edge.
@@ -39,6 +40,13 @@ impl Wanted {
         let levels = (v & (self.high ^ self.low)) ^ self.high;
         let edge = ((prev ^ v) & self.edge) ^ self.edge;
         levels | edge == 0
+    }
+
+    // v has the levels that are asked for: it may fire, after some sample.
+    fn level(self, v: Mask) -> bool
+        ensures { λ r. ⌜ r ≡ levelMet self v ⌝ }
+    {
+        (v & (self.high ^ self.low)) ^ self.high == 0
     }
 }
 
@@ -116,13 +124,40 @@ fn fire_in_blocks(w: Wanted, prev: Mask, bytes: &[u8], unitsize: usize, n: usize
 }
 
 // The first of some samples that fires, one after the other.
-pub fn fire_few(masks: Masks, prev: Previous, bytes: &[u8], unitsize: usize, n: usize) -> usize
+fn fire_few(masks: Masks, prev: Previous, bytes: &[u8], unitsize: usize, n: usize) -> usize
     requires { ⌜ Holds unitsize n (length (now bytes)) × (1 ≤ n) ⌝ }
     ensures { λ r. ⌜ r ≡ firstFire (asMasks masks) (previousOf prev) (units unitsize n (now (bytes .entry))) ⌝ }
 {
     let w = Wanted::of(masks);
     let p = before(prev, bytes, unitsize);
     fire_in(w, p, bytes, unitsize, 0, n)
+}
+
+// Whether one of n samples has the levels that are asked for. Where none has, none fires, whatever sample came before.
+fn any_level(masks: Masks, bytes: &[u8], unitsize: usize, n: usize) -> bool
+    requires { ⌜ Holds unitsize n (length (now bytes)) ⌝ }
+    ensures { λ r. ⌜ (r ≡ false → NoneFires (asMasks masks) (units unitsize n (now (bytes .entry)))) ⌝ }
+{
+    let w = Wanted::of(masks);
+    let mut i = 0;
+    while i < n {
+        if w.level(get(bytes, unitsize, i)) {
+            return true;
+        }
+        i += 1;
+    }
+    false
+}
+
+// Whether one of a few samples fires. Levels come first: most often none has them, and then no pair is looked at.
+pub fn few_fire(masks: Masks, prev: Previous, bytes: &[u8], unitsize: usize, n: usize) -> bool
+    requires { ⌜ Holds unitsize n (length (now bytes)) × (1 ≤ n) ⌝ }
+    ensures { λ r. ⌜ r ≡ ltb (firstFire (asMasks masks) (previousOf prev) (units unitsize n (now (bytes .entry)))) n ⌝ }
+{
+    if any_level(masks, bytes, unitsize, n) {
+        return fire_few(masks, prev, bytes, unitsize, n) < n;
+    }
+    false
 }
 
 // Below this many samples blocks cost more than they save.

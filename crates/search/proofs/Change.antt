@@ -1,33 +1,28 @@
 -- The theorems about next_change and prev_change. All that is known of the calls is what their contracts promise: `Post` of each one's generated `Reads`.
 -- Where levels are right the answer is 01's next or previous (rules' next-some, next-none, previous-some and previous-none say what that is);
 -- whatever memory holds, a place that is found lies in the range asked.
-use Prim.Native.Nat.{ℕ, zero, suc}
+use Prim.Native.Nat.{ℕ}
 use mathlib.Core.Path.{_≡_, sym, ap, _∙_}
 use mathlib.Core.List.{List}
-use mathlib.Core.Option.{Option, some}
-use native.Mathlib.Omega.{arith}
+use mathlib.Core.Option.{some}
 use contract.Lifetimes.{Lfts}
 use denote.Ref.{RefT, now}
 use Rattle.rules.specs.Sample.{sampleOf}
 use Rattle.rules.specs.Search.{next, previous}
 use Rattle.rules.specs.Walk.{allLevels}
-use Rattle.rules.specs.Answer.{given, unless}
+use Rattle.rules.specs.Answer.{given}
 use Rattle.rules.specs.Refusal.{storeRefusal}
 use Rattle.rules.proofs.Found.{TrueNodes, next-found, previous-found}
 use Rattle.node.specs.Memory.{levelOf, readerOf, Right}
 use Rattle.node.proofs.Memory.{right-true}
 use Rattle.capture.specs.declared.Capture.{Capture}
 use Rattle.capture.specs.Record.{storeOf, lentOf}
+use Rattle.capture.proofs.Answer.{unless-given}
 use Rattle.search.specs.declared.Found.{Found}
 use Rattle.search.specs.Answer.{foundOf, asked, nextOf, previousOf}
 use Rattle.search.proofs.Within.{After, UpTo, next-within, previous-within}
 use Rattle.search.proofs.next_change.Reads as next-change
 use Rattle.search.proofs.prev_change.Reads as prev-change
-
--- what is given was asked
-unless-given : (n : ℕ) (a : Option ℕ) (i : ℕ) → unless n a ≡ given (some i) → a ≡ some i
-unless-given zero a i e = cc
-unless-given (suc n) a i e = let z : _≡_ {A = ℕ} 0 1 = cc in absurd (omega arith)
 
 -- a call with these arguments, and its answer r. The references are whatever the caller lent
 module _ (κs : Lfts 2) (c : Capture) (samples l1 l2 l3 l4 : RefT (List ℕ)) (mask from : ℕ) (r : Found) where
@@ -58,8 +53,8 @@ module _ (κs : Lfts 2) (c : Capture) (samples l1 l2 l3 l4 : RefT (List ℕ)) (m
   -- whatever memory holds, a place found is one of the range
   pub next-range : NextAnswered → (i : ℕ) → foundOf r ≡ given (some i) → After from (c .len) i
   unfolding nextOf
-  next-range p i e = next-within allLevels (readerOf (c .unitsize) (now samples) levels) (c .len) mask from i (unless-given (storeRefusal (storeOf c) (lentOf (now samples) levels)) _ i (sym p ∙ e))
+  next-range p i e = next-within allLevels (readerOf (c .unitsize) (now samples) levels) (c .len) mask from i (unless-given _ (storeRefusal (storeOf c) (lentOf (now samples) levels)) (some i) (sym p ∙ e) .1)
 
   pub previous-range : PreviousAnswered → (i : ℕ) → foundOf r ≡ given (some i) → UpTo from (c .len) i
   unfolding previousOf
-  previous-range p i e = previous-within allLevels (readerOf (c .unitsize) (now samples) levels) (c .len) mask from i (unless-given (storeRefusal (storeOf c) (lentOf (now samples) levels)) _ i (sym p ∙ e))
+  previous-range p i e = previous-within allLevels (readerOf (c .unitsize) (now samples) levels) (c .len) mask from i (unless-given _ (storeRefusal (storeOf c) (lentOf (now samples) levels)) (some i) (sym p ∙ e) .1)

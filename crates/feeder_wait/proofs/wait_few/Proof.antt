@@ -1,4 +1,5 @@
 -- `feeder_wait::wait_few` meets its contract: where none fires all go to the ring. Assumes nothing.
+use mathlib.Core.Path.{sym, _∙_}
 use native.Mathlib.Omega.{arith}
 use borrow.Author.Needs.{needs}
 use denote.Ref.{now}
@@ -34,8 +35,8 @@ element-copy-out-previous-in-2 c = search needs
 previous-in-requires : tie.Need-previous-in-requires
 previous-in-requires c κs = search needs
 
-fire-few-requires : tie.Need-fire-few-requires
-fire-few-requires c κs = search needs
+few-fire-requires : tie.Need-few-fire-requires
+few-fire-requires c κs = search needs
 
 returns : tie.Need-returns
 returns c = search needs
@@ -103,7 +104,7 @@ returns-2 c =
     let m = p .before .before .before in
     let s = m .before .before .before .before .before .before .before .before in
     let a = s .args in
-    few-went (now (a .numbers)) (now (a .ring)) (now (a .bytes)) (a .unitsize) (a .n) _ _ _ _ _ _ (m .masks-in .ensures) (p .previous-in .ensures) (i .before .fire-few .ensures) (i .if1 .left) (g .get .ensures) (s .pre .kept-most) (c .lesser .ensures) (w .write-ahead .ensures)
+    few-went (now (a .numbers)) (now (a .ring)) (now (a .bytes)) (a .unitsize) (a .n) _ _ _ _ _ (m .masks-in .ensures) (p .previous-in .ensures) (sym (i .before .few-fire .ensures) ∙ i .if1 .left) (g .get .ensures) (s .pre .kept-most) (c .lesser .ensures) (w .write-ahead .ensures)
 
 pub wait-few-spec : {M : Type 1} → statement M
 wait-few-spec =
@@ -118,7 +119,7 @@ wait-few-spec =
     element-copy-out-previous-in
     element-copy-out-previous-in-2
     previous-in-requires
-    fire-few-requires
+    few-fire-requires
     returns
     element-copy-out-pre
     element-copy-out-place

@@ -1,4 +1,4 @@
--- `feeder_wait::wait_short` meets its contract, at each of the two units. Assumes nothing.
+-- `feeder_wait::wait_short` meets its contract. Assumes nothing.
 use mathlib.Core.Path.{refl}
 use native.Mathlib.Omega.{arith}
 use borrow.Author.Needs.{needs}
@@ -26,8 +26,8 @@ element-copy-out-place c = search needs
 returns-3 : tie.Need-returns-3
 returns-3 c = search needs
 
-sub-if4 : tie.Need-sub-if4
-sub-if4 c = search needs
+sub-if5 : tie.Need-sub-if5
+sub-if5 c = search needs
 
 returns-4 : tie.Need-returns-4
 returns-4 c = search needs
@@ -35,36 +35,34 @@ returns-4 c = search needs
 returns-5 : tie.Need-returns-5
 returns-5 c = search needs
 
-element-copy-out-if6 : tie.Need-element-copy-out-if6
-element-copy-out-if6 c = search needs
+element-copy-out-unitsize : tie.Need-element-copy-out-unitsize
+element-copy-out-unitsize c = search needs
+
+count-in-requires : tie.Need-count-in-requires
+count-in-requires c κs =
+    let t = c .before .before .before .before .before .before .before in
+    let w = t .before .waits .ensures (not-false _ (t .if1 .left)) in
+    (w .store .unit-least, w .store .unit-most)
 
 wait-few-requires : tie.Need-wait-few-requires
 wait-few-requires c κs =
-    let w = c .before .before .before .before .before .before .before .before .before .before .before .waits .ensures (not-false _ (c .before .before .before .before .before .before .before .before .before .before .if1 .left)) in
-    few-room _ _ _ _ w (omega arith) 1 _ (c .before .before .if6 .taken) (omega arith) (omega arith) (omega arith)
+    let k = c .before .before in
+    let t = k .before .before .before .before .before .before .before .before in
+    let w = t .before .waits .ensures (not-false _ (t .if1 .left)) in
+    let n = k .count-in .ensures in
+    few-room _ _ _ _ w (omega arith) _ _ refl (n .held) (omega (arith, n .least)) (omega (arith, n .most))
 
 same-length : tie.Need-same-length
 same-length c = search needs
 
 returns-6 : tie.Need-returns-6
 returns-6 c =
-    let a = c .before .before .before .before .before .before .before .before .before .before .before .before .before .before .before .before .before .before .args in
-    let w = c .before .before .before .before .before .before .before .before .before .before .before .before .before .before .waits .ensures (not-false _ (c .before .before .before .before .before .before .before .before .before .before .before .before .before .if1 .left)) in
-    short-is (now (a .numbers)) _ (now (a .ring)) (now (a .bytes)) w (omega arith) 1 _ (c .before .before .before .before .before .if6 .taken) (omega arith) (omega arith) (omega arith) _ _ (c .before .before .wait-few .result) (c .before .before .wait-few .ensures)
-
-wait-few-requires-2 : tie.Need-wait-few-requires-2
-wait-few-requires-2 c κs =
-    let w = c .before .before .before .before .before .before .before .before .before .before .before .waits .ensures (not-false _ (c .before .before .before .before .before .before .before .before .before .before .if1 .left)) in
-    few-room _ _ _ _ w (omega arith) 2 _ (omega (arith, w .store .unit-least, w .store .unit-most, c .before .before .if6 .left)) (omega arith) (omega arith) (omega arith)
-
-same-length-2 : tie.Need-same-length-2
-same-length-2 c = search needs
-
-returns-7 : tie.Need-returns-7
-returns-7 c =
-    let a = c .before .before .before .before .before .before .before .before .before .before .before .before .before .before .before .before .before .before .args in
-    let w = c .before .before .before .before .before .before .before .before .before .before .before .before .before .before .waits .ensures (not-false _ (c .before .before .before .before .before .before .before .before .before .before .before .before .before .if1 .left)) in
-    short-is (now (a .numbers)) _ (now (a .ring)) (now (a .bytes)) w (omega arith) 2 _ (omega (arith, w .store .unit-least, w .store .unit-most, c .before .before .before .before .before .if6 .left)) refl (omega arith) (omega arith) _ _ (c .before .before .wait-few2 .result) (c .before .before .wait-few2 .ensures)
+    let k = c .before .before .before .before .before in
+    let t = k .before .before .before .before .before .before .before .before in
+    let a = t .before .before .before .before .before .args in
+    let w = t .before .waits .ensures (not-false _ (t .if1 .left)) in
+    let n = k .count-in .ensures in
+    short-is (now (a .numbers)) _ (now (a .ring)) (now (a .bytes)) w (omega arith) _ _ refl (n .is) (omega (arith, n .least)) (omega (arith, n .most)) _ _ (c .before .before .wait-few .result) (c .before .before .wait-few .ensures)
 
 pub wait-short-spec : {M : Type 1} → statement M
 wait-short-spec =
@@ -73,16 +71,14 @@ wait-short-spec =
     waits-requires
     returns
     returns-2
+    returns-3
     element-copy-out-pre
     element-copy-out-place
-    returns-3
-    sub-if4
     returns-4
+    sub-if5
     returns-5
-    element-copy-out-if6
+    element-copy-out-unitsize
+    count-in-requires
     wait-few-requires
     same-length
-    returns-6
-    wait-few-requires-2
-    same-length-2
-    returns-7)
+    returns-6)
