@@ -7,7 +7,7 @@ mod table;
 mod work;
 
 use table::Table;
-use work::{Appends, Bursts, Pushes, Ranges, Row, Samples, Walk};
+use work::{Appends, Bursts, Pushes, Ranges, Row, Samples, Wait, Walk};
 
 /// Four chunks.
 const LEN: u64 = 4_194_304;
@@ -51,10 +51,14 @@ fn appends(table: &Table) {
 }
 
 fn pushes(table: &Table) {
-    for (kind, armed) in [("armed", true), ("unarmed", false)] {
+    for (kind, wait) in [
+        ("waiting for a rise", Wait::Rising),
+        ("waiting for an edge", Wait::Edge),
+        ("unarmed", Wait::Nothing),
+    ] {
         for push in [3, 4_096, 1_048_576] {
             let samples = noise(table.unit, push);
-            let work = Pushes { samples: &samples, push, armed, pre: 100_000 };
+            let work = Pushes { samples: &samples, push, wait, pre: 100_000 };
             table.line(&format!("push of {push}, {kind}"), "sample", |side| side.push(&work));
         }
     }

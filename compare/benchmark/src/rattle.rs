@@ -1,7 +1,7 @@
 //! The port, over memory that it is lent. Without the static library it has no operation.
 
 use crate::side::{timed, Side, Timed};
-use crate::work::{Appends, Bursts, Pushes, Ranges, Row, Samples, Walk};
+use crate::work::{Appends, Bursts, Pushes, Ranges, Row, Samples, Wait, Walk};
 use port::{Asked, Feeder, Lent, LentMut, Record, Settings};
 use std::cell::RefCell;
 
@@ -45,9 +45,13 @@ impl Capture {
         assert_eq!(port::append(&mut self.record, lent, bytes), 0);
     }
 
-    /// A recorder over this memory that keeps `pre` samples and waits for line 0 to rise, or waits for nothing.
-    fn record(&self, unit: usize, capacity: usize, armed: bool, pre: u64, ring: &[u8]) -> Feeder {
-        let terms: &[u8] = if armed { &[0, 0] } else { &[] };
+    /// A recorder over this memory that keeps `pre` samples while it waits.
+    fn record(&self, unit: usize, capacity: usize, wait: Wait, pre: u64, ring: &[u8]) -> Feeder {
+        let terms: &[u8] = match wait {
+            Wait::Nothing => &[],
+            Wait::Rising => &[0, 0],
+            Wait::Edge => &[0, 2],
+        };
         let (channels, rate) = (8 * unit, pre as usize);
         let settings =
             Settings { channels, capacity, limit: 0, terms, seconds: true, wish: 1.0, rate };
@@ -95,7 +99,7 @@ impl Side for Rattle {
         port::LINKED.then(|| capture.start(*unit, capacity))?;
         let mut ring = self.ring.borrow_mut();
         ring.resize(work.pre as usize * unit, 0xA5);
-        let mut feeder = capture.record(*unit, capacity, work.armed, work.pre, &ring);
+        let mut feeder = capture.record(*unit, capacity, work.wait, work.pre, &ring);
         timed(LENT, || {
             for push in bytes.chunks(work.push * unit) {
                 capture.push(&mut feeder, &mut ring, push);

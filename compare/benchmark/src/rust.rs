@@ -1,7 +1,7 @@
 //! The unchanged Rust.
 
 use crate::side::{timed, Side, Timed};
-use crate::work::{Appends, Bursts, Pushes, Ranges, Row, Samples, Walk};
+use crate::work::{Appends, Bursts, Pushes, Ranges, Row, Samples, Wait, Walk};
 use edgewise::capture::{Capture, Node, Snapshot};
 use edgewise::trigger::{Condition, Feeder, TriggerTerm};
 use std::sync::Arc;
@@ -45,9 +45,13 @@ impl Side for Rust {
     fn push(&self, work: &Pushes) -> Option<Timed> {
         let Samples { unit, bytes } = work.samples;
         let capture = Arc::new(capture(*unit));
-        let rising = [TriggerTerm { channel: 0, condition: Condition::Rising }];
-        let terms = if work.armed { &rising[..] } else { &[] };
-        let mut feeder = Feeder::new(capture.clone(), *unit, 0, terms, 0.0, work.pre);
+        let term = |condition| vec![TriggerTerm { channel: 0, condition }];
+        let terms = match work.wait {
+            Wait::Nothing => vec![],
+            Wait::Rising => term(Condition::Rising),
+            Wait::Edge => term(Condition::Edge),
+        };
+        let mut feeder = Feeder::new(capture.clone(), *unit, 0, &terms, 0.0, work.pre);
         timed(ALLOCATED, || {
             for push in bytes.chunks(work.push * unit) {
                 feeder.push(push);

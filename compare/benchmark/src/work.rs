@@ -52,12 +52,19 @@ pub struct Appends<'a> {
     pub push: usize,
 }
 
-/// All samples into a new recorder without a limit, `push` at a time.
-/// Armed, it waits for line 0 to rise and keeps `pre` samples.
+/// What a recorder waits for on line 0, which never changes.
+#[derive(Clone, Copy)]
+pub enum Wait {
+    Nothing,
+    Rising,
+    Edge,
+}
+
+/// All samples into a new recorder without a limit, `push` at a time. While it waits it keeps `pre` samples.
 pub struct Pushes<'a> {
     pub samples: &'a Samples,
     pub push: usize,
-    pub armed: bool,
+    pub wait: Wait,
     pub pre: u64,
 }
 
