@@ -15,8 +15,9 @@ use Rattle.feeder.specs.declared.Pretrigger.{Pretrigger}
 use Rattle.feeder.specs.declared.Started.{Started}
 use Rattle.feeder.specs.Start.{Begun, startedOf, startOf}
 use Rattle.feeder.proofs.Begun.{start-rule}
-use Rattle.logic_core.specs.Code.{plain, behind, Out}
-use Rattle.logic_core.specs.Recorder.{wishIn, begunNumbers, cutNumber, begunFor}
+use Rattle.codes.specs.Code.{plain, Out}
+use Rattle.feeder_codes.specs.Recorder.{wishIn, begunNumbers, cutNumber}
+use Rattle.logic_core.specs.Recorder.{begunFor}
 use Rattle.logic_core.proofs.Codes.{told}
 
 module _ (channels capacity limit : ℕ) (bytes : List ℕ) (seconds : Bool) (x : Float) (rate : ℕ) (samples : List ℕ) (levels : ℕ → List ℕ) (ring : List ℕ) where
@@ -34,12 +35,9 @@ module _ (channels capacity limit : ℕ) (bytes : List ℕ) (seconds : Bool) (x 
       ∙ ap₂ (λ (t : Terms) (w : Pretrigger). startOf channels capacity limit t w rate (lentOf samples levels) (length ring)) e f
       ∙ start-rule channels capacity limit (termsIn bytes) (wishIn seconds x) rate (lentOf samples levels) (length ring)
 
-  pub starts-told : {terms : Terms} {wish : Pretrigger} {lent : Lent} {r r′ : Started} (code : ℕ) (numbers numbers′ : List ℕ) (cut cut′ : ℕ)
+  pub starts-told : {terms : Terms} {wish : Pretrigger} {lent : Lent} (r : Started) (code : ℕ) (numbers numbers′ : List ℕ) (cut cut′ : ℕ)
       → lent ≡ lentOf samples levels → terms ≡ termsOf (termsIn bytes) → wish ≡ wishIn seconds x
       → startedOf r ≡ startOf channels capacity limit terms wish rate lent (length ring)
-      → r ≡ r′
-      → code ≡ plain (startedOf r′) .code
-      → numbers′ ≡ behind begunNumbers (plain (startedOf r′) .written) numbers
-      → cut′ ≡ behind cutNumber (plain (startedOf r′) .written) cut
+      → Out begunNumbers (plain (startedOf r)) code numbers numbers′ × Out cutNumber (plain (startedOf r)) code cut cut′
       → Out begunNumbers (plain answer) code numbers numbers′ × Out cutNumber (plain answer) code cut cut′
-  starts-told {terms} {wish} {lent} {r} {r′} code numbers numbers′ cut cut′ d e f g h k m n = (told begunNumbers plain startedOf code numbers numbers′ (begun-is r d e f g) h k m, told cutNumber plain startedOf code cut cut′ (begun-is r d e f g) h k n)
+  starts-told r code numbers numbers′ cut cut′ d e f g o = (told begunNumbers plain startedOf r code numbers numbers′ (begun-is r d e f g) (o .0), told cutNumber plain startedOf r code cut cut′ (begun-is r d e f g) (o .1))

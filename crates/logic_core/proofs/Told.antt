@@ -19,23 +19,24 @@ use Rattle.feeder_push.specs.declared.Pushed.{Pushed}
 use Rattle.feeder_numbers.specs.Numbers.{feederFrom}
 use Rattle.feeder_push.specs.Push.{leftOf, replyAs, feederIn, Pushes}
 use Rattle.feeder_wait.specs.Wait.{Untouched, waitedOf, ShortWent, ShortAfter}
-use Rattle.logic_core.specs.Recorder.{replyCode, numbersAfter, levelFor, PushesOut}
+use Rattle.feeder_codes.specs.Recorder.{replyCode, numbersAfter}
+use Rattle.logic_core.specs.Recorder.{levelFor, PushesOut}
 
 module _ (bytes samples : List ℕ) (levels : ℕ → List ℕ) (ring samples′ : List ℕ) (levels′ : ℕ → List ℕ) (ring′ : List ℕ) where
-  pub pushes-told : {f f′ : Feeder} {r r′ : Pushed} (code : ℕ) (numbers numbers′ : List ℕ)
-      → f ≡ f′ → Pushes f bytes samples levels ring r samples′ levels′ ring′ → r ≡ r′
-      → code ≡ replyCode (replyAs r′) → numbers′ ≡ numbersAfter (replyAs r′) (recorderOf (feederIn r′)) numbers
+  pub pushes-told : {f f′ : Feeder} (r : Pushed) (code : ℕ) (numbers numbers′ : List ℕ)
+      → f ≡ f′ → Pushes f bytes samples levels ring r samples′ levels′ ring′
+      → (code ≡ replyCode (replyAs r)) × (numbers′ ≡ numbersAfter (replyAs r) (recorderOf (feederIn r)) numbers)
       → PushesOut f′ bytes samples levels ring code numbers numbers′ samples′ levels′ ring′
-  pushes-told {f} {f′} {r} {r′} code numbers numbers′ d e g h k = record {
-    code-is = h ∙ ap (λ (x : Left). replyCode (x .reply)) (done .left-is);
-    numbers-are = k ∙ ap (λ (x : Left). numbersAfter (x .reply) (x .recorder) numbers) (done .left-is);
+  pushes-told {f} {f′} r code numbers numbers′ d e h = record {
+    code-is = h .0 ∙ ap (λ (x : Left). replyCode (x .reply)) (done .left-is);
+    numbers-are = h .1 ∙ ap (λ (x : Left). numbersAfter (x .reply) (x .recorder) numbers) (done .left-is);
     samples-are = ap (λ (x : Left). x .samples) (done .left-is);
     ring-is = ap (λ (x : Left). x .ring) (done .left-is);
     levels-are = λ l a b. done .levels-are l a b ∙ ap (λ (x : Left). levelFor (f′ .capture .unitsize) samples′ levels (f′ .capture .len) (x .recorder .store .len) l) (done .left-is);
   }
     where
-      done : Pushes f′ bytes samples levels ring r′ samples′ levels′ ring′
-      done = subst (λ (x : Feeder). Pushes x bytes samples levels ring r′ samples′ levels′ ring′) d (subst (λ (x : Pushed). Pushes f bytes samples levels ring x samples′ levels′ ring′) g e)
+      done : Pushes f′ bytes samples levels ring r samples′ levels′ ring′
+      done = subst (λ (x : Feeder). Pushes x bytes samples levels ring r samples′ levels′ ring′) d e
 
 -- ---- a short push
 -- where it went to the ring: what push leaves, and no level changed

@@ -18,8 +18,8 @@ use Rattle.store.specs.Stored.{Stored}
 use Rattle.summary.specs.Summary.{summaryOf, summed}
 use Rattle.whole.specs.Wrong.{Place, firstWrong}
 use Rattle.render.specs.Render.{drawn}
-use Rattle.logic_core.specs.Code.{plain, Out}
-use Rattle.logic_core.specs.Record.{number, lenNumber}
+use Rattle.codes.specs.Code.{plain, Out}
+use Rattle.codes.specs.Record.{number, lenNumber}
 
 abbrev pub neededFor : ℕ → ℕ → Answer Lent
 neededFor channels capacity = unless (needRefusal (fresh channels capacity)) (memoryNeed (fresh channels capacity))

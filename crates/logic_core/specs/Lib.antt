@@ -1,4 +1,2 @@
-pub mod Record
-pub mod Code
 pub mod Asked
 pub mod Recorder

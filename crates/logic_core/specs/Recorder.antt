@@ -1,58 +1,28 @@
 -- What the recorder's calls under the boundary answer, over its numbers and the lent lists.
 use mathlib.Core.Path.{_≡_}
-use mathlib.Core.Bool.{Bool, cond}
+use mathlib.Core.Bool.{Bool}
 use mathlib.Core.List.{List}
 use Prim.Native.Nat.{ℕ, _-_, _≤_}
 use lib.Ieee.{Float}
 use lib.ListN.{length}
 use Rattle.rules.specs.Node.{topLevel}
 use Rattle.rules.specs.Answer.{Answer}
-use Rattle.rules.specs.Refusal.{Recorder}
-use Rattle.rules.specs.Selection.{Reply, refused, going-on, complete}
 use Rattle.ring.specs.Push.{Left}
 use Rattle.rebuild.specs.Rebuild.{levelAfter}
 use Rattle.store.specs.Stored.{firstNodes}
 use Rattle.capture.specs.Record.{lentOf}
-use Rattle.feeder.specs.declared.Pretrigger.{Pretrigger}
-use Rattle.feeder.specs.declared.Pretrigger.the-variants.{Fraction, Seconds}
 use Rattle.feeder.specs.declared.Feeder.{Feeder}
 use Rattle.feeder.specs.Record.{recorderOf}
 use Rattle.feeder.specs.Start.{Begun, startRule, settingsOf}
 use Rattle.feeder_push.specs.Push.{leftOf}
-use Rattle.feeder_numbers.specs.Numbers.{recorderNumbers, pushedNumbers}
 use Rattle.term_bytes.specs.Bytes.{termsIn}
-use Rattle.logic_core.specs.Code.{noneCode}
-
-abbrev pub flagNumber : Bool → ℕ
-flagNumber b = cond b 1 0
-
-abbrev pub wishIn : Bool → Float → Pretrigger
-wishIn seconds x = cond seconds (Seconds x) (Fraction x)
-
--- the record and the flag that a start gives, as numbers
-abbrev pub begunNumbers : Begun → List ℕ → List ℕ
-begunNumbers b old = recorderNumbers (b .recorder) old
-
-abbrev pub cutNumber : Begun → ℕ → ℕ
-cutNumber b old = flagNumber (b .was-cut)
+use Rattle.feeder_codes.specs.Recorder.{wishIn, replyCode, numbersAfter}
 
 abbrev pub begunFor : ℕ → ℕ → ℕ → List ℕ → Bool → Float → ℕ → List ℕ → (ℕ → List ℕ) → List ℕ → Answer Begun
 begunFor channels capacity limit terms seconds wish rate samples levels ring =
     startRule (settingsOf channels capacity limit (termsIn terms) (wishIn seconds wish) rate) (lentOf samples levels) (length ring)
 
 -- ---- push
--- 0 is going on, complete is no more, and a refusal is its number
-abbrev pub replyCode : Reply → ℕ
-replyCode (refused n) = n
-replyCode going-on = 0
-replyCode complete = noneCode
-
--- the record's numbers; a refusal leaves them
-abbrev pub numbersAfter : Reply → Recorder → List ℕ → List ℕ
-numbersAfter (refused n) c old = old
-numbersAfter going-on c old = pushedNumbers c old
-numbersAfter complete c old = pushedNumbers c old
-
 -- level l once the samples are those from len up to end
 abbrev pub levelFor : ℕ → List ℕ → (ℕ → List ℕ) → ℕ → ℕ → ℕ → List ℕ
 levelFor unit samples levels len end l = levelAfter (firstNodes unit samples end) levels len (end - len) l

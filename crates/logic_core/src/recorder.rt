@@ -1,32 +1,12 @@
 // The recorder's calls. Its record is lent as 17 numbers, of which the first five are its store's: questions take those.
-use crate::NONE;
-use crate::code;
-use feeder::Pretrigger;
-use feeder::Started;
-use feeder_push::Pushed;
 use lines::Mask;
 ghost use mathlib.Core.Path.{_≡_};
 ghost use mathlib.Core.Bool.{Bool};
 ghost use Rattle.node.specs.Memory.{levelOf};
-ghost use Rattle.logic_core.specs.Code.{plain, Out};
 ghost use Rattle.feeder_numbers.specs.Numbers.{feederFrom};
-ghost use Rattle.logic_core.specs.Recorder.{flagNumber, wishIn, begunNumbers, cutNumber, begunFor, PushesOut};
-
-// Yes or no as a number.
-fn flag(b: bool) -> usize
-    ensures { λ r. ⌜ r ≡ flagNumber b ⌝ }
-{
-    if b { 1 } else { 0 }
-}
-
-fn wish_in(seconds: bool, wish: f64) -> Pretrigger
-    ensures { λ r. ⌜ r ≡ wishIn seconds wish ⌝ }
-{
-    if seconds {
-        return Pretrigger::Seconds(wish);
-    }
-    Pretrigger::Fraction(wish)
-}
+ghost use Rattle.codes.specs.Code.{plain, Out};
+ghost use Rattle.feeder_codes.specs.Recorder.{begunNumbers, cutNumber};
+ghost use Rattle.logic_core.specs.Recorder.{begunFor, PushesOut};
 
 // 01's start of a recorder. Terms are two bytes each. Refuses with 1 to 7.
 #[no_mangle]
@@ -54,7 +34,7 @@ pub extern "C" fn lc_feeder_start<'a>(
         capacity,
         limit,
         term_bytes::terms_in(terms),
-        wish_in(seconds, wish),
+        feeder_codes::wish_in(seconds, wish),
         rate,
         samples,
         l1,
@@ -63,14 +43,7 @@ pub extern "C" fn lc_feeder_start<'a>(
         l4,
         ring,
     );
-    match answer {
-        Started::Refused(n) => code(n),
-        Started::Fresh(f, was_cut) => {
-            feeder_numbers::put_feeder(numbers, f);
-            *cut = flag(was_cut);
-            0
-        }
-    }
+    feeder_codes::begun_code(answer, numbers, cut)
 }
 
 // 01's push: 0 while it goes on, 100 once it is complete. Refuses with 1, 2 and 8.
@@ -102,15 +75,5 @@ pub extern "C" fn lc_push(
     }
     let f = feeder_numbers::feeder_in(&*numbers);
     let answer = feeder_push::push(f, samples, l1, l2, l3, l4, ring, bytes);
-    match answer {
-        Pushed::Refused(n, _) => code(n),
-        Pushed::GoingOn(next) => {
-            feeder_numbers::put_pushed(numbers, next);
-            0
-        }
-        Pushed::Complete(next) => {
-            feeder_numbers::put_pushed(numbers, next);
-            NONE
-        }
-    }
+    feeder_codes::pushed_code(answer, numbers)
 }

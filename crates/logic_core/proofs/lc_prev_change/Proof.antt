@@ -4,8 +4,8 @@ use denote.Ref.{now}
 use Rattle.node.specs.Memory.{levelOf}
 use Rattle.capture.specs.declared.Capture.{Capture}
 use Rattle.search.specs.Answer.{foundOf, previousOf}
-use Rattle.logic_core.specs.Record.{number}
-use Rattle.logic_core.specs.Code.{perhaps}
+use Rattle.codes.specs.Record.{number}
+use Rattle.codes.specs.Code.{perhaps}
 use Rattle.logic_core.proofs.Codes.{told-by}
 use Rattle.logic_core.proofs.lc_prev_change.Statement.{statement}
 use Rattle.logic_core.proofs.lc_prev_change.Tie as tie

@@ -1,5 +1,4 @@
 -- `logic_core::lc_render` says what `render::render` answers. Assumes nothing.
-use mathlib.Core.Path.{_≡_, refl}
 use borrow.Author.Needs.{needs}
 use denote.Ref.{now}
 use Rattle.node.specs.Memory.{levelOf}
@@ -13,30 +12,16 @@ capture-in-requires c κs = search needs
 render-requires : tie.Need-render-requires
 render-requires c κs = search needs
 
-enum-known-answer : tie.Need-enum-known-answer
-enum-known-answer c = search needs
-
-code-requires : tie.Need-code-requires
-code-requires c κs = search needs
-
-enum-told : tie.Need-enum-told
-enum-told c = search needs
+drawn-code-requires : tie.Need-drawn-code-requires
+drawn-code-requires c κs = search needs
 
 same-length : tie.Need-same-length
 same-length c = search needs
 
 returns : tie.Need-returns
 returns c =
-    let a = c .before .before .before .before .before .before .before .before .before .before .before .before .before .before .before .args in
-    draws-told (now (a .samples)) (levelOf (now (a .l1)) (now (a .l2)) (now (a .l3)) (now (a .l4))) (a .start) (a .spp) (a .width) _ _ _ (c .before .before .before .before .before .before .before .before .capture-in .ensures) (c .before .before .before .before .before .before .render .ensures) (c .before .before .answer .given .1) (c .code .ensures)
-
-same-length-2 : tie.Need-same-length-2
-same-length-2 c = search needs
-
-returns-2 : tie.Need-returns-2
-returns-2 c =
-    let a = c .before .before .before .before .before .before .before .before .before .before .before .before .before .args in
-    draws-told (now (a .samples)) (levelOf (now (a .l1)) (now (a .l2)) (now (a .l3)) (now (a .l4))) (a .start) (a .spp) (a .width) _ _ _ (c .before .before .before .before .before .before .capture-in .ensures) (c .before .before .before .before .render .ensures) (c .enum-told .given .1) refl
+    let a = c .before .before .before .before .before .before .before .before .before .before .before .before .args in
+    draws-told (now (a .samples)) (levelOf (now (a .l1)) (now (a .l2)) (now (a .l3)) (now (a .l4))) (a .start) (a .spp) (a .width) _ _ (c .before .before .before .render .result) _ (c .before .before .before .before .before .capture-in .ensures) (c .before .before .before .render .ensures) (c .drawn-code .ensures)
 
 pub lc-render-spec : {M : Type 1} → statement M
 lc-render-spec =
@@ -44,10 +29,6 @@ lc-render-spec =
     (tie.spec
     capture-in-requires
     render-requires
-    enum-known-answer
-    code-requires
-    enum-told
+    drawn-code-requires
     same-length
-    returns
-    same-length-2
-    returns-2)
+    returns)

@@ -1,5 +1,4 @@
 -- `logic_core::recorder::lc_feeder_start` says what `feeder::start` answers. Assumes nothing.
-use mathlib.Core.Path.{_≡_, refl}
 use borrow.Author.Needs.{needs}
 use denote.Ref.{now}
 use Rattle.node.specs.Memory.{levelOf}
@@ -17,30 +16,13 @@ wish-in-requires c κs = search needs
 start-requires : tie.Need-start-requires
 start-requires c κs = search needs
 
-enum-known-answer : tie.Need-enum-known-answer
-enum-known-answer c = search needs
-
-code-requires : tie.Need-code-requires
-code-requires c κs = search needs
-
-enum-known-answer-2 : tie.Need-enum-known-answer-2
-enum-known-answer-2 c = search needs
-
-put-feeder-requires : tie.Need-put-feeder-requires
-put-feeder-requires c κs = search needs
-
-flag-requires : tie.Need-flag-requires
-flag-requires c κs = search needs
+begun-code-requires : tie.Need-begun-code-requires
+begun-code-requires c κs = search needs
 
 returns : tie.Need-returns
 returns c =
-    let a = c .before .before .before .before .before .before .before .before .before .before .before .before .before .before .args in
-    starts-told (a .channels) (a .capacity) (a .limit) (now (a .terms)) (a .seconds) (a .wish) (a .rate) (now (a .samples)) (levelOf (now (a .l1)) (now (a .l2)) (now (a .l3)) (now (a .l4))) (now (a .ring)) _ _ _ _ _ (lent-same (now (a .samples)) (now (a .l1)) (now (a .l2)) (now (a .l3)) (now (a .l4))) (c .before .before .before .before .before .before .terms-in .ensures) (c .before .before .before .before .before .wish-in .ensures) (c .before .before .before .before .start .ensures) (c .before .before .answer .given .1) (c .code .ensures) refl refl
-
-returns-2 : tie.Need-returns-2
-returns-2 c =
-    let a = c .before .before .before .before .before .before .before .before .before .before .before .before .before .before .before .before .args in
-    starts-told (a .channels) (a .capacity) (a .limit) (now (a .terms)) (a .seconds) (a .wish) (a .rate) (now (a .samples)) (levelOf (now (a .l1)) (now (a .l2)) (now (a .l3)) (now (a .l4))) (now (a .ring)) _ _ _ _ _ (lent-same (now (a .samples)) (now (a .l1)) (now (a .l2)) (now (a .l3)) (now (a .l4))) (c .before .before .before .before .before .before .before .before .terms-in .ensures) (c .before .before .before .before .before .before .before .wish-in .ensures) (c .before .before .before .before .before .before .start .ensures) (c .before .before .before .before .answer2 .given .1) refl (c .before .put-feeder .ensures) (c .flag .ensures)
+    let a = c .before .before .before .before .before .before .before .before .before .before .before .before .before .args in
+    starts-told (a .channels) (a .capacity) (a .limit) (now (a .terms)) (a .seconds) (a .wish) (a .rate) (now (a .samples)) (levelOf (now (a .l1)) (now (a .l2)) (now (a .l3)) (now (a .l4))) (now (a .ring)) (c .before .before .before .start .result) _ _ _ _ _ (lent-same (now (a .samples)) (now (a .l1)) (now (a .l2)) (now (a .l3)) (now (a .l4))) (c .before .before .before .before .before .terms-in .ensures) (c .before .before .before .before .wish-in .ensures) (c .before .before .before .start .ensures) (c .begun-code .ensures)
 
 pub lc-feeder-start-spec : {M : Type 1} → statement M
 lc-feeder-start-spec =
@@ -49,10 +31,5 @@ lc-feeder-start-spec =
     terms-in-requires
     wish-in-requires
     start-requires
-    enum-known-answer
-    code-requires
-    enum-known-answer-2
-    put-feeder-requires
-    flag-requires
-    returns
-    returns-2)
+    begun-code-requires
+    returns)

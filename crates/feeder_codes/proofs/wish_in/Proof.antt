@@ -1,6 +1,6 @@
--- `logic_core::recorder::wish_in` meets its contract. Assumes nothing.
-use Rattle.logic_core.proofs.recorder.wish_in.Statement.{statement}
-use Rattle.logic_core.proofs.recorder.wish_in.Tie as tie
+-- `feeder_codes::wish_in` meets its contract. Assumes nothing.
+use Rattle.feeder_codes.proofs.wish_in.Statement.{statement}
+use Rattle.feeder_codes.proofs.wish_in.Tie as tie
 
 returns : tie.Need-returns
 returns c = rw (c .if1 .taken)

@@ -1,9 +1,9 @@
--- `logic_core::put_capture` writes the five numbers. Assumes nothing.
+-- `codes::put_capture` writes the five numbers. Assumes nothing.
 use denote.Ref.{now}
 use borrow.Author.Needs.{needs}
-use Rattle.logic_core.proofs.Codes.{mark-written}
-use Rattle.logic_core.proofs.put_capture.Statement.{statement}
-use Rattle.logic_core.proofs.put_capture.Tie as tie
+use Rattle.codes.proofs.Written.{mark-written}
+use Rattle.codes.proofs.put_capture.Statement.{statement}
+use Rattle.codes.proofs.put_capture.Tie as tie
 
 element-write-numbers : tie.Need-element-write-numbers
 element-write-numbers c = search needs

@@ -1,0 +1,211 @@
+// What the C boundary says of each answer: a code, and numbers behind out pointers.
+// The code is 0; the number of the refusal, which writes nothing; or 100, which is no.
+use append::Appended;
+use burst::Bursts;
+use capture::Capture;
+use capture::Copied;
+use capture::Got;
+use capture::Mark;
+use capture::Needed;
+use capture::Started;
+use lines::Mask;
+use render::Drawn;
+use search::Found;
+use summary::Summed;
+use whole::Checked;
+ghost use mathlib.Core.Path.{_≡_};
+ghost use Rattle.capture.specs.Record.{storeOf};
+ghost use Rattle.capture.specs.Calls.{neededOf, startedOf, gotOf, copiedOf};
+ghost use Rattle.append.specs.Append.{numberOf, recordOf};
+ghost use Rattle.summary.specs.Summary.{summedOf};
+ghost use Rattle.whole.specs.Wrong.{checkedOf};
+ghost use Rattle.search.specs.Answer.{foundOf};
+ghost use Rattle.burst.specs.Answer.{burstAs};
+ghost use Rattle.render.specs.Render.{drawnOf};
+ghost use Rattle.codes.specs.Record.{captureIn, storeNumbers, lenNumber, lentNumbers, nodeNumbers, burstNumbers, number, placeLevel, placeNumber};
+ghost use Rattle.codes.specs.Code.{wrote, plain, perhaps, fault, Out};
+
+pub const NONE: u32 = 100;
+
+// A number of a refusal as the boundary gives it.
+pub fn code(n: u8) -> u32
+    ensures { λ r. ⌜ r ≡ n ⌝ }
+{
+    n as u32
+}
+
+// The record of a capture from its numbers.
+pub fn capture_in(numbers: &[usize; 5]) -> Capture
+    ensures { λ c. ⌜ c ≡ captureIn (now (numbers .entry)) ⌝ }
+{
+    if numbers[3] == 0 {
+        return Capture {
+            unitsize: numbers[0],
+            capacity: numbers[1],
+            len: numbers[2],
+            trigger: Mark::Absent,
+        };
+    }
+    Capture {
+        unitsize: numbers[0],
+        capacity: numbers[1],
+        len: numbers[2],
+        trigger: Mark::At(numbers[4]),
+    }
+}
+
+// The numbers of a record become a capture's.
+fn put_capture(numbers: &mut [usize; 5], c: Capture)
+    ensures { λ _. ⌜ now (numbers .exit) ≡ storeNumbers (storeOf c) (now (numbers .entry)) ⌝ }
+{
+    numbers[0] = c.unitsize;
+    numbers[1] = c.capacity;
+    numbers[2] = c.len;
+    let mark = c.trigger;
+    match mark {
+        Mark::Absent => {
+            numbers[3] = 0;
+            numbers[4] = 0;
+        }
+        Mark::At(k) => {
+            numbers[3] = 1;
+            numbers[4] = k;
+        }
+    }
+}
+
+pub fn needed_code(answer: Needed, sizes: &mut [usize; 5]) -> u32
+    ensures { λ r. ⌜ Out lentNumbers (plain (neededOf answer)) r (now (sizes .entry)) (now (sizes .exit)) ⌝ }
+{
+    match answer {
+        Needed::Refused(n) => code(n),
+        Needed::Memory(m) => {
+            sizes[0] = m.samples;
+            sizes[1] = m.l1;
+            sizes[2] = m.l2;
+            sizes[3] = m.l3;
+            sizes[4] = m.l4;
+            0
+        }
+    }
+}
+
+pub fn started_code(answer: Started, numbers: &mut [usize; 5]) -> u32
+    ensures { λ r. ⌜ Out storeNumbers (plain (startedOf answer)) r (now (numbers .entry)) (now (numbers .exit)) ⌝ }
+{
+    match answer {
+        Started::Refused(n) => code(n),
+        Started::Store(c) => {
+            put_capture(numbers, c);
+            0
+        }
+    }
+}
+
+// An append's record differs from the one that it was given in len only.
+pub fn appended_code(answer: Appended, numbers: &mut [usize; 5]) -> u32
+    ensures { λ r. ⌜ Out lenNumber (wrote (numberOf answer) (recordOf answer .len)) r (now (numbers .entry)) (now (numbers .exit)) ⌝ }
+{
+    match answer {
+        Appended::Refused(n, kept) => {
+            numbers[2] = kept.len;
+            code(n)
+        }
+        Appended::Done(grown) => {
+            numbers[2] = grown.len;
+            0
+        }
+    }
+}
+
+pub fn got_code(answer: Got, value: &mut Mask) -> u32
+    ensures { λ r. ⌜ Out number (plain (gotOf answer)) r (now (value .entry)) (now (value .exit)) ⌝ }
+{
+    match answer {
+        Got::Refused(n) => code(n),
+        Got::Value(v) => {
+            *value = v;
+            0
+        }
+    }
+}
+
+pub fn copied_code(answer: Copied, copied: &mut usize) -> u32
+    ensures { λ r. ⌜ Out number (plain (copiedOf answer)) r (now (copied .entry)) (now (copied .exit)) ⌝ }
+{
+    match answer {
+        Copied::Refused(n) => code(n),
+        Copied::Count(k) => {
+            *copied = k;
+            0
+        }
+    }
+}
+
+// A wrong node is no, and its level and number are written.
+pub fn checked_code(answer: Checked, level: &mut usize, number: &mut usize) -> u32
+    ensures { λ r. ⌜ Out placeLevel (fault (checkedOf answer)) r (now (level .entry)) (now (level .exit)) × Out placeNumber (fault (checkedOf answer)) r (now (number .entry)) (now (number .exit)) ⌝ }
+{
+    match answer {
+        Checked::Refused(n) => code(n),
+        Checked::Yes => 0,
+        Checked::Wrong(l, j) => {
+            *level = l;
+            *number = j;
+            NONE
+        }
+    }
+}
+
+pub fn summed_code(answer: Summed, node: &mut [Mask; 3]) -> u32
+    ensures { λ r. ⌜ Out nodeNumbers (perhaps (summedOf answer)) r (now (node .entry)) (now (node .exit)) ⌝ }
+{
+    match answer {
+        Summed::Refused(n) => code(n),
+        Summed::Node(n) => {
+            node[0] = n.first;
+            node[1] = n.last;
+            node[2] = n.mask;
+            0
+        }
+        Summed::Nothing => NONE,
+    }
+}
+
+pub fn found_code(answer: Found, place: &mut usize) -> u32
+    ensures { λ r. ⌜ Out number (perhaps (foundOf answer)) r (now (place .entry)) (now (place .exit)) ⌝ }
+{
+    match answer {
+        Found::Refused(n) => code(n),
+        Found::At(i) => {
+            *place = i;
+            0
+        }
+        Found::Nothing => NONE,
+    }
+}
+
+pub fn burst_code(answer: Bursts, ends: &mut [usize; 4]) -> u32
+    ensures { λ r. ⌜ Out burstNumbers (perhaps (burstAs answer)) r (now (ends .entry)) (now (ends .exit)) ⌝ }
+{
+    match answer {
+        Bursts::Refused(n) => code(n),
+        Bursts::At(b) => {
+            ends[0] = b.first;
+            ends[1] = b.last;
+            ends[2] = b.jumps_end;
+            ends[3] = b.jumps_start;
+            0
+        }
+        Bursts::Nothing => NONE,
+    }
+}
+
+pub fn drawn_code(answer: Drawn) -> u32
+    ensures { λ r. ⌜ r ≡ plain (drawnOf answer) .code ⌝ }
+{
+    match answer {
+        Drawn::Refused(n) => code(n),
+        Drawn::Done => 0,
+    }
+}
