@@ -1,7 +1,7 @@
 -- A chunk's part of memory holds what the whole holds, so that a search over the part is one over the whole.
 use Prim.Native.Nat.{ℕ, zero, suc, _+_, _-_, _*_, _≤_, _<_}
 use mathlib.Core.Path.{_≡_, refl, sym, ap, ap₂, _∙_}
-use mathlib.Core.Bool.{Bool}
+use mathlib.Core.Bool.{Bool, true, false}
 use mathlib.Core.List.{List}
 use native.Mathlib.Nat.{mul-le-mul-right, add-mul}
 use native.Mathlib.Decide.{ℕ-discrete}
@@ -10,10 +10,11 @@ use lib.ListN.{take, drop, length-take, length-drop}
 use lib.Seq.{getD-take, getD-drop}
 use Rattle.rules.specs.Sample.{little, sampleOf}
 use Rattle.rules.specs.Node.{Node, leaf, mirror, span}
-use Rattle.rules.specs.Walk.{forward, backward, walkFrom}
+use Rattle.rules.specs.Walk.{forward, backward, walkFrom, allLevels}
 use Rattle.node.specs.Memory.{readerOf}
 use Rattle.node.proofs.Memory.{reads-sample, reads-node}
 use Rattle.find.specs.Part.{readerFrom, Part}
+use Rattle.find.specs.Way.{wayIn}
 use Rattle.find.proofs.Part.{from-sample, from-node, bytes-less}
 use Rattle.search.specs.Part.{Stored}
 use Rattle.search.proofs.Same.{walked-same}
@@ -51,18 +52,22 @@ module _ (base hi unit : ℕ) (samples : List ℕ) (levels : ℕ → List ℕ) w
 
   -- a walk over the part is one over the whole
   module _ (has : ℕ → Bool) (mask p v : ℕ) where
-    pub part-ahead : base ≤ p → walkFrom (forward has (readerFrom base unit partOf levels) hi) mask p v ≡ walkFrom (forward has (readerOf unit samples levels) hi) mask p v
+    part-ahead : base ≤ p → walkFrom (forward has (readerFrom base unit partOf levels) hi) mask p v ≡ walkFrom (forward has (readerOf unit samples levels) hi) mask p v
     part-ahead h =
         walked-same (forward has (readerFrom base unit partOf levels) hi) (λ (l q : ℕ). readerOf unit samples levels l q) (λ (q : ℕ). base ≤ q)
         (record { same = λ l q t i. part-reads l q (λ z. (i, omega (arith, t .some-left))); stays = λ l q i. omega arith }) mask p v h
 
-    pub part-behind : p ≤ hi → walkFrom (backward has (readerFrom base unit partOf levels) base) mask p v ≡ walkFrom (backward has (readerOf unit samples levels) base) mask p v
+    part-behind : p ≤ hi → walkFrom (backward has (readerFrom base unit partOf levels) base) mask p v ≡ walkFrom (backward has (readerOf unit samples levels) base) mask p v
     part-behind h =
         walked-same (backward has (readerFrom base unit partOf levels) base) (λ (l q : ℕ). mirror (readerOf unit samples levels l (q - span l))) (λ (q : ℕ). q ≤ hi)
         (record { same = λ l q t i. ap mirror (part-reads l (q - span l) (λ z. inside l q z i (t .some-left))); stays = λ l q i. omega arith }) mask p v h
       where
         inside : (l q : ℕ) → l ≡ 0 → q ≤ hi → 0 < q - base → (base ≤ q - span l) × (q - span l < hi)
         inside l q z i t = (omega (arith, ap span z), omega (arith, ap span z))
+
+  pub part-way : (back : Bool) (mask p v : ℕ) → base ≤ p → p ≤ hi → walkFrom (wayIn back (readerFrom base unit partOf levels) base hi) mask p v ≡ walkFrom (wayIn back (readerOf unit samples levels) base hi) mask p v
+  part-way true mask p v low high = part-behind allLevels mask p v high
+  part-way false mask p v low high = part-ahead allLevels mask p v low
 
 -- ---- a capture in memory
 module _ (unit len : ℕ) (samples : List ℕ) (levels : ℕ → List ℕ) (s : Stored unit len samples levels) where

@@ -1,4 +1,4 @@
--- What a search over a capture may read, and the places at which it enters a chunk.
+-- What a search over a capture may read, and where it enters a chunk.
 use mathlib.Core.List.{List}
 use Prim.Native.Nat.{ℕ, _+_, _*_, _≤_, _<_}
 use Rattle.rules.specs.Node.{chunk}
@@ -11,16 +11,9 @@ pub record Stored (unit len : ℕ) (samples : List ℕ) (levels : ℕ → List �
   pub most : len ≤ mostSamples
   pub nodes : Nodes len levels
 
--- a place of chunk c with a stored sample before it, or the one past it, forward
-pub record Ahead (len c p : ℕ) : Type 0 where
-  pub starts : c * chunk < len
+-- a place p of chunk c, or the one past it, and a stored sample q next to it
+pub record Entered (len c p q : ℕ) : Type 0 where
   pub low : c * chunk ≤ p
   pub high : p ≤ (c + 1) * chunk
-  pub first : 1 ≤ p
-  pub stored : p ≤ len
-
--- a stored place of chunk c, or the one past it, backward
-pub record Behind (len c p : ℕ) : Type 0 where
-  pub low : c * chunk ≤ p
-  pub high : p ≤ (c + 1) * chunk
-  pub stored : p < len
+  pub most : p ≤ len
+  pub stored : q < len

@@ -8,11 +8,11 @@ ghost use mathlib.Core.Path.{_≡_};
 ghost use Prim.Native.Nat.{_+_, _-_, _*_, _≤_, _<_, min};
 ghost use Rattle.rules.specs.Node.{chunk};
 ghost use Rattle.rules.specs.Refusal.{mostSamples};
-ghost use Rattle.rules.specs.Walk.{forward, backward, walkFrom, nextWalk, previousFrom, allLevels};
+ghost use Rattle.rules.specs.Walk.{walkFrom, nextWalk, previousFrom, allLevels};
 ghost use Rattle.rules.specs.Answer.{given};
 ghost use Rattle.node.specs.Memory.{levelOf, readerOf};
-ghost use Rattle.find.specs.Way.{placeOf};
-ghost use Rattle.search.specs.Part.{Stored, Ahead, Behind};
+ghost use Rattle.find.specs.Way.{wayIn, placeOf};
+ghost use Rattle.search.specs.Part.{Stored, Entered};
 ghost use Rattle.search.specs.Answer.{foundOf, nextOf, previousOf};
 
 const CHUNK: usize = 1048576;
@@ -48,8 +48,9 @@ fn given(p: Place) -> Found
     }
 }
 
-// The search in chunk ci, from lo on; the value before lo is the sample there.
-fn chunk_fwd<'a>(
+// The search in chunk ci from `at` on, or back from there, with the sample at `seen` as the value next to it. Backward that is
+// the sample at `at`, which may be the next chunk's first.
+fn in_chunk<'a>(
     samples: &[u8],
     l1: &'a [Mask],
     l2: &'a [Mask],
@@ -57,53 +58,18 @@ fn chunk_fwd<'a>(
     l4: &'a [Mask],
     unitsize: usize,
     len: usize,
-    mask: Mask,
-    ci: usize,
-    lo: usize,
-) -> Found
-    requires { ⌜ Stored unitsize len (now samples) (levelOf (now l1) (now l2) (now l3) (now l4)) × Ahead len ci lo ⌝ }
-    ensures { λ r. ⌜ foundOf r ≡ given (walkFrom (forward allLevels (readerOf unitsize (now (samples .entry)) (levelOf (now (l1 .entry)) (now (l2 .entry)) (now (l3 .entry)) (now (l4 .entry)))) (min ((ci + 1) * chunk) len)) mask lo (readerOf unitsize (now (samples .entry)) (levelOf (now (l1 .entry)) (now (l2 .entry)) (now (l3 .entry)) (now (l4 .entry))) 0 (lo - 1) .first) .found) ⌝ }
-{
-    let base = ci * CHUNK;
-    let hi = chunk_end(ci, len);
-    let before = lines::get(samples, unitsize, lo - 1);
-    let a = base * unitsize;
-    let e = hi * unitsize;
-    given(find(
-        &samples[a..e],
-        l1,
-        l2,
-        l3,
-        l4,
-        unitsize,
-        base,
-        hi,
-        false,
-        mask,
-        lo,
-        before,
-    ))
-}
-
-// The search back in chunk ci, from `at` down; the value after is the sample at `at`, which may be the next chunk's first.
-fn chunk_back<'a>(
-    samples: &[u8],
-    l1: &'a [Mask],
-    l2: &'a [Mask],
-    l3: &'a [Mask],
-    l4: &'a [Mask],
-    unitsize: usize,
-    len: usize,
+    back: bool,
     mask: Mask,
     ci: usize,
     at: usize,
+    seen: usize,
 ) -> Found
-    requires { ⌜ Stored unitsize len (now samples) (levelOf (now l1) (now l2) (now l3) (now l4)) × Behind len ci at ⌝ }
-    ensures { λ r. ⌜ foundOf r ≡ given (walkFrom (backward allLevels (readerOf unitsize (now (samples .entry)) (levelOf (now (l1 .entry)) (now (l2 .entry)) (now (l3 .entry)) (now (l4 .entry)))) (ci * chunk)) mask at (readerOf unitsize (now (samples .entry)) (levelOf (now (l1 .entry)) (now (l2 .entry)) (now (l3 .entry)) (now (l4 .entry))) 0 at .first) .found) ⌝ }
+    requires { ⌜ Stored unitsize len (now samples) (levelOf (now l1) (now l2) (now l3) (now l4)) × Entered len ci at seen ⌝ }
+    ensures { λ r. ⌜ foundOf r ≡ given (walkFrom (wayIn back (readerOf unitsize (now (samples .entry)) (levelOf (now (l1 .entry)) (now (l2 .entry)) (now (l3 .entry)) (now (l4 .entry)))) (ci * chunk) (min ((ci + 1) * chunk) len)) mask at (readerOf unitsize (now (samples .entry)) (levelOf (now (l1 .entry)) (now (l2 .entry)) (now (l3 .entry)) (now (l4 .entry))) 0 seen .first) .found) ⌝ }
 {
     let base = ci * CHUNK;
     let hi = chunk_end(ci, len);
-    let after = lines::get(samples, unitsize, at);
+    let value = lines::get(samples, unitsize, seen);
     let a = base * unitsize;
     let e = hi * unitsize;
     given(find(
@@ -115,10 +81,10 @@ fn chunk_back<'a>(
         unitsize,
         base,
         hi,
-        true,
+        back,
         mask,
         at,
-        after,
+        value,
     ))
 }
 
@@ -141,7 +107,20 @@ fn chunks_fwd<'a>(
     let mut lo = from + 1;
     let mut ci = lo / CHUNK;
     while ci < end {
-        let f = chunk_fwd(samples, l1, l2, l3, l4, unitsize, len, mask, ci, lo);
+        let f = in_chunk(
+            samples,
+            l1,
+            l2,
+            l3,
+            l4,
+            unitsize,
+            len,
+            false,
+            mask,
+            ci,
+            lo,
+            lo - 1,
+        );
         let Found::Nothing = f else {
             return f;
         };
@@ -193,7 +172,20 @@ fn chunks_back<'a>(
     let mut left = start / CHUNK + 1;
     while 0 < left {
         let ci = left - 1;
-        let f = chunk_back(samples, l1, l2, l3, l4, unitsize, len, mask, ci, at);
+        let f = in_chunk(
+            samples,
+            l1,
+            l2,
+            l3,
+            l4,
+            unitsize,
+            len,
+            true,
+            mask,
+            ci,
+            at,
+            at,
+        );
         let Found::Nothing = f else {
             return f;
         };

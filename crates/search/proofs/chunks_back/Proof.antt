@@ -32,10 +32,10 @@ loop-holds c =
 sub-ci : tie.Need-sub-ci Inv-loop μ-loop
 sub-ci c = omega arith
 
-chunk-back-requires : tie.Need-chunk-back-requires Inv-loop μ-loop
-chunk-back-requires c κs =
+in-chunk-requires : tie.Need-in-chunk-requires Inv-loop μ-loop
+in-chunk-requires c κs =
     let s = c .before .before .before .before .before .before .before in
-    (s .pre .0, record { low = omega arith; high = omega arith; stored = omega arith })
+    (s .pre .0, record { low = omega arith; high = omega arith; most = omega arith; stored = omega arith })
 
 enum-told : tie.Need-enum-told Inv-loop μ-loop
 enum-told c = search needs
@@ -44,7 +44,7 @@ returns : tie.Need-returns Inv-loop μ-loop
 returns c =
     let p = c .before .before .before .loop in
     let s = c .before .before .before .before .before .before .before .before .before in
-    let f = c .before .chunk-back in
+    let f = c .before .in-chunk in
     coursing-found (p .inv .0) (p .left - 1) (omega arith) (f .result) (f .ensures) (not-nothing (f .result) (c .match .keys2))
 
 mul-at : tie.Need-mul-at Inv-loop μ-loop
@@ -57,7 +57,7 @@ loop-again : tie.Need-loop-again Inv-loop μ-loop
 loop-again c =
     let p = c .before .before .before .before .loop in
     let s = c .before .before .before .before .before .before .before .before .before .before in
-    let f = c .before .before .chunk-back in
+    let f = c .before .before .in-chunk in
     (coursing-on (p .inv .0) (p .left - 1) (omega arith) (f .result) (f .ensures) (c .enum-told .given .1), omega arith, omega arith, omega arith)
 
 returns-2 : tie.Need-returns-2 Inv-loop μ-loop
@@ -72,7 +72,7 @@ chunks-back-spec =
     add-left
     loop-holds
     sub-ci
-    chunk-back-requires
+    in-chunk-requires
     enum-told
     returns
     mul-at

@@ -35,10 +35,14 @@ loop-holds c =
     let a = s .args in
     (next-starts allLevels (readerOf (a .unitsize) (now (a .samples)) (levelOf (now (a .l1)) (now (a .l2)) (now (a .l3)) (now (a .l4)))) (a .mask) (a .len) (a .from) (s .pre .1), omega arith, omega arith, omega arith, λ h. omega arith)
 
-chunk-fwd-requires : tie.Need-chunk-fwd-requires Inv-loop μ-loop
-chunk-fwd-requires c κs =
+sub-in-chunk : tie.Need-sub-in-chunk Inv-loop μ-loop
+sub-in-chunk c = omega arith
+
+in-chunk-requires : tie.Need-in-chunk-requires Inv-loop μ-loop
+in-chunk-requires c κs =
     let s = c .before .before .before .before .before .before .before in
-    (s .pre .0, record { starts = omega arith; low = omega arith; high = omega arith; first = omega arith; stored = c .before .loop .inv .4 (omega arith) })
+    let most : c .before .loop .lo ≤ s .args .len = c .before .loop .inv .4 (omega arith) in
+    (s .pre .0, record { low = omega arith; high = omega arith; most = most; stored = omega (arith, most) })
 
 enum-told : tie.Need-enum-told Inv-loop μ-loop
 enum-told c = search needs
@@ -47,7 +51,7 @@ returns : tie.Need-returns Inv-loop μ-loop
 returns c =
     let p = c .before .before .before .loop in
     let s = c .before .before .before .before .before .before .before .before .before in
-    let f = c .before .chunk-fwd in
+    let f = c .before .in-chunk in
     coursing-found (p .inv .0) (chunksFor (s .args .len) - (p .ci + 1)) (omega arith) (f .result) (f .ensures) (not-nothing (f .result) (c .match .keys2))
 
 add-ci : tie.Need-add-ci Inv-loop μ-loop
@@ -63,7 +67,7 @@ loop-again : tie.Need-loop-again Inv-loop μ-loop
 loop-again c =
     let p = c .before .before .before .before .loop in
     let s = c .before .before .before .before .before .before .before .before .before .before in
-    let f = c .before .before .chunk-fwd in
+    let f = c .before .before .in-chunk in
     (coursing-on (p .inv .0) (chunksFor (s .args .len) - (p .ci + 1)) (omega arith) (f .result) (f .ensures) (c .enum-told .given .1), omega arith, omega arith, omega arith, λ h. omega arith)
 
 returns-2 : tie.Need-returns-2 Inv-loop μ-loop
@@ -79,7 +83,8 @@ chunks-fwd-spec =
     add-end
     add-lo
     loop-holds
-    chunk-fwd-requires
+    sub-in-chunk
+    in-chunk-requires
     enum-told
     returns
     add-ci

@@ -1,18 +1,19 @@
--- `search::chunk_fwd` meets its contract: a walk over the chunk's part is one over the whole. Assumes nothing.
-use Prim.Native.Nat.{ℕ, _-_, _*_}
+-- `search::in_chunk` meets its contract: a walk over the chunk's part is one over the whole. Assumes nothing.
+use Prim.Native.Nat.{ℕ, _*_}
 use mathlib.Core.Path.{ap, ap₂, _∙_}
 use native.Mathlib.Nat.{mul-le-mul-right}
 use native.Mathlib.Omega.{arith}
 use denote.Ref.{now}
 use borrow.Author.Needs.{needs}
 use Rattle.rules.specs.Node.{chunk}
-use Rattle.rules.specs.Walk.{Walked, forward, walkFrom, allLevels}
+use Rattle.rules.specs.Walk.{Walked, walkFrom}
 use Rattle.rules.specs.Answer.{given}
 use Rattle.node.specs.Memory.{levelOf, readerOf}
+use Rattle.find.specs.Way.{wayIn}
 use Rattle.find.proofs.Part.{bytes-held, bytes-less}
-use Rattle.search.proofs.Part.{stored-value, stored-part, part-ahead}
-use Rattle.search.proofs.chunk_fwd.Statement.{statement}
-use Rattle.search.proofs.chunk_fwd.Tie as tie
+use Rattle.search.proofs.Part.{stored-value, stored-part, part-way}
+use Rattle.search.proofs.in_chunk.Statement.{statement}
+use Rattle.search.proofs.in_chunk.Tie as tie
 
 mul-base : tie.Need-mul-base
 mul-base c = omega arith
@@ -20,13 +21,10 @@ mul-base c = omega arith
 chunk-end-requires : tie.Need-chunk-end-requires
 chunk-end-requires c κs = (omega arith, omega arith)
 
-sub-get : tie.Need-sub-get
-sub-get c = omega arith
-
 get-requires : tie.Need-get-requires
 get-requires c κs =
     let s = c .before .before .before .before .before .before in
-    bytes-held (s .args .unitsize) (s .args .len) (s .args .lo - 1) (now (s .args .samples)) (s .pre .0 .bytes) (omega arith)
+    bytes-held (s .args .unitsize) (s .args .len) (s .args .seen) (now (s .args .samples)) (s .pre .0 .bytes) (omega arith)
 
 mul-a : tie.Need-mul-a
 mul-a c =
@@ -71,9 +69,9 @@ returns c =
     let lv = levelOf (now (a .l1)) (now (a .l2)) (now (a .l3)) (now (a .l4)) in
     c .given .ensures
     ∙ ap given (c .before .find .ensures)
-    ∙ ap (λ (r : Walked). given (r .found)) (part-ahead (a .ci * chunk) (h .chunk-end .result) (a .unitsize) (now (a .samples)) lv allLevels (a .mask) (a .lo) (v .get .result) (omega arith))
-    ∙ ap₂ (λ (hi x : ℕ). given (walkFrom (forward allLevels (readerOf (a .unitsize) (now (a .samples)) lv) hi) (a .mask) (a .lo) x .found)) (h .chunk-end .ensures)
-    (stored-value (a .unitsize) (a .len) (now (a .samples)) lv (s .pre .0) (a .lo - 1) (v .get .result) (v .get .ensures))
+    ∙ ap (λ (r : Walked). given (r .found)) (part-way (a .ci * chunk) (h .chunk-end .result) (a .unitsize) (now (a .samples)) lv (a .back) (a .mask) (a .at) (v .get .result) (omega arith) (omega arith))
+    ∙ ap₂ (λ (hi x : ℕ). given (walkFrom (wayIn (a .back) (readerOf (a .unitsize) (now (a .samples)) lv) (a .ci * chunk) hi) (a .mask) (a .at) x .found)) (h .chunk-end .ensures)
+    (stored-value (a .unitsize) (a .len) (now (a .samples)) lv (s .pre .0) (a .seen) (v .get .result) (v .get .ensures))
 
-pub chunk-fwd-spec : {M : Type 1} → statement M
-chunk-fwd-spec = tie.close (tie.spec mul-base chunk-end-requires sub-get get-requires mul-a mul-e sub-find part-find-start part-find-end find-requires given-requires returns)
+pub in-chunk-spec : {M : Type 1} → statement M
+in-chunk-spec = tie.close (tie.spec mul-base chunk-end-requires get-requires mul-a mul-e sub-find part-find-start part-find-end find-requires given-requires returns)
