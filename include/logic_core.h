@@ -5,7 +5,7 @@
  *
  * Codes. Each call but lc_raw gives one:
  *     0            it is done, and the out pointers hold the answer
- *     1 .. 20      refused: the number that document 01 gives for the reason; nothing was written anywhere
+ *     1 .. 20      refused: the number that document 01 or 02 gives for the reason; nothing was written anywhere
  *     100          LC_NONE: there is none; of lc_whole: a node is wrong; of lc_push: the recording is complete
  * A call that gives 1 to 20 has changed neither the record nor the lent memory nor what the out pointers point at; of the
  * codes 0 and 100, each call says which of them writes.
@@ -13,6 +13,9 @@
  * Refusals of every call on a record:
  *     1            a number of the record is out of its range
  *     2            lent memory is shorter than lc_needs says
+ * and of a mill's reader (lc_mill_*, below) besides, in this order:
+ *     12           a search's or burst's mask has a line beyond the grant
+ *     13           a place is before the first sample
  *
  * The record is five numbers: unit (bytes a sample, 1 or 2), capacity (samples, 1 to 67108864), len (stored samples),
  * marked (0: there is no mark), mark (the place of the firing sample; of no meaning where marked is 0).
@@ -127,6 +130,83 @@ uint32_t lc_render(const size_t record[5],
                    const uint16_t *l1, size_t l1_len, const uint16_t *l2, size_t l2_len,
                    const uint16_t *l3, size_t l3_len, const uint16_t *l4, size_t l4_len,
                    double start, double spp, size_t width, uint16_t *output, size_t output_len);
+
+/* A mill's reader: the calls lc_mill_*, for whoever may see some lines only. Each takes a grant, a mask of lines, and tells
+ * nothing of the others: to it, two captures of equal length, mark and granted lines look alike, refusals too, each with its
+ * memory lent whole; unit, capacity and the other lines may differ. Who holds the memory can read all lines in it, so the
+ * caller keeps the memory and hands on the answers. lc_raw and lc_whole are not for mills.
+ *
+ * Samples, nodes and pixels show granted lines only: each number is ANDed with the grant. Places are int64_t numbers that
+ * count from the mark, negative before it, or from the first sample where there is no mark: the first sample is at -mark, or
+ * 0, and the end at len - mark, or len. Counts, gaps, tolerance, budget and jumps are those of the calls above.
+ *
+ * Refusals come in the order 1, 2, 12, 13, and then the call's own. A place at or past the end is refused by lc_mill_get
+ * alone; any place may be given, up to both ends of int64_t. */
+
+/* Which places there are: first becomes that of the first sample, end the one behind the last, and marked whether there is
+ * a mark, which is at 0 then. Without samples both are 0. It takes no grant. Refuses with 1 and 2. */
+uint32_t lc_mill_extent(const size_t record[5],
+                        const uint8_t *samples, size_t samples_len,
+                        const uint16_t *l1, size_t l1_len, const uint16_t *l2, size_t l2_len,
+                        const uint16_t *l3, size_t l3_len, const uint16_t *l4, size_t l4_len,
+                        int64_t *first, int64_t *end, bool *marked);
+
+/* As lc_get: the sample at a place. Refuses with 1, 2, 13, and 9 where the place is at or past the end. */
+uint32_t lc_mill_get(const size_t record[5],
+                     const uint8_t *samples, size_t samples_len,
+                     const uint16_t *l1, size_t l1_len, const uint16_t *l2, size_t l2_len,
+                     const uint16_t *l3, size_t l3_len, const uint16_t *l4, size_t l4_len,
+                     uint16_t grant, int64_t place, uint16_t *value);
+
+/* As lc_samples: copies the samples from start on, count of them or as many as there are; from the end on there are none.
+ * Refuses with 1, 2, 13, and 11 where output is shorter than what is to be copied. */
+uint32_t lc_mill_samples(const size_t record[5],
+                         const uint8_t *samples, size_t samples_len,
+                         const uint16_t *l1, size_t l1_len, const uint16_t *l2, size_t l2_len,
+                         const uint16_t *l3, size_t l3_len, const uint16_t *l4, size_t l4_len,
+                         uint16_t grant, int64_t start, size_t count,
+                         uint16_t *output, size_t output_len, size_t *copied);
+
+/* As lc_summary: the node of the places from a up to b, or up to the end; LC_NONE where there is no such place (nothing is
+ * written). Refuses with 1, 2, and 13 where a or b is before the first sample. */
+uint32_t lc_mill_summary(const size_t record[5],
+                         const uint8_t *samples, size_t samples_len,
+                         const uint16_t *l1, size_t l1_len, const uint16_t *l2, size_t l2_len,
+                         const uint16_t *l3, size_t l3_len, const uint16_t *l4, size_t l4_len,
+                         uint16_t grant, int64_t a, int64_t b, uint16_t node[3]);
+
+/* As lc_next_change: the first place above from at which a line of the mask differs from the sample before; LC_NONE where
+ * there is none (nothing is written). Refuses with 1, 2, 12 and 13. */
+uint32_t lc_mill_next_change(const size_t record[5],
+                             const uint8_t *samples, size_t samples_len,
+                             const uint16_t *l1, size_t l1_len, const uint16_t *l2, size_t l2_len,
+                             const uint16_t *l3, size_t l3_len, const uint16_t *l4, size_t l4_len,
+                             uint16_t grant, uint16_t mask, int64_t from, int64_t *place);
+
+/* The same backward: the last such place, above that of the first sample, that is not above from. */
+uint32_t lc_mill_prev_change(const size_t record[5],
+                             const uint8_t *samples, size_t samples_len,
+                             const uint16_t *l1, size_t l1_len, const uint16_t *l2, size_t l2_len,
+                             const uint16_t *l3, size_t l3_len, const uint16_t *l4, size_t l4_len,
+                             uint16_t grant, uint16_t mask, int64_t from, int64_t *place);
+
+/* As lc_burst_at: first and last become the places of the burst's first and last change, and jumps the jumps made at the end
+ * and those made at the start. LC_NONE where there is no burst (nothing is written). Refuses with 1, 2, 12 and 13. */
+uint32_t lc_mill_burst_at(const size_t record[5],
+                          const uint8_t *samples, size_t samples_len,
+                          const uint16_t *l1, size_t l1_len, const uint16_t *l2, size_t l2_len,
+                          const uint16_t *l3, size_t l3_len, const uint16_t *l4, size_t l4_len,
+                          uint16_t grant, uint16_t mask, int64_t sample,
+                          size_t max_gap, size_t tolerance, size_t budget,
+                          int64_t *first, int64_t *last, size_t jumps[2]);
+
+/* As lc_render: draws width pixels of a view; start is a place as the mill counts, and may be before the first sample, where
+ * there is nothing to draw: 13 is not given. Refuses with 1, 2, 10 and 11. */
+uint32_t lc_mill_render(const size_t record[5],
+                        const uint8_t *samples, size_t samples_len,
+                        const uint16_t *l1, size_t l1_len, const uint16_t *l2, size_t l2_len,
+                        const uint16_t *l3, size_t l3_len, const uint16_t *l4, size_t l4_len,
+                        uint16_t grant, double start, double spp, size_t width, uint16_t *output, size_t output_len);
 
 /* Starts a recorder: record becomes its 17 numbers, of which the first five are the record of its capture, and cut becomes
  * 1 where the samples kept before the trigger were cut at the cap, else 0. The lent memory is measured, and not written.

@@ -2,6 +2,7 @@
  * a plain scan. Prints the answers; exits with 1 at the first that is wrong. */
 #include "logic_core.h"
 
+#include <inttypes.h>
 #include <stdio.h>
 #include <stdlib.h>
 
@@ -131,6 +132,25 @@ int main(void) {
         row[WIDTH] = '\0';
         printf("line %d %s\n", lines[l], row);
     }
+
+    /* A mill that is granted the encoder's lines: its places count from the mark, and it sees no other line. */
+    int64_t run_first, run_end, step;
+    bool marked;
+    must(lc_mill_extent(record, LENT(&m), &run_first, &run_end, &marked) == 0, "extent");
+    must(marked && run_first == -(int64_t)mark && run_end == (int64_t)(len - mark), "the mill's places");
+    must(lc_mill_next_change(record, LENT(&m), ENCODER, ENCODER, run_first, &step) == 0, "a mill's next change");
+    must(step == (int64_t)first - (int64_t)mark, "the step from the mark");
+    uint16_t after[4];
+    size_t copied;
+    must(lc_mill_samples(record, LENT(&m), ENCODER, step - 2, 4, after, 4, &copied) == 0 && copied == 4, "samples");
+    printf("a mill: %" PRId64 " to %" PRId64 ", first step at %" PRId64 ", samples there %u %u %u %u\n", run_first, run_end,
+           step, after[0], after[1], after[2], after[3]);
+    for (size_t i = 0; i < 4; i++)
+        must(after[i] == (m.samples[first - 2 + i] & ENCODER), "a mill's samples");
+    const uint32_t beyond = lc_mill_next_change(record, LENT(&m), ENCODER, 1 << DRIVE, run_first - 1, &step);
+    const uint32_t before = lc_mill_next_change(record, LENT(&m), ENCODER, ENCODER, run_first - 1, &step);
+    printf("the drive's line and a place before the run: refused with %u and %u\n", (unsigned)beyond, (unsigned)before);
+    must(beyond == 12 && before == 13 && step == (int64_t)first - (int64_t)mark, "a mill's refusals");
 
     /* A refusal has a number, and changes nothing. */
     uint16_t value = 77;

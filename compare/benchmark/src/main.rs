@@ -70,6 +70,10 @@ fn searches(table: &mut Table, gap: u64) {
         let work = Walk { mask, len: LEN };
         let name = format!("a change every {gap}, {lines}");
         table.line(&format!("next, {name}"), "change", |side| side.next_change(&work));
+        if (gap, mask) == (100, 2) {
+            table
+                .line(&format!("mill next, {name}"), "change", |side| side.mill_next_change(&work));
+        }
         table.line(&format!("previous, {name}"), "change", |side| side.prev_change(&work));
     }
 }
@@ -79,6 +83,9 @@ fn questions(table: &mut Table) {
     for len in [10, 1_000, 1_000_000] {
         let work = Ranges::random(LEN, len, 1_000);
         table.line(&format!("summary of {len}"), "call", |side| side.summary(&work));
+        if len == 1_000 {
+            table.line(&format!("mill summary of {len}"), "call", |side| side.mill_summary(&work));
+        }
     }
     for (len, count) in [(1_000, 100), (1_000_000, 1)] {
         let work = Ranges::random(LEN, len, count);
@@ -92,6 +99,9 @@ fn questions(table: &mut Table) {
     ] {
         let work = Row { start, spp, width: 1_920 };
         table.line(name, "pixel", |side| side.render(&work));
+        if spp == 10.0 {
+            table.line(&format!("mill {name}"), "pixel", |side| side.mill_render(&work));
+        }
     }
     bursts(table, "burst, dense", 16, 1_000);
     table.hold(&Samples::with_changes(table.unit, LEN, 1_000));

@@ -1,7 +1,7 @@
 //! The port, over memory that it is lent. Without the static library it has no operation.
 
 use crate::side::{timed, Side, Timed};
-use crate::work::{Appends, Bursts, Pushes, Ranges, Row, Samples, Wait, Walk};
+use crate::work::{Appends, Bursts, Pushes, Ranges, Row, Samples, Wait, Walk, GRANT};
 use port::{Asked, Feeder, Lent, LentMut, Record, Settings};
 use std::cell::RefCell;
 
@@ -64,6 +64,12 @@ impl Capture {
         let [l1, l2, l3, l4] = &mut self.levels;
         let lent = LentMut { samples: &mut self.samples, levels: [l1, l2, l3, l4] };
         assert_eq!(port::push(feeder, lent, ring, bytes), 0);
+    }
+
+    /// The record with a mark in the middle, and the mark.
+    fn marked(&self) -> (Record, i64) {
+        let [unit, capacity, len, ..] = self.record;
+        ([unit, capacity, len, 1, len / 2], (len / 2) as i64)
     }
 
     fn lent(&self) -> Lent<'_> {
@@ -195,6 +201,50 @@ impl Side for Rattle {
         timed(LENT, || {
             let row = &mut output[..room];
             let code = port::render(record, lent, work.start, work.spp, width, row);
+            assert_eq!(code, 0);
+            (work.width, row.iter().map(|&n| n as u64).sum())
+        })
+    }
+
+    fn mill_next_change(&self, work: &Walk) -> Option<Timed> {
+        let ((record, mark), lent) = (self.held.marked(), self.held.lent());
+        port::LINKED.then_some(())?;
+        timed(NONE, || {
+            let (mut at, mut count, mut sum) = (-mark, 0, 0);
+            while port::mill::next_change(&record, lent, GRANT, work.mask, at, &mut at) == 0 {
+                count += 1;
+                sum += (at + mark) as u64;
+            }
+            (count, sum)
+        })
+    }
+
+    fn mill_summary(&self, work: &Ranges) -> Option<Timed> {
+        let ((record, mark), lent) = (self.held.marked(), self.held.lent());
+        port::LINKED.then_some(())?;
+        timed(NONE, || {
+            let mut node = [0; 3];
+            let sum = |&a: &u64| {
+                let a = a as i64 - mark;
+                let b = a + work.len as i64;
+                assert_eq!(port::mill::summary(&record, lent, GRANT, a, b, &mut node), 0);
+                node.iter().map(|&n| n as u64).sum::<u64>()
+            };
+            (work.count(), work.starts.iter().map(sum).sum())
+        })
+    }
+
+    fn mill_render(&self, work: &Row) -> Option<Timed> {
+        let ((record, mark), lent) = (self.held.marked(), self.held.lent());
+        let mut output = self.output.borrow_mut();
+        let (width, room) = (work.width as usize, 2 * work.width as usize);
+        let held = output.len().max(room);
+        output.resize(held, 0xA5A5);
+        port::LINKED.then_some(())?;
+        timed(LENT, || {
+            let row = &mut output[..room];
+            let start = work.start - mark as f64;
+            let code = port::mill::render(&record, lent, GRANT, start, work.spp, width, row);
             assert_eq!(code, 0);
             (work.width, row.iter().map(|&n| n as u64).sum())
         })

@@ -1,7 +1,7 @@
 //! The unchanged Rust.
 
 use crate::side::{timed, Side, Timed};
-use crate::work::{Appends, Bursts, Pushes, Ranges, Row, Samples, Wait, Walk};
+use crate::work::{Appends, Bursts, Pushes, Ranges, Row, Samples, Wait, Walk, GRANT};
 use edgewise::capture::{Capture, Node, Snapshot};
 use edgewise::trigger::{Condition, Feeder, TriggerTerm};
 use std::sync::Arc;
@@ -115,6 +115,28 @@ impl Side for Rust {
         timed(CLEARED, || {
             let row = self.snapshot.render(work.start, work.spp, work.width as usize);
             (work.width, row.into_iter().map(u64::from).sum())
+        })
+    }
+
+    // It has no reader for mills: these are its own calls, and their answers are cut down.
+
+    fn mill_next_change(&self, work: &Walk) -> Option<Timed> {
+        self.next_change(work)
+    }
+
+    fn mill_summary(&self, work: &Ranges) -> Option<Timed> {
+        timed(NONE, || {
+            let node = |&a: &u64| self.snapshot.summary(a, a + work.len).unwrap_or_default();
+            let shown = |n: Node| [n.first, n.last, n.mask].map(|v| (v & GRANT) as u64);
+            let sum = work.starts.iter().map(node).map(|n| shown(n).iter().sum::<u64>()).sum();
+            (work.count(), sum)
+        })
+    }
+
+    fn mill_render(&self, work: &Row) -> Option<Timed> {
+        timed(CLEARED, || {
+            let row = self.snapshot.render(work.start, work.spp, work.width as usize);
+            (work.width, row.into_iter().map(|v| (v & GRANT) as u64).sum())
         })
     }
 }

@@ -50,6 +50,20 @@ pub trait Side {
     fn render(&self, work: &Row) -> Option<Timed> {
         None
     }
+
+    // The same by a mill's reader: lines of GRANT, places from the middle of the capture.
+
+    fn mill_next_change(&self, work: &Walk) -> Option<Timed> {
+        None
+    }
+
+    fn mill_summary(&self, work: &Ranges) -> Option<Timed> {
+        None
+    }
+
+    fn mill_render(&self, work: &Row) -> Option<Timed> {
+        None
+    }
 }
 
 /// Times a work that gives its count and its sum.

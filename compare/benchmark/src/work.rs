@@ -2,6 +2,9 @@
 
 use rng::Rng;
 
+/// The lines that a mill sees.
+pub const GRANT: u16 = 0x0F0F;
+
 /// Samples of a capture, as bytes.
 pub struct Samples {
     pub unit: usize,

@@ -6,12 +6,14 @@ use crate::document::Document;
 use crate::op::Op;
 use crate::port::Port;
 use crate::rust::Rust;
-use crate::side::Side;
+use crate::side::{Answer, Side};
 
 pub struct Asker {
     document: Document,
     rust: Rust,
     port: Option<Port>,
+    /// What the port said to the last line.
+    ported: Option<Answer>,
     /// The lines since the last capture began.
     trace: Vec<String>,
     pub differences: Vec<String>,
@@ -24,6 +26,8 @@ pub struct Counts {
     pub refused: u64,
     pub rust_has_none: u64,
     pub by_port: u64,
+    /// Of these, questions of mills: answered by the Rust, refused, decided by the document alone.
+    pub mill: [u64; 3],
 }
 
 impl Asker {
@@ -32,6 +36,7 @@ impl Asker {
             document: Document::default(),
             rust: Rust::new(),
             port: None,
+            ported: None,
             trace: Vec::new(),
             differences: Vec::new(),
             counts: Counts::default(),
@@ -46,48 +51,75 @@ impl Asker {
         self.rust.checks_overflow()
     }
 
+    /// What the document knows of the capture that is asked about.
+    pub fn document(&self) -> &Document {
+        &self.document
+    }
+
+    pub fn ported(&self) -> Option<&Answer> {
+        self.ported.as_ref()
+    }
+
+    /// Notes a difference beside those that asking finds.
+    pub fn differs(&mut self, what: &str) {
+        let lines = self.trace.join("\n");
+        self.differences.push(format!("{lines}\n{what}"));
+    }
+
     /// The whole line: code, arguments, who decides, answer.
     pub fn ask(&mut self, op: &Op) -> String {
         let mut numbers = op.numbers();
-        let ported = self.port.as_mut().and_then(|port| port.take(op));
-        let ruled = self.document.take(op);
-        if let Some(ruled) = ruled {
-            let refused = ruled.is_err() || self.document.refuses();
-            let own = if refused { None } else { self.rust.take(op) };
-            match own {
-                Some(_) => self.counts.by_rust += 1,
-                None if refused => self.counts.refused += 1,
-                None => self.counts.rust_has_none += 1,
-            }
-            let mut faults = self.port.as_mut().map_or(Vec::new(), Port::faults);
-            if own.as_ref().is_some_and(|own| *own != ruled) {
-                faults.push("the Rust differs".into());
-            }
-            if let Some(ported) = &ported {
-                self.counts.by_port += 1;
-                if *ported != ruled {
-                    faults.push("the port differs".into());
-                }
-            }
-            if !faults.is_empty() {
-                let arguments = joined(&numbers);
-                let lines = self.trace.join("\n");
-                let faults = faults.join("; ");
-                let found = format!(
-                    "{lines}\n{arguments}\n  document {ruled:?}\n  Rust {own:?}\n  port {ported:?}\n  {faults}"
-                );
-                self.differences.push(found);
-            }
-            numbers.push(own.is_none() as u64);
-            match own.unwrap_or(ruled) {
-                Ok(values) => {
-                    numbers.push(0);
-                    numbers.extend(values);
-                }
-                Err(number) => numbers.push(number),
-            }
+        self.ported = self.port.as_mut().and_then(|port| port.take(op));
+        let Some(ruled) = self.document.take(op) else {
+            // A line that sets the scene sets the Rust's mark, too.
+            self.rust.take(op);
+            return self.noted(op, &numbers);
+        };
+        let refused = ruled.is_err() || self.document.refuses();
+        let own = if refused { None } else { self.rust.take(op) };
+        self.count(op, own.is_some(), refused);
+        let mut faults = self.port.as_mut().map_or(Vec::new(), Port::faults);
+        if own.as_ref().is_some_and(|own| *own != ruled) {
+            faults.push("the Rust differs".into());
         }
-        let line = joined(&numbers);
+        if self.ported.as_ref().is_some_and(|ported| *ported != ruled) {
+            faults.push("the port differs".into());
+        }
+        if !faults.is_empty() {
+            let arguments = joined(&numbers);
+            let (ported, faults) = (&self.ported, faults.join("; "));
+            self.differs(&format!(
+                "{arguments}\n  document {ruled:?}\n  Rust {own:?}\n  port {ported:?}\n  {faults}"
+            ));
+        }
+        numbers.push(own.is_none() as u64);
+        match own.unwrap_or(ruled) {
+            Ok(values) => {
+                numbers.push(0);
+                numbers.extend(values);
+            }
+            Err(number) => numbers.push(number),
+        }
+        self.noted(op, &numbers)
+    }
+
+    fn count(&mut self, op: &Op, by_rust: bool, refused: bool) {
+        let counts = &mut self.counts;
+        let (count, kind) = match (by_rust, refused) {
+            (true, _) => (&mut counts.by_rust, 0),
+            (_, true) => (&mut counts.refused, 1),
+            _ => (&mut counts.rust_has_none, 2),
+        };
+        *count += 1;
+        counts.by_port += self.ported.is_some() as u64;
+        if let Op::Mill(_) = op {
+            counts.mill[kind] += 1;
+        }
+    }
+
+    /// The line, noted in the trace.
+    fn noted(&mut self, op: &Op, numbers: &[u64]) -> String {
+        let line = joined(numbers);
         if op.begins() {
             self.trace.clear();
         }

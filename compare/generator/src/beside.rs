@@ -5,6 +5,7 @@ use crate::feed::Feed;
 use crate::groups::GROUPS;
 use crate::line::Numbers;
 use crate::list::{append, List};
+use crate::mill::Mills;
 use crate::op::Op;
 use crate::port::Port;
 use crate::shapes::{mask, Size, CHUNK};
@@ -86,6 +87,7 @@ fn random(seconds: u64, seed: u64) -> bool {
     let begun = Instant::now();
     let mut list = List::with_port();
     let mut rng = Rng::new(seed);
+    let mut mills = Mills::default();
     let mut longs = 0;
     while begun.elapsed() < Duration::from_secs(seconds) {
         let group = &GROUPS[rng.below(GROUPS.len() as u64) as usize];
@@ -98,6 +100,7 @@ fn random(seconds: u64, seed: u64) -> bool {
             10..=400 => (group.random)(&mut list, &mut rng, Size::Border),
             _ => (group.random)(&mut list, &mut rng, Size::Short),
         }
+        mills.ask(&mut list, &mut rng);
         list.text();
     }
     let asker = list.asker();
@@ -110,6 +113,12 @@ fn random(seconds: u64, seed: u64) -> bool {
         asker.differences.len(),
         asker.counts.by_rust,
         asker.counts.refused,
+    );
+    let [by_rust, refused, alone] = asker.counts.mill;
+    println!(
+        "of these, mills asked {}: the Rust answers {by_rust}, CR 1 refuses {refused}, it alone answers {alone}; {} asked of two captures alike",
+        by_rust + refused + alone,
+        mills.twice,
     );
     asker.differences.is_empty()
 }

@@ -1,7 +1,9 @@
 //! An operation as the numbers of a line, and back.
 
 use crate::feed::Feed;
-use crate::op::{Burst, Lent, Op, Recorder, Settings, Store, Term, View, Wish, CONDITIONS};
+use crate::op::{
+    Ask, Burst, Lent, Mill, Op, Recorder, Settings, Store, Term, View, Wish, CONDITIONS,
+};
 
 impl Op {
     /// Code and arguments.
@@ -36,6 +38,7 @@ impl Op {
             Op::Start(settings) => start_numbers(settings),
             Op::Push(feed) => feed_numbers(52, feed),
             Op::State => vec![55],
+            Op::Mill(mill) => mill_numbers(mill),
         }
     }
 
@@ -86,6 +89,27 @@ impl Op {
             55 => Op::State,
             _ => return None,
         })
+    }
+}
+
+/// For the traces of a difference: code, grant and arguments, negative places as 64 bits.
+fn mill_numbers(Mill { grant, ask }: &Mill) -> Vec<u64> {
+    let grant = *grant as u64;
+    match *ask {
+        Ask::Extent => vec![60],
+        Ask::Get(place) => vec![61, grant, place as u64],
+        Ask::Samples { start, count, output } => vec![62, grant, start as u64, count, output],
+        Ask::Summary { a, b } => vec![63, grant, a as u64, b as u64],
+        Ask::Next { mask, from } => vec![64, grant, mask as u64, from as u64],
+        Ask::Prev { mask, from } => vec![65, grant, mask as u64, from as u64],
+        Ask::Burst { mask, sample, max_gap, tolerance, budget } => {
+            vec![66, grant, mask as u64, sample as u64, max_gap, tolerance, budget]
+        }
+        Ask::Render(view) => {
+            let mut line = view_numbers(67, &view);
+            line.insert(1, grant);
+            line
+        }
     }
 }
 

@@ -10,6 +10,7 @@ mod feed;
 mod groups;
 mod line;
 mod list;
+mod mill;
 mod model;
 mod op;
 mod port;

@@ -80,6 +80,26 @@ pub struct Burst {
     pub budget: u64,
 }
 
+/// A question of a mill, with its grant.
+#[derive(Clone, Copy, Debug)]
+pub struct Mill {
+    pub grant: u16,
+    pub ask: Ask,
+}
+
+/// What a mill asks. Its places count from the mark.
+#[derive(Clone, Copy, Debug)]
+pub enum Ask {
+    Extent,
+    Get(i64),
+    Samples { start: i64, count: u64, output: u64 },
+    Summary { a: i64, b: i64 },
+    Next { mask: u16, from: i64 },
+    Prev { mask: u16, from: i64 },
+    Burst { mask: u16, sample: i64, max_gap: u64, tolerance: u64, budget: u64 },
+    Render(View),
+}
+
 #[derive(Clone, Debug)]
 pub enum Op {
     // These set the scene and have no answer.
@@ -107,6 +127,8 @@ pub enum Op {
     Start(Settings),
     Push(Feed),
     State,
+    // A mill's. They stand in no list: the Rust has no such reader.
+    Mill(Mill),
 }
 
 impl Op {

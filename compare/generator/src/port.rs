@@ -2,6 +2,7 @@
 //! Beside it stands what the calls must leave there; whatever else changes is a fault.
 
 mod memory;
+mod mill;
 mod recorder;
 
 use crate::digest::digest;
@@ -98,7 +99,12 @@ impl Port {
                 self.kept(code, "value", 0xA5C3, value);
                 said(code, || vec![value as u64])
             }
-            Op::Samples { start, count, output } => self.samples(start, count, output),
+            Op::Samples { start, count, output } => {
+                let (start, count) = (start as usize, count as usize);
+                self.samples(output, |record, lent, output, copied| {
+                    port::samples(record, lent, start, count, output, copied)
+                })
+            }
             Op::Raw(chunk) => {
                 let bytes = port::raw(&self.record, self.lent(), chunk as usize);
                 Ok(vec![bytes.len() as u64, digest(bytes.iter().map(|&b| b as u64))])
@@ -125,10 +131,10 @@ impl Port {
                 found(code, node.map(u64::from))
             }
             Op::Burst(burst) => self.burst(burst),
-            Op::Render(view) => self.render(view, listed),
-            Op::RenderDigest(view) => {
-                self.render(view, |row| vec![digest(row.iter().map(|&v| v as u64))])
-            }
+            Op::Render(view) => self.render(view, render_of(view), listed),
+            Op::RenderDigest(view) => self
+                .render(view, render_of(view), |row| vec![digest(row.iter().map(|&v| v as u64))]),
+            Op::Mill(mill) => self.mill(mill),
             _ => return None,
         })
     }
@@ -189,14 +195,16 @@ impl Port {
         Ok(vec![len as u64, (marked != 0) as u64, mark as u64, armed as u64, digest])
     }
 
-    fn samples(&mut self, start: u64, count: u64, output: u64) -> Answer {
+    /// Samples to an output of this length, by the service's call or a mill's.
+    fn samples(
+        &mut self,
+        output: u64,
+        call: impl Fn(&Record, port::Lent, &mut [u16], &mut usize) -> u32,
+    ) -> Answer {
         let room = output as usize;
         let (before, mut after) = patterned(room);
         let mut copied = 91;
-        let lent = self.lent();
-        let part = &mut after[..room];
-        let code =
-            port::samples(&self.record, lent, start as usize, count as usize, part, &mut copied);
+        let code = call(&self.record, self.lent(), &mut after[..room], &mut copied);
         self.kept(code, "count copied", 91, copied);
         let copied = if code == 0 { copied.min(room) } else { 0 };
         if before[copied..] != after[copied..] {
@@ -217,11 +225,16 @@ impl Port {
         found(code, ends.map(|n| n as u64))
     }
 
-    fn render(&mut self, view: View, row: impl Fn(&[u16]) -> Vec<u64>) -> Answer {
+    /// A view drawn by the service's call or a mill's.
+    fn render(
+        &mut self,
+        view: View,
+        call: impl Fn(&Record, port::Lent, &mut [u16]) -> u32,
+        row: impl Fn(&[u16]) -> Vec<u64>,
+    ) -> Answer {
         let (width, room) = (view.width as usize, view.output as usize);
         let (before, mut after) = patterned(room);
-        let part = &mut after[..room];
-        let code = port::render(&self.record, self.lent(), view.start, view.spp, width, part);
+        let code = call(&self.record, self.lent(), &mut after[..room]);
         let drawn = if code == 0 { (2 * width).min(room) } else { 0 };
         if before[drawn..] != after[drawn..] {
             self.faults.push("output past the pixels changed".into());
@@ -305,6 +318,11 @@ impl Port {
             self.right = self.memory.clone();
         }
     }
+}
+
+fn render_of(view: View) -> impl Fn(&Record, port::Lent, &mut [u16]) -> u32 {
+    let View { start, spp, width, .. } = view;
+    move |record, lent, output| port::render(record, lent, start, spp, width as usize, output)
 }
 
 /// The values, or the number of the refusal.

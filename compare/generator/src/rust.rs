@@ -1,6 +1,8 @@
 //! The unchanged Rust as a side. It has no capacity, no lent memory and no refusals;
 //! where it panics it has no answer.
 
+mod mill;
+
 use crate::digest::digest;
 use crate::document::{listed, optional};
 use crate::op::{Burst, Condition, Op, Settings, Wish};
@@ -76,6 +78,11 @@ impl Rust {
                 return Some(vec![self.capture.snapshot().meta.unitsize as u64]);
             }
             Op::Start(settings) => return Some(self.start(settings)),
+            // Of a record that a line sets it has the mark alone.
+            Op::Record(store) => {
+                self.capture.set_trigger(store.mark);
+                return None;
+            }
             _ => self.capture.snapshot(),
         };
         match op {
@@ -108,6 +115,7 @@ impl Rust {
                 let (pre, cut) = pretrigger_samples(*time, *rate, *unit as usize);
                 Some(vec![pre, cut as u64])
             }
+            Op::Mill(mill) => mill::answer(&snapshot, mill),
             // No such calls, or none that shows it.
             _ => None,
         }

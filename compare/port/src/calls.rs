@@ -80,4 +80,20 @@ questions! {
         burst: *mut [usize; 4]
     ) -> u32;
     lc_render(start: f64, spp: f64, width: usize, output: *mut u16, output_len: usize) -> u32;
+    lc_mill_extent(first: *mut i64, end: *mut i64, marked: *mut bool) -> u32;
+    lc_mill_get(grant: u16, place: i64, value: *mut u16) -> u32;
+    lc_mill_samples(
+        grant: u16, start: i64, count: usize, output: *mut u16, output_len: usize,
+        copied: *mut usize
+    ) -> u32;
+    lc_mill_summary(grant: u16, a: i64, b: i64, node: *mut [u16; 3]) -> u32;
+    lc_mill_next_change(grant: u16, mask: u16, from: i64, place: *mut i64) -> u32;
+    lc_mill_prev_change(grant: u16, mask: u16, from: i64, place: *mut i64) -> u32;
+    lc_mill_burst_at(
+        grant: u16, mask: u16, sample: i64, max_gap: usize, tolerance: usize, budget: usize,
+        first: *mut i64, last: *mut i64, jumps: *mut [usize; 2]
+    ) -> u32;
+    lc_mill_render(
+        grant: u16, start: f64, spp: f64, width: usize, output: *mut u16, output_len: usize
+    ) -> u32;
 }

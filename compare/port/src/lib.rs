@@ -48,6 +48,8 @@ macro_rules! lent {
     }};
 }
 
+pub mod mill;
+
 #[inline]
 pub fn start(channels: usize, capacity: usize, lent: Lent, record: &mut Record) -> u32 {
     lent!(lc_start, (channels, capacity), lent, as_ptr, (record))

@@ -1,17 +1,19 @@
 -- Runs of the same length with the same chosen lines answer alike, and runs of one length that answer alike have the same chosen lines.
 use mathlib.Core.Path.{_≡_, sym, ap, _∙_, subst}
 use mathlib.Core.Logic.{_↔_}
-use mathlib.Core.Option.{some}
+use mathlib.Core.Option.{Option, some}
 use Prim.Native.Nat.{ℕ, _+_, _<_, min}
 use native.Mathlib.Omega.{arith}
 use lib.Bits.{bitAnd}
 use borrow.Author.Tests.{lt-ltb}
-use Rattle.rules.specs.Node.{Node, cut, leaf}
-use Rattle.rules.specs.Search.{summary}
+use Rattle.rules.specs.Node.{Node, nodeOf, cut, leaf}
+use Rattle.rules.specs.Search.{summary, cutSummary}
+use Rattle.rules.specs.Pixel.{Range, rowBy, cutPixels}
 use Rattle.rules.proofs.Node.{cutTo, node-one}
-use Rattle.alike.specs.Alike.{cutSummary, Same, Alike}
-use Rattle.alike.proofs.Below.{summary-below, render-below, next-below, previous-below, burst-below}
-use Rattle.alike.proofs.Cut.{summary-cut, render-cut, next-cut, previous-cut, burst-cut}
+use Rattle.rules.proofs.Row.{Stored}
+use Rattle.alike.specs.Alike.{Same, Alike}
+use Rattle.alike.proofs.Below.{summary-below, render-below, next-below, previous-below, burst-below, row-below}
+use Rattle.alike.proofs.Cut.{summary-cut, render-cut, next-cut, previous-cut, burst-cut, row-cut}
 
 -- the answers of either run, cut down, are those of its chosen lines, which agree
 same-len : (v : ℕ) (s₁ s₂ : ℕ → ℕ) (len : ℕ) → ((i : ℕ) → i < len → bitAnd (s₁ i) v ≡ bitAnd (s₂ i) v) → Alike v s₁ len s₂ len
@@ -35,6 +37,14 @@ same-len v s₁ s₂ len lines = record {
 module _ (v : ℕ) (s₁ : ℕ → ℕ) (len₁ : ℕ) (s₂ : ℕ → ℕ) (len₂ : ℕ) where
   pub same-alike : Same v s₁ len₁ s₂ len₂ → Alike v s₁ len₁ s₂ len₂
   same-alike same = subst (λ (n : ℕ). Alike v s₁ len₁ s₂ n) (same .len) (same-len v s₁ s₂ len₁ (same .lines))
+
+  -- a row of pixels over any ranges of stored places
+  pub row-alike : Same v s₁ len₁ s₂ len₂ → (range : ℕ → ℕ → Option Range) → ((n : ℕ) → Stored (range n) n) → (px n : ℕ) → cutPixels v (rowBy (nodeOf s₁) (range len₁) px n) ≡ cutPixels v (rowBy (nodeOf s₂) (range len₂) px n)
+  row-alike same range stored px n =
+      sym (row-cut v s₁ len₁ (range len₁) px n)
+      ∙ row-below (cutTo v s₁) (cutTo v s₂) len₁ (same .lines) (range len₁) (stored len₁) px n
+      ∙ row-cut v s₂ len₁ (range len₁) px n
+      ∙ ap (λ (l : ℕ). cutPixels v (rowBy (nodeOf s₂) (range l) px n)) (same .len)
 
   -- the node of one sample is that sample
   one-sample : (s : ℕ → ℕ) (len i : ℕ) → i < len → cutSummary v (summary s len i (i + 1)) ≡ some (cut v (leaf (s i)))

@@ -12,9 +12,9 @@ use borrow.Author.Tests.{lt-ltb, le-ltb}
 use Rattle.rules.specs.Node.{nodeOf}
 use Rattle.rules.specs.Search.{changed, seek, up, down, next, previous, summary}
 use Rattle.rules.specs.Burst.{burst, burstBy}
-use Rattle.rules.specs.Pixel.{View, render}
+use Rattle.rules.specs.Pixel.{View, Range, rowBy, pixelRange, render}
 use Rattle.rules.proofs.Node.{node-same}
-use Rattle.rules.proofs.Row.{row-same}
+use Rattle.rules.proofs.Row.{Stored, pixels-stored, row-same}
 use Rattle.rules.proofs.Search.{times, times-up, times-down}
 
 -- ---- the places of a search
@@ -36,8 +36,12 @@ module _ (s₁ s₂ : ℕ → ℕ) (len : ℕ) (same : (i : ℕ) → i < len →
       go (yes h) = rw (lt-ltb a (min b len) h) (ap some (node-below a (min b len) h (omega arith)))
       go (no h) = rw (le-ltb a (min b len) (omega arith))
 
+  -- a row over any ranges of stored places, and 01's
+  pub row-below : (range : ℕ → Option Range) → Stored range len → (px n : ℕ) → rowBy (nodeOf s₁) range px n ≡ rowBy (nodeOf s₂) range px n
+  row-below range stored px n = row-same (nodeOf s₁) (nodeOf s₂) range len stored node-below px n
+
   pub render-below : (view : View) (width : ℕ) → render s₁ len view width ≡ render s₂ len view width
-  render-below view width = row-same (nodeOf s₁) (nodeOf s₂) view len node-below 0 width
+  render-below view width = row-below (pixelRange view len) (pixels-stored view len) 0 width
 
   module _ (mask : ℕ) where
     changed-below : (i : ℕ) → i < len → changed s₁ mask i ≡ changed s₂ mask i

@@ -7,11 +7,11 @@ use Prim.Native.Nat.{ℕ, zero, suc, _+_, _-_, min}
 use lib.Bits.{and-comm}
 use lib.Dec.{ltb, eqb}
 use Rattle.rules.specs.Node.{Node, nodeOf}
-use Rattle.rules.specs.Search.{changed, seek, up, down, next, previous, summary}
+use Rattle.rules.specs.Search.{changed, seek, up, down, next, previous, summary, cutSummary}
 use Rattle.rules.specs.Burst.{burst, burstBy}
-use Rattle.rules.specs.Pixel.{View, Range, pixelRange, shown, rowBy, render}
+use Rattle.rules.specs.Pixel.{View, Range, pixelRange, shown, rowBy, render, cutPixels}
 use Rattle.rules.proofs.Node.{cutTo, node-cut, change-cut}
-use Rattle.alike.specs.Alike.{Within, cutSummary, cutPixels}
+use Rattle.alike.specs.Alike.{Within}
 
 module _ (v : ℕ) (s : ℕ → ℕ) (len : ℕ) where
   abbrev lines : ℕ → ℕ
@@ -28,13 +28,13 @@ module _ (v : ℕ) (s : ℕ → ℕ) (len : ℕ) where
   shown-cut none rest₁ rest₂ e = ap (λ (rest : List ℕ). 0 ∷ 0 ∷ rest) e
   shown-cut (some x) rest₁ rest₂ e = ap₂ (λ (n : Node) (rest : List ℕ). n .first ∷ n .toggles ∷ rest) (node-cut v s (x .from) (x .to)) e
 
-  row-cut : (view : View) (px n : ℕ) → rowBy (nodeOf lines) view len px n ≡ cutPixels v (rowBy (nodeOf s) view len px n)
+  pub row-cut : (range : ℕ → Option Range) (px n : ℕ) → rowBy (nodeOf lines) range px n ≡ cutPixels v (rowBy (nodeOf s) range px n)
   unfolding rowBy
-  row-cut view px zero = refl
-  row-cut view px (suc n) = shown-cut (pixelRange view len px) _ _ (row-cut view (px + 1) n)
+  row-cut range px zero = refl
+  row-cut range px (suc n) = shown-cut (range px) _ _ (row-cut range (px + 1) n)
 
   pub render-cut : (view : View) (width : ℕ) → render lines len view width ≡ cutPixels v (render s len view width)
-  render-cut view width = row-cut view 0 width
+  render-cut view width = row-cut (pixelRange view len) 0 width
 
   module _ (mask : ℕ) (w : Within mask v) where
     changed-cut : (i : ℕ) → changed lines mask i ≡ changed s mask i

@@ -1,27 +1,15 @@
 -- Two runs, seen by a viewer of chosen lines v. 01: Lists of pushes.
 -- A run is a function from places to samples, s, and its length, len.
 use mathlib.Core.Path.{_≡_}
-use mathlib.Core.List.{List, map}
-use mathlib.Core.Option.{Option, none, some}
 use Prim.Native.Nat.{ℕ, _<_}
 use lib.Bits.{bitAnd}
-use Rattle.rules.specs.Node.{Node, cut}
-use Rattle.rules.specs.Search.{next, previous, summary}
+use Rattle.rules.specs.Search.{next, previous, summary, cutSummary}
 use Rattle.rules.specs.Burst.{burst}
-use Rattle.rules.specs.Pixel.{View, render}
+use Rattle.rules.specs.Pixel.{View, render, cutPixels}
 
 -- "A mask within it has no other bit."
 abbrev pub Within : ℕ → ℕ → Type 0
 Within mask v = bitAnd mask v ≡ mask
-
--- "Cutting down takes first, last and toggles AND that mask; none stays none."
-abbrev pub cutSummary : ℕ → Option Node → Option Node
-cutSummary v none = none
-cutSummary v (some n) = some (cut v n)
-
--- the same of pixels, of which each is first and toggles
-abbrev pub cutPixels : ℕ → List ℕ → List ℕ
-cutPixels v row = map (λ x. bitAnd x v) row
 
 module _ (v : ℕ) (s₁ : ℕ → ℕ) (len₁ : ℕ) (s₂ : ℕ → ℕ) (len₂ : ℕ) where
   -- "the same length .. and the same chosen lines at every sample"

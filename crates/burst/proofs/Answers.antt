@@ -23,6 +23,17 @@ use Rattle.burst.specs.Answer.{burstAs, burstOf, back, fore}
 use Rattle.burst.proofs.Grown.{Within, burst-within}
 use Rattle.burst.proofs.burst_at.Reads as burst-at
 
+-- where levels are right, the two searches are 01's
+module _ (unit len : ℕ) (samples : List ℕ) (levels : ℕ → List ℕ) (mask : ℕ) (right : Right (sampleOf unit samples) len levels) where
+  nodes : TrueNodes allLevels (readerOf unit samples levels) (sampleOf unit samples) len
+  nodes = right-true unit samples levels len right
+
+  pub back-right : back unit len samples levels mask ≡ previous (sampleOf unit samples) len mask
+  back-right = λ i from. previous-found allLevels (readerOf unit samples levels) (sampleOf unit samples) len mask nodes from i
+
+  pub fore-right : fore unit len samples levels mask ≡ next (sampleOf unit samples) len mask
+  fore-right = λ i from. next-found allLevels (readerOf unit samples levels) (sampleOf unit samples) len mask nodes from i
+
 -- a call with these arguments, and its answer r. The references are whatever the caller lent
 module _ (κs : Lfts 2) (c : Capture) (samples l1 l2 l3 l4 : RefT (List ℕ)) (mask sample gap tolerance budget : ℕ) (r : Bursts) where
   abbrev pub levels : ℕ → List ℕ
@@ -41,16 +52,8 @@ module _ (κs : Lfts 2) (c : Capture) (samples l1 l2 l3 l4 : RefT (List ℕ)) (m
   -- where levels are right, the answer is 01's
   pub burst-right : BurstAnswered → Right s (c .len) levels → burstAs r ≡ unless rows (burst s (c .len) mask sample gap tolerance budget)
   unfolding burstOf
-  burst-right p h = p ∙ ap (unless {A = Option Burst} rows) (ap₂ (λ (b f : ℕ → Option ℕ). burstBy b f (c .len) sample gap tolerance budget) is-previous is-next)
-    where
-      nodes : TrueNodes allLevels (readerOf (c .unitsize) (now samples) levels) s (c .len)
-      nodes = right-true (c .unitsize) (now samples) levels (c .len) h
-
-      is-previous : back (c .unitsize) (c .len) (now samples) levels mask ≡ previous s (c .len) mask
-      is-previous = λ i from. previous-found allLevels (readerOf (c .unitsize) (now samples) levels) s (c .len) mask nodes from i
-
-      is-next : fore (c .unitsize) (c .len) (now samples) levels mask ≡ next s (c .len) mask
-      is-next = λ i from. next-found allLevels (readerOf (c .unitsize) (now samples) levels) s (c .len) mask nodes from i
+  burst-right p h =
+      p ∙ ap (unless {A = Option Burst} rows) (ap₂ (λ (b f : ℕ → Option ℕ). burstBy b f (c .len) sample gap tolerance budget) (back-right (c .unitsize) (c .len) (now samples) levels mask h) (fore-right (c .unitsize) (c .len) (now samples) levels mask h))
 
   -- whatever memory holds
   pub jumps-within : BurstAnswered → (b : Burst) → burstAs r ≡ given (some b) → Within budget b

@@ -4,3 +4,4 @@ pub mod Jumps
 pub mod Pairs
 pub mod Rows
 pub mod Sides
+pub mod Ends

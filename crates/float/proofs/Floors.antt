@@ -1,9 +1,8 @@
 -- What comparisons with 0, 1/2, 1 and a whole number say of a number's floor and of the nearest whole number. Assumes nothing.
 use mathlib.Core.Path.{_≡_, refl, sym, ap, _∙_, subst}
-use mathlib.Core.Logic.{inl, inr}
-use mathlib.Core.Bool.{Bool, true, false, cond, not, _&&_, true≢false}
+use mathlib.Core.Bool.{Bool, true, false, cond, not, true≢false}
 use Prim.Native.Nat.{ℕ, zero, suc, _+_, _-_, _*_, _/_, _^_, _≤_, _<_}
-use native.Mathlib.Nat.{le-trans, le-of-eq, lt-of-lt-of-le, lt-of-le-of-lt, lt-of-not-le, lt-irrefl, eq-zero-or-pos, zero-lt-suc, mul-one, one-mul, mul-right-comm, mul-le-mul-right, mul-lt-mul-of-pos-right, le-of-mul-le-mul-right, lt-of-mul-lt-mul-right, div-eq-of-lt, add-div-right, div-div-eq-div-mul, div-lt-iff-lt-mul, le-div-iff-mul-le}
+use native.Mathlib.Nat.{le-trans, le-of-eq, lt-of-lt-of-le, lt-of-le-of-lt, lt-of-not-le, zero-lt-suc, mul-one, one-mul, mul-right-comm, mul-le-mul-right, mul-lt-mul-of-pos-right, le-of-mul-le-mul-right, lt-of-mul-lt-mul-right, div-eq-of-lt, add-div-right, div-div-eq-div-mul, div-lt-iff-lt-mul, le-div-iff-mul-le}
 use native.Mathlib.Omega.{arith}
 use lib.Dec.{T, eqb, ltb→lt, nltb→le, eqb→eq, T-not, le→leb}
 use lib.IntN.{ℤ, pos, negsuc, negℤ}
@@ -11,18 +10,19 @@ use lib.Pow.{pow-pos}
 use lib.Ieee.{Float, nan, inf, fin, binary64, up, down, le, lt, eq, ofInt, inFloat}
 use lib.Ieee.Back.{round-whole}
 use lib.Ieee.Exact.{HasValue}
-use lib.Ieee.Fits.{down-pos, and-i, and-l, eq→eqb}
+use lib.Ieee.Fits.{down-pos, and-l}
 use lib.Ieee.Order.{le-of-values}
 use lib.Ieee.Positive.{num, den, positive, above, den-pos, own-value, positive-of-value, above-of-le, values-of-le}
 use lib.Ieee.Scale.{finite}
 use borrow.Author.Tests.{lt-ltb, le-ltb}
 use Rattle.rules.specs.Floor.{Whole, at, floorOf, nearestOf, count}
+use Rattle.rules.specs.Pixel.{moved}
 use Rattle.rules.specs.Pretrigger.{nought, one, clamp, times}
 use Rattle.rules.proofs.Round.{Upto}
 use Rattle.rules.proofs.Pretrigger.{clamp-upto, times-upto}
 use Rattle.float.specs.Places.{placeOf}
 use Rattle.float.specs.Sizes.{Under, Shiftable}
-use Rattle.float.specs.declared.Place.the-variants.{Below, At, Beyond}
+use Rattle.float.specs.declared.Place.the-variants.{At, Beyond}
 
 -- ---- a test's answer as a fact
 pub yes : {b : Bool} → b ≡ true → T b
@@ -60,25 +60,26 @@ under (fin false m e) (fin false n d) h v a l = record {
   small = lt-of-mul-lt-mul-right (down d) (lt-of-lt-of-le (ltb→lt (m * up e * down d) (n * up d * down e) l) (le-of-eq (same-cross (n * up d) (down d) (down e) h (v .1))));
 }
 
--- h or more: the floor lies beyond
-pub beyond : (x y : Float) (h : ℕ) → HasValue y false h 1 → T (above x) → T (not (lt x y)) → placeOf (floorOf x) h ≡ Beyond
+-- h - o or more: the floor, counted from o, lies beyond
+pub beyond : (x y : Float) (o h : ℕ) → HasValue y false (h - o) 1 → T (above x) → T (not (lt x y)) → placeOf (moved (pos o) (floorOf x)) h ≡ Beyond
 unfolding lt floorOf
-beyond nan y h v a l = absurd a
-beyond (inf true) y h v a l = absurd a
-beyond (inf false) y h v a l = refl
-beyond (fin true m e) y h v a l = absurd a
-beyond (fin false m e) nan h v a l = absurd v
-beyond (fin false m e) (inf t) h v a l = absurd v
-beyond (fin false m e) (fin true n d) h v a l = absurd (true≢false (v .0))
-beyond (fin false m e) (fin false n d) h v a l =
+beyond nan y o h v a l = absurd a
+beyond (inf true) y o h v a l = absurd a
+beyond (inf false) y o h v a l = refl
+beyond (fin true m e) y o h v a l = absurd a
+beyond (fin false m e) nan o h v a l = absurd v
+beyond (fin false m e) (inf t) o h v a l = absurd v
+beyond (fin false m e) (fin true n d) o h v a l = absurd (true≢false (v .0))
+beyond (fin false m e) (fin false n d) o h v a l =
     let q = m * up e / down e in
-    ap (λ (t : Bool). cond t (At q) Beyond)
-    (le-ltb q h
-    (le-div-iff-mul-le (down-pos e) .1
-    (le-of-mul-le-mul-right (le-trans (le-of-eq (sym (same-cross (n * up d) (down d) (down e) h (v .1)))) (nltb→le (m * up e * down d) (n * up d * down e) l)) (down-pos d))))
+    let far : h - o ≤ q =
+    le-div-iff-mul-le (down-pos e) .1
+    (le-of-mul-le-mul-right (le-trans (le-of-eq (sym (same-cross (n * up d) (down d) (down e) (h - o) (v .1)))) (nltb→le (m * up e * down d) (n * up d * down e) l)) (down-pos d))
+    in
+    ap (λ (t : Bool). cond t (At (q + o)) Beyond) (le-ltb (q + o) h (omega arith))
 
 -- ---- lo ≤ x < h, lo being 1 / 2^c: the bits hold the floor of x × 2^c
-above-finite : (x : Float) → T (above x) → T (finite x) → T (positive x)
+pub above-finite : (x : Float) → T (above x) → T (finite x) → T (positive x)
 above-finite nan a f = a
 above-finite (inf s) a f = absurd f
 above-finite (fin true m e) a f = a
@@ -102,12 +103,15 @@ floor-num (inf s) p = absurd p
 floor-num (fin true m e) p = absurd p
 floor-num (fin false m e) p = ap (λ (z : ℕ). at (pos (z / down e))) (sym (mul-one (m * up e)))
 
--- below h: the floor is a place
-pub placed : (x : Float) (h : ℕ) → T (positive x) → Under h x → placeOf (floorOf x) h ≡ At (num x * 2 ^ 0 / den x)
-placed x h p u =
+pub floor-under : (x : Float) (h : ℕ) → Under h x → num x * 2 ^ 0 / den x < h
+floor-under x h u = div-lt-iff-lt-mul (den-pos x) .1 (subst (λ (n : ℕ). n < h * den x) (sym (mul-one (num x))) (u .small))
+
+-- below h - o: the floor, counted from o, is a place
+pub placed : (x : Float) (o h : ℕ) → T (positive x) → Under (h - o) x → placeOf (moved (pos o) (floorOf x)) h ≡ At (num x * 2 ^ 0 / den x + o)
+placed x o h p u =
     let q = num x * 2 ^ 0 / den x in
-    ap (λ (w : Whole). placeOf w h) (floor-num x p)
-    ∙ ap (λ (t : Bool). cond t (At q) Beyond) (lt-ltb q h (div-lt-iff-lt-mul (den-pos x) .1 (subst (λ (n : ℕ). n < h * den x) (sym (mul-one (num x))) (u .small))))
+    let l = floor-under x (h - o) u in
+    ap (λ (w : Whole). placeOf (moved (pos o) w) h) (floor-num x p) ∙ ap (λ (t : Bool). cond t (At (q + o)) Beyond) (lt-ltb (q + o) h (omega arith))
 
 -- half of floor(2x) + 1
 pub nearest-num : (x : Float) → T (positive x) → nearestOf x ≡ at (pos ((num x * 2 ^ 1 / den x + 1) / 2))
@@ -125,7 +129,7 @@ nearest-num (fin false m e) p = ap (λ (z : ℕ). at (pos z)) (sym (halved (m * 
 
 -- ---- below 1, and below 1/2
 -- N / D < 1 / k, the test against lo = 1 / k having failed
-less : (m : ℕ) (e : ℤ) (k : ℕ) (lo : Float) → 0 < k → HasValue lo false 1 k → T (not (le lo (fin false m e))) → m * up e * k < 1 * down e
+pub less : (m : ℕ) (e : ℤ) (k : ℕ) (lo : Float) → 0 < k → HasValue lo false 1 k → T (not (le lo (fin false m e))) → m * up e * k < 1 * down e
 less m e k lo K v t = lt-of-not-le (λ (h : 1 * down e ≤ m * up e * k). T-not (le lo (fin false m e)) t (le-of-values lo (fin false m e) 1 k (m * up e) (down e) K (down-pos e) v (refl, refl) h))
 
 no-count : (k : ℕ) → count (at (negℤ (pos k))) ≡ 0
@@ -173,34 +177,6 @@ floor-zero (fin true m e) a t =
     last : (d : ℕ) → 0 < d → 0 + (d - 1) < d
     last d h = omega arith
 floor-zero (fin false m e) a t = ap (λ (n : ℕ). at (pos n)) (no-floor (fin false m e) t)
-
--- ---- not 0 ≤ x: the floor is below 0
-negative : (q h : ℕ) → 1 ≤ q → placeOf (at (negℤ (pos q))) h ≡ Below
-negative zero h l = absurd (lt-irrefl 0 l)
-negative (suc q) h l = refl
-
-pub below : (x : Float) (h : ℕ) → T (not (le nought x)) → placeOf (floorOf x) h ≡ Below
-unfolding le lt eq floorOf
-below nan h t = refl
-below (inf true) h t = refl
-below (inf false) h t = absurd t
-below (fin false m e) h t = absurd (T-not (le nought (fin false m e)) t (le-of-values nought (fin false m e) 0 1 (m * up e) (down e) (zero-lt-suc 0) (down-pos e) (refl, refl) (refl, refl) (least (m * up e) (down e))))
-  where
-    least : (n d : ℕ) → 0 * d ≤ n * 1
-    least n d = omega arith
-below (fin true m e) h t = elim (eq-zero-or-pos (m * up e)) [
-  | inl z ↦ absurd (T-not (eqb (0 * down e) (m * up e * 1) && eqb (0 * down e) 0) t (and-i (eqb (0 * down e) (m * up e * 1)) (eqb (0 * down e) 0) (eq→eqb (nil (m * up e) (down e) z)) (eq→eqb (none (down e)))))
-  | inr p ↦ negative ((m * up e + (down e - 1)) / down e) h (le-div-iff-mul-le (down-pos e) .1 (reach (m * up e) (down e) (down-pos e) p))
-]
-  where
-    nil : (n d : ℕ) → n ≡ 0 → 0 * d ≡ n * 1
-    nil n d z = omega arith
-
-    none : (d : ℕ) → 0 * d ≡ 0
-    none d = omega arith
-
-    reach : (n d : ℕ) → 0 < d → 0 < n → 1 * d ≤ n + (d - 1)
-    reach n d D N = omega arith
 
 -- ---- a whole number n below h, times a number clamped to 0..top, with top at most 1
 upto-under : (x : Float) (n h : ℕ) → n < h → Upto n 1 x → Under h x

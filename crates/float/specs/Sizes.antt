@@ -1,5 +1,5 @@
 -- How large a number is: what the functions that read its bits ask.
-use Prim.Native.Nat.{ℕ, _*_, _^_, _≤_, _<_}
+use Prim.Native.Nat.{ℕ, _+_, _-_, _*_, _/_, _^_, _≤_, _<_}
 use lib.Dec.{T}
 use lib.Ieee.{Float}
 use lib.Ieee.Positive.{num, den, positive}
@@ -16,3 +16,7 @@ pub record Shiftable (c : ℕ) (x : Float) : Type 0 where
   pub number : T (positive x)
   pub low : den x ≤ num x * 2 ^ c
   pub high : num x * 2 ^ c < 2 ^ 53 * den x
+
+-- the size of x rounded up
+abbrev pub ceilOf : Float → ℕ
+ceilOf x = (num x + (den x - 1)) / den x

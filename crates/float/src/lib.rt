@@ -1,13 +1,16 @@
 // Binary64 numbers: NaN and infinities told by comparisons, floors and roundings worked out from bits. 01: Burst and render, Selection and recorder.
 ghost use mathlib.Core.Path.{_≡_};
 ghost use Prim.Native.Nat.{_*_, _/_, _^_, _≤_, _<_};
+ghost use lib.Dec.{T};
+ghost use lib.IntN.{pos};
 ghost use lib.Ieee.{isNan};
-ghost use lib.Ieee.Positive.{num, den};
+ghost use lib.Ieee.Positive.{num, den, positive};
 ghost use lib.Ieee.Scale.{finite};
 ghost use Rattle.rules.specs.Floor.{floorOf, nearestOf, count};
+ghost use Rattle.rules.specs.Pixel.{moved};
 ghost use Rattle.rules.specs.Pretrigger.{seconds, clamp, fractionOf, keptOf};
 ghost use Rattle.float.specs.Places.{placeOf};
-ghost use Rattle.float.specs.Sizes.{Under, Shiftable};
+ghost use Rattle.float.specs.Sizes.{Under, Shiftable, ceilOf};
 ghost use Rattle.float.specs.Samples.{keptAs};
 
 // Where a floor lies among the places 0..hi.
@@ -48,22 +51,45 @@ fn shifted(x: f64, c: u64) -> u64
     digits >> (1075 - c - exponent)
 }
 
-// Where the floor of x lies among the places 0..hi; a NaN counts as below.
-pub fn floor_in(x: f64, hi: u64) -> Place
-    requires { ⌜ hi ≤ 67108864 ⌝ }
-    ensures { λ r. ⌜ r ≡ placeOf (floorOf x) hi ⌝ }
+// ceil(y): one more than the floor where anything is left.
+fn ceiling(y: f64) -> u64
+    requires { ⌜ T (positive y) ⌝ ∗ ⌜ Under (2 ^ 53) y ⌝ }
+    ensures { λ r. ⌜ r ≡ ceilOf y ⌝ }
+{
+    if y >= 1.0 {
+        let n = shifted(y, 0);
+        if y <= (n as f64) { n } else { n + 1 }
+    } else {
+        1
+    }
+}
+
+// Where the floor of x, counted from origin, lies among the places 0..hi; a NaN counts as below.
+// The floor is taken of x itself: x + origin could round.
+pub fn floor_in(x: f64, origin: u64, hi: u64) -> Place
+    requires { ⌜ origin ≤ hi ⌝ ∗ ⌜ hi ≤ 67108864 ⌝ }
+    ensures { λ r. ⌜ r ≡ placeOf (moved (pos origin) (floorOf x)) hi ⌝ }
 {
     if x >= 1.0 {
-        if x < (hi as f64) {
-            Place::At(shifted(x, 0))
+        if x < ((hi - origin) as f64) {
+            Place::At(shifted(x, 0) + origin)
         } else {
             Place::Beyond
         }
     } else {
         if x >= 0.0 {
-            if 0 < hi { Place::At(0) } else { Place::Beyond }
+            if origin < hi {
+                Place::At(origin)
+            } else {
+                Place::Beyond
+            }
         } else {
-            Place::Below
+            let y = -x;
+            if y <= (origin as f64) {
+                Place::At(origin - ceiling(y))
+            } else {
+                Place::Below
+            }
         }
     }
 }

@@ -47,7 +47,7 @@ module _ (bytes : List ℕ) (levels : ℕ → List ℕ) (start count : ℕ) (out
   }
 
 -- the code of an answer that has no value
-unless-code : {A : Type 0} (n : ℕ) (a : A) → plain (unless n a) .code ≡ n
+pub unless-code : {A : Type 0} (n : ℕ) (a : A) → plain (unless n a) .code ≡ n
 unless-code zero a = refl
 unless-code (suc n) a = refl
 

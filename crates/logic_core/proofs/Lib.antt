@@ -1,3 +1,4 @@
 pub mod Codes
 mod Starts
 mod Told
+mod MillTold

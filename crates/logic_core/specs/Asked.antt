@@ -7,7 +7,7 @@ use lib.Ieee.{Float}
 use lib.ListN.{length}
 use Rattle.rules.specs.Sample.{sampleOf}
 use Rattle.rules.specs.Node.{Node, topLevel}
-use Rattle.rules.specs.Pixel.{View}
+use Rattle.rules.specs.Pixel.{View, pixelRange}
 use Rattle.rules.specs.Answer.{Answer, unless}
 use Rattle.rules.specs.Refusal.{Store, Lent, fresh, storeRefusal, getRefusal, samplesRefusal, renderRefusal, copied}
 use Rattle.capture.specs.declared.Capture.{Capture}
@@ -63,4 +63,4 @@ pub record AppendsOut (c : Capture) (bytes samples : List ℕ) (levels : ℕ →
 -- render: the code, and the output
 pub record DrawsOut (c : Capture) (samples : List ℕ) (levels : ℕ → List ℕ) (start spp : Float) (width : ℕ) (output : List ℕ) (code : ℕ) (output′ : List ℕ) : Type 0 where
   pub code-is : code ≡ drawRefusal c samples levels start spp width output
-  pub output-is : output′ ≡ drawn (summed levels (sampleOf (c .unitsize) samples)) (viewOf start spp) (c .len) (unrefused (drawRefusal c samples levels start spp width output) width) output
+  pub output-is : output′ ≡ drawn (summed levels (sampleOf (c .unitsize) samples)) (pixelRange (viewOf start spp) (c .len)) (unrefused (drawRefusal c samples levels start spp width output) width) output

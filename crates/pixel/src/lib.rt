@@ -1,7 +1,8 @@
 // The places that a pixel of a view covers. 01: Burst and render.
 ghost use mathlib.Core.Path.{_≡_};
 ghost use Prim.Native.Nat.{_≤_, _<_};
-ghost use Rattle.rules.specs.Pixel.{edge, pixelRange};
+ghost use lib.IntN.{pos};
+ghost use Rattle.rules.specs.Pixel.{edge, moved, rangeFrom};
 ghost use Rattle.float.specs.Places.{placeOf};
 ghost use Rattle.pixel.specs.Ranges.{viewAs, rangeAs, endAt, spannedBy, coverBy};
 use float::Place;
@@ -17,12 +18,14 @@ pub enum Pixel {
     Span(u64, u64),
 }
 
-// Where floor(start + px × spp) lies: the product is rounded, then the sum.
-fn edge_in(v: View, px: u64, len: u64) -> Place
-    requires { ⌜ px ≤ 65536 ⌝ ∗ ⌜ len ≤ 67108864 ⌝ }
-    ensures { λ r. ⌜ r ≡ placeOf (edge (viewAs v) px) len ⌝ }
+// Where floor(start + px × spp), counted from origin, lies: the product is rounded, then the sum.
+fn edge_in(v: View, px: u64, origin: u64, len: u64) -> Place
+    requires { ⌜ px ≤ 65536 ⌝ ∗ ⌜ origin ≤ len ⌝ ∗ ⌜ len ≤ 67108864 ⌝ }
+    ensures { λ r. ⌜ r ≡ placeOf (moved (pos origin) (edge (viewAs v) px)) len ⌝ }
 {
-    float::floor_in(v.start + (px as f64) * v.spp, len)
+    // 32 bits convert in one instruction, 64 do only where px is known to be small
+    let column = px as u32;
+    float::floor_in(v.start + (column as f64) * v.spp, origin, len)
 }
 
 // min(max(b, a + 1) + 1, len).
@@ -67,12 +70,12 @@ fn cover(a: Place, b: Place, len: u64) -> Pixel
     }
 }
 
-// The places that pixel px covers, of len stored ones.
-pub fn pixel_range(v: View, px: u64, len: u64) -> Pixel
-    requires { ⌜ px < 65536 ⌝ ∗ ⌜ len ≤ 67108864 ⌝ }
-    ensures { λ r. ⌜ rangeAs r ≡ pixelRange (viewAs v) len px ⌝ }
+// The places that pixel px covers, of len stored ones, where the view counts from origin.
+pub fn pixel_range(v: View, px: u64, origin: u64, len: u64) -> Pixel
+    requires { ⌜ px < 65536 ⌝ ∗ ⌜ origin ≤ len ⌝ ∗ ⌜ len ≤ 67108864 ⌝ }
+    ensures { λ r. ⌜ rangeAs r ≡ rangeFrom origin (viewAs v) len px ⌝ }
 {
-    let a = edge_in(v, px, len);
-    let b = edge_in(v, px + 1, len);
+    let a = edge_in(v, px, origin, len);
+    let b = edge_in(v, px + 1, origin, len);
     cover(a, b, len)
 }

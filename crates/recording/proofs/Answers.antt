@@ -14,7 +14,7 @@ use Rattle.rules.specs.Node as rule
 use Rattle.rules.specs.Search.{next, previous, summary}
 use Rattle.rules.specs.Burst.{burst}
 use Rattle.rules.specs.Burst as rule-burst
-use Rattle.rules.specs.Pixel.{render}
+use Rattle.rules.specs.Pixel.{pixelRange, render}
 use Rattle.rules.specs.Refusal.{firstOf, storeRefusal, viewRows, renderRefusal}
 use Rattle.rules.specs.Answer.{Answer, refused, given, unless}
 use Rattle.rules.proofs.Refusal.{none-refused, rows-left}
@@ -46,7 +46,7 @@ use Rattle.recording.specs.Claim.{Memory, levels, Ref, Places, MaySummar
 use Rattle.recording.proofs.Selection.{recorder-sound, len-is, samples-are, right, selection}
 
 -- ---- an answer for each value
-summed-for : (x : Answer (Option rule.Node)) → (v : Summed) × (summedOf v ≡ x)
+pub summed-for : (x : Answer (Option rule.Node)) → (v : Summed) × (summedOf v ≡ x)
 summed-for (refused n) = (summed-as.Refused n, refl)
 summed-for (given none) = (summed-as.Nothing, refl)
 summed-for (given (some n)) = (summed-as.Node (record { first = n .first; last = n .last; mask = n .toggles }), refl)
@@ -61,12 +61,28 @@ burst-for (refused n) = (bursts.Refused n, refl)
 burst-for (given none) = (bursts.Nothing, refl)
 burst-for (given (some b)) = (bursts.At (record { first = b .first; last = b .last; «jumps_end» = b .jumps-end; «jumps_start» = b .jumps-start }), refl)
 
+pub drawn-for : (x : Answer (Unit {0})) → (v : Drawn) × (drawnOf v ≡ x)
+drawn-for (refused n) = (drawn-as.Refused n, refl)
+drawn-for (given u) = (drawn-as.Done, refl)
+
+-- the pixels of a drawing, where its number is n
+pub seen-as : (width n : ℕ) (a : Drawn) (o x : List ℕ) → drawnOf a ≡ unless n tt → (n ≡ 0 → take (2 * width) o ≡ x) → pixelsOf width o a ≡ unless n x
+seen-as width zero (drawn-as.Refused k) o x e h = let z : _≡_ {A = ℕ} 0 1 = cc in absurd (omega arith)
+seen-as width zero drawn-as.Done o x e h = ap given (h refl)
+seen-as width (suc n) (drawn-as.Refused k) o x e h = cc
+seen-as width (suc n) drawn-as.Done o x e h = let z : _≡_ {A = ℕ} 0 1 = cc in absurd (omega arith)
+
 -- some reference
 pub anywhere : Ref
 anywhere = record { ptr = (0, 0); name = 0; now = [] }
 
 pub somewhere : Places
 somewhere = record { samples = anywhere; l1 = anywhere; l2 = anywhere; l3 = anywhere; l4 = anywhere; ring = anywhere }
+
+-- a question whose contract is `told v ≡ asked`: where that comes to x, it is told x
+pub allowing : {X A : Type 0} (told : X → Answer A) → ((x : Answer A) → (v : X) × (told v ≡ x)) → {asked x : Answer A} → ((v : X) → told v ≡ asked → told v ≡ x)
+    → Answered (λ v. (κs : Lfts 2) × (p : Places) × (told v ≡ asked)) told x
+allowing told for {asked} is = record { is = λ v may. is v (may .2); answer = for asked .0; allowed = (([], ([], tt)), somewhere, for asked .1) }
 
 module _ (r : Recording) where
   abbrev c : Capture
@@ -83,10 +99,10 @@ module _ (r : Recording) where
   rows = storeRefusal (storeOf c) (lentOf (m .samples) (levels m))
 
   -- rows 1 and 2 do not refuse
-  passed : rows ≡ 0
+  pub passed : rows ≡ 0
   passed = none-refused (storeOf c) (lentOf (m .samples) (levels m)) (recorder-sound r .store) (recorder-sound r .mark)
 
-  agree : (i : ℕ) → i < c .len → t i ≡ s r i
+  pub agree : (i : ℕ) → i < c .len → t i ≡ s r i
   agree i h = samples-are r i (omega (arith, len-is r))
 
   -- a question whose contract is `told v ≡ asked`: where on right levels that is a rule's answer over memory, it is the rule's answer over the run
@@ -94,11 +110,8 @@ module _ (r : Recording) where
       → ((v : X) → told v ≡ asked → told v ≡ unless rows (rule-of t (c .len)))
       → rule-of t (c .len) ≡ rule-of (s r) (c .len)
       → Answered (λ v. (κs : Lfts 2) × (p : Places) × (told v ≡ asked)) told (given (rule-of (s r) (len r)))
-  answered told for asked rule-of over-memory below = record {
-    is = λ v may. over-memory v (may .2) ∙ ap (λ (n : ℕ). unless n (rule-of t (c .len))) passed ∙ ap given (below ∙ ap (rule-of (s r)) (len-is r));
-    answer = for asked .0;
-    allowed = (([], ([], tt)), somewhere, for asked .1);
-  }
+  answered told for asked rule-of over-memory below =
+      allowing told for (λ v e. over-memory v e ∙ ap (λ (n : ℕ). unless n (rule-of t (c .len))) passed ∙ ap given (below ∙ ap (rule-of (s r)) (len-is r)))
 
   -- memory, lent somewhere
   abbrev ms : Ref
@@ -150,30 +163,19 @@ module _ (r : Recording) where
     drawn-row : (o : List ℕ) → o ≡ render t (c .len) (viewAs view) width ++ drop (2 * width) output → take (2 * width) o ≡ render (s r) (len r) (viewAs view) width
     drawn-row o e =
         ap (take (2 * width)) e
-        ∙ take-at (render t (c .len) (viewAs view) width) (drop (2 * width) output) (2 * width) (row-length (nodeOf t) (viewAs view) (c .len) 0 width)
+        ∙ take-at (render t (c .len) (viewAs view) width) (drop (2 * width) output) (2 * width) (row-length (nodeOf t) (pixelRange (viewAs view) (c .len)) 0 width)
         ∙ render-below t (s r) (c .len) agree (viewAs view) width
         ∙ ap (λ (n : ℕ). render (s r) n (viewAs view) width) (len-is r)
-
-    seen-as : (n : ℕ) (a : Drawn) (o : List ℕ) → drawnOf a ≡ unless n tt → (n ≡ 0 → take (2 * width) o ≡ render (s r) (len r) (viewAs view) width)
-        → pixelsOf width o a ≡ unless n (render (s r) (len r) (viewAs view) width)
-    seen-as zero (drawn-as.Refused k) o e h = let z : _≡_ {A = ℕ} 0 1 = cc in absurd (omega arith)
-    seen-as zero drawn-as.Done o e h = ap given (h refl)
-    seen-as (suc n) (drawn-as.Refused k) o e h = cc
-    seen-as (suc n) drawn-as.Done o e h = let z : _≡_ {A = ℕ} 0 1 = cc in absurd (omega arith)
-
-    drawn-for : (x : Answer (Unit {0})) → (v : Drawn) × (drawnOf v ≡ x)
-    drawn-for (refused n) = (drawn-as.Refused n, refl)
-    drawn-for (given u) = (drawn-as.Done, refl)
 
     render-is : Answered (MayRender (store r) (r .memory) view width output) (pixelsIn width) (unless (firstOf (viewRows (viewAs view) width (length output))) (render (s r) (len r) (viewAs view) width))
     render-is =
         let v = drawn-for (unless number tt) in
         record {
           is = λ v may.
-              seen-as number (v .answer) (v .output) (may .3 .answer-is)
+              seen-as width number (v .answer) (v .output) _ (may .3 .answer-is)
               (λ z. drawn-row (v .output) (render-row (may .0) c ms m1 m2 m3 m4 view width (at-last anywhere output) (v .answer) (v .output) (may .3) (right r) z))
               ∙ ap (λ (n : ℕ). unless n (render (s r) (len r) (viewAs view) width)) numbered;
-          answer = record { answer = v .0; output = drawn (summed (levels m) t) (viewAs view) (c .len) (unrefused number width) output };
+          answer = record { answer = v .0; output = drawn (summed (levels m) t) (pixelRange (viewAs view) (c .len)) (unrefused number width) output };
           allowed = (([], ([], ([], tt))), somewhere, anywhere, record { answer-is = v .1; output-is = refl });
         }
 

@@ -2,19 +2,20 @@
 use mathlib.Core.Path.{_≡_, refl, sym, ap, _∙_}
 use Prim.Native.Nat.{ℕ, zero, suc, _+_, _≤_, _<_}
 use native.Mathlib.Omega.{arith}
-use Rattle.rules.specs.Search.{summary}
+use Rattle.rules.specs.Search.{summary, cutSummary}
 use Rattle.rules.specs.Refusal.{firstOf, viewRows}
-use Rattle.rules.specs.Answer.{given, unless}
-use Rattle.alike.specs.Alike.{cutSummary, cutPixels, Alike}
+use Rattle.rules.specs.Answer.{given, unless, seen}
+use Rattle.rules.specs.Pixel.{cutPixels}
+use Rattle.alike.specs.Alike.{Alike}
 use Rattle.alike.proofs.Alike.{same-alike, alike-same}
 use Rattle.pixel.specs.Ranges.{viewAs}
-use Rattle.recording.specs.Claim.{Recording, store, s, len, Answered, Answers, Usize, seen, Agree, LookAlike, Same, Demand3}
+use Rattle.recording.specs.Claim.{Recording, store, s, len, Answered, Answers, Usize, Agree, LookAlike, Same, Demand3}
 use Rattle.recording.proofs.Selection.{recorder-sound, len-is}
 use Rattle.recording.proofs.Answers.{answers}
 
 -- ---- two calls that answer x and y agree exactly when these are seen as the same
 module _ {X A B : Type 0} {may₁ may₂ : X → Type 0} {told : X → A} {x y : A} (view : A → B) (one : Answered may₁ told x) (two : Answered may₂ told y) where
-  agreed : view x ≡ view y → Agree may₁ may₂ (λ v. view (told v))
+  pub agreed : view x ≡ view y → Agree may₁ may₂ (λ v. view (told v))
   agreed e v w p q = ap view (one .is v p) ∙ e ∙ sym (ap view (two .is w q))
 
   same-seen : Agree may₁ may₂ (λ v. view (told v)) → view x ≡ view y

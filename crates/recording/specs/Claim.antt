@@ -13,15 +13,15 @@ use lib.ListN.{length, take, getD}
 use contract.Lifetimes.{Lfts}
 use denote.Ref.{RefT, at-last}
 use Rattle.rules.specs.Sample.{sampleOf}
-use Rattle.rules.specs.Search.{next, previous, summary}
+use Rattle.rules.specs.Search.{next, previous, summary, cutSummary}
 use Rattle.rules.specs.Burst.{burst}
-use Rattle.rules.specs.Pixel.{render}
+use Rattle.rules.specs.Pixel.{render, cutPixels}
 use Rattle.rules.specs.Trigger.{Masks, waiting}
 use Rattle.rules.specs.Selection.{Settings, Rule, ruleOf, accepted, runOf, Reply, repliesOf}
 use Rattle.rules.specs.Selection as selected
 use Rattle.rules.specs.Refusal.{Lent, firstOf, viewRows, startRefusal}
-use Rattle.rules.specs.Answer.{Answer, refused, given, unless}
-use Rattle.alike.specs.Alike.{Within, cutSummary, cutPixels}
+use Rattle.rules.specs.Answer.{Answer, refused, given, unless, seen}
+use Rattle.alike.specs.Alike.{Within}
 use Rattle.alike.specs.Alike as alike
 use Rattle.node.specs.Memory.{levelOf, Right}
 use Rattle.capture.specs.declared.Capture.{Capture}
@@ -232,11 +232,6 @@ U16 n = n < 2 ^ 16
 
 abbrev pub F64 : Float → Type 0
 F64 x = fits binary64 x ≡ true
-
--- "refusals count as answers": what is given is seen through f
-abbrev pub seen : {A B : Type 0} → (A → B) → Answer A → Answer B
-seen f (refused n) = refused n
-seen f (given x) = given (f x)
 
 -- whatever two calls may answer, they are told the same
 abbrev pub Agree : {X A : Type 0} → (X → Type 0) → (X → Type 0) → (X → A) → Type 0

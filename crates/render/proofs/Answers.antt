@@ -7,8 +7,9 @@ use contract.Lifetimes.{Lfts}
 use denote.Ref.{RefT, now, at-last}
 use Rattle.rules.specs.Sample.{sampleOf}
 use Rattle.rules.specs.Node.{nodeOf}
-use Rattle.rules.specs.Pixel.{render}
+use Rattle.rules.specs.Pixel.{pixelRange, render}
 use Rattle.rules.specs.Refusal.{renderRefusal}
+use Rattle.rules.proofs.Row.{pixels-stored}
 use Rattle.node.specs.Memory.{levelOf, Right}
 use Rattle.capture.specs.declared.Capture.{Capture}
 use Rattle.capture.specs.Record.{storeOf, lentOf}
@@ -39,24 +40,24 @@ module _ (κs : Lfts 3) (c : Capture) (samples l1 l2 l3 l4 : RefT (List ℕ)) (v
 
   -- where levels are right, the answer and all of output are 01's
   pub render-right : Answered → Right s (c .len) levels → Draws (nodeOf s) (storeOf c) (lentOf (now samples) levels) (viewAs view) width (now output) r output′
-  render-right p h = record { answer-is = p .answer-is; output-is = p .output-is ∙ drawn-same (summed levels s) (nodeOf s) (viewAs view) (c .len) (summed-right levels s (c .len) h) (unrefused number width) (now output) }
+  render-right p h = record { answer-is = p .answer-is; output-is = p .output-is ∙ drawn-same (summed levels s) (nodeOf s) (pixelRange (viewAs view) (c .len)) (c .len) (pixels-stored (viewAs view) (c .len)) (summed-right levels s (c .len) h) (unrefused number width) (now output) }
 
   -- where no row refuses, that is the row of the stored samples' pixels, and after it what output had
   pub render-row : Answered → Right s (c .len) levels → number ≡ 0 → output′ ≡ render s (c .len) (viewAs view) width ++ drop (2 * width) (now output)
   unfolding drawn
-  render-row p h e = render-right p h .output-is ∙ ap (λ (n : ℕ). drawn (nodeOf s) (viewAs view) (c .len) (unrefused n width) (now output)) e
+  render-row p h e = render-right p h .output-is ∙ ap (λ (n : ℕ). drawn (nodeOf s) (pixelRange (viewAs view) (c .len)) (unrefused n width) (now output)) e
 
   -- whatever memory holds, a refusal leaves output as it was,
   pub render-refused : Answered → (number ≡ 0 → ⊥) → output′ ≡ now output
   render-refused p h =
       p .output-is
-      ∙ ap (λ (n : ℕ). drawn (summed levels s) (viewAs view) (c .len) n (now output)) (unrefused-none number number width refl h)
-      ∙ sym (drawn-none (summed levels s) (viewAs view) (c .len) (now output))
+      ∙ ap (λ (n : ℕ). drawn (summed levels s) (pixelRange (viewAs view) (c .len)) n (now output)) (unrefused-none number number width refl h)
+      ∙ sym (drawn-none (summed levels s) (pixelRange (viewAs view) (c .len)) (now output))
 
   -- and what stands past 2 × width stays
   pub render-rest : Answered → drop (2 * width) output′ ≡ drop (2 * width) (now output)
   render-rest p = ap (drop (2 * width)) (p .output-is) ∙ go number
     where
-      go : (n : ℕ) → drop (2 * width) (drawn (summed levels s) (viewAs view) (c .len) (unrefused n width) (now output)) ≡ drop (2 * width) (now output)
-      go zero = drawn-rest (summed levels s) (viewAs view) (c .len) width (now output)
-      go (suc n) = ap (drop (2 * width)) (sym (drawn-none (summed levels s) (viewAs view) (c .len) (now output)))
+      go : (n : ℕ) → drop (2 * width) (drawn (summed levels s) (pixelRange (viewAs view) (c .len)) (unrefused n width) (now output)) ≡ drop (2 * width) (now output)
+      go zero = drawn-rest (summed levels s) (pixelRange (viewAs view) (c .len)) width (now output)
+      go (suc n) = ap (drop (2 * width)) (sym (drawn-none (summed levels s) (pixelRange (viewAs view) (c .len)) (now output)))

@@ -2,13 +2,12 @@
 use Prim.Native.Nat.{ℕ, _≤_, _<_}
 use mathlib.Core.Path.{_≡_, refl}
 use mathlib.Core.Option.{Option, none, some}
-use Rattle.rules.specs.Floor.{Whole}
-use Rattle.rules.specs.Pixel.{Range, rangeOf}
-use Rattle.rules.proofs.Row.{range-inside}
+use Rattle.rules.specs.Pixel.{Range}
+use Rattle.rules.proofs.Row.{Stored}
 use Rattle.render.specs.Render.{Inside}
 
-pub inside : (a b : Whole) (len : ℕ) → Inside (rangeOf a b len) len
-inside a b len = go (rangeOf a b len) (range-inside a b len)
+pub inside : (range : ℕ → Option Range) (len : ℕ) → Stored range len → (px : ℕ) → Inside (range px) len
+inside range len stored px = go (range px) (stored px)
   where
     go : (o : Option Range) → ((r : Range) → o ≡ some r → (r .from < r .to) × (r .to ≤ len)) → Inside o len
     go none h = tt

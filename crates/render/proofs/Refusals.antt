@@ -1,5 +1,5 @@
 -- Which row answers a render, and what is drawn then. Assumes nothing.
-use Prim.Native.Nat.{ℕ, zero, suc, _*_}
+use Prim.Native.Nat.{ℕ, zero, suc, _*_, _≤_}
 use mathlib.Core.Path.{_≡_, refl, sym, ap, _∙_}
 use mathlib.Core.Bool.{Bool, cond, not, _||_}
 use mathlib.Core.List.{List}
@@ -9,7 +9,7 @@ use lib.ListN.{length}
 use lib.Ieee.Scale.{finite}
 use borrow.Author.Tests.{ltb-false}
 use Rattle.rules.specs.Node.{Node}
-use Rattle.rules.specs.Pixel.{View}
+use Rattle.rules.specs.Pixel.{View, pixelRange}
 use Rattle.rules.specs.Refusal.{Store, Lent, mostPixels, firstOf, storeRefusal, viewRows, renderRefusal}
 use Rattle.rules.proofs.Refusal.{neither, row-passed, sound}
 use Rattle.capture.specs.Calls.{unrefused}
@@ -21,11 +21,11 @@ use Rattle.render.proofs.Row.{drawn-none}
 
 -- ---- rows 10 and 11
 module _ (st : Store) (lent : Lent) (v : View) (width output : ℕ) (stored : storeRefusal st lent ≡ 0) where
-  pub drawable : firstOf (viewRows v width output) ≡ 0 → Drawable st lent width output
-  drawable e =
+  pub drawable : (origin : ℕ) → origin ≤ st .len → firstOf (viewRows v width output) ≡ 0 → Drawable st lent origin width output
+  drawable origin h e =
       let t = row-passed 10 (cond (many || short) 11 0) (not (finite (v .start)) || not (finite (v .spp))) (omega arith) .0 e in
       let f = neither many short .0 (row-passed 11 0 (many || short) (omega arith) .0 (t .1) .0) in
-      record { sound = sound st lent stored; most = ltb-false mostPixels width (f .0); room = ltb-false output (2 * width) (f .1) }
+      record { sound = sound st lent stored; counts = h; most = ltb-false mostPixels width (f .0); room = ltb-false output (2 * width) (f .1) }
     where
       many : Bool
       many = ltb mostPixels width
@@ -40,8 +40,8 @@ module _ (node : ℕ → ℕ → Node) (st : Store) (lent : Lent) (v : View) (wi
 
   -- nothing is drawn
   pub draws-refused : (k : ℕ) → number ≡ k → (k ≡ 0 → ⊥) → Draws node st lent v width output (Refused k) output
-  draws-refused k e h = record { answer-is = refused-is tt number k e h; output-is = drawn-none node v (st .len) output ∙ ap (λ (n : ℕ). drawn node v (st .len) n output) (sym (unrefused-none number k width e h)) }
+  draws-refused k e h = record { answer-is = refused-is tt number k e h; output-is = drawn-none node (pixelRange v (st .len)) output ∙ ap (λ (n : ℕ). drawn node (pixelRange v (st .len)) n output) (sym (unrefused-none number k width e h)) }
 
   -- every pixel is drawn
-  pub draws-done : (output′ : List ℕ) → number ≡ 0 → output′ ≡ drawn node v (st .len) width output → Draws node st lent v width output Done output′
-  draws-done output′ e d = record { answer-is = given-is tt number tt e refl; output-is = d ∙ ap (λ (x : ℕ). drawn node v (st .len) (unrefused x width) output) (sym e) }
+  pub draws-done : (output′ : List ℕ) → number ≡ 0 → output′ ≡ drawn node (pixelRange v (st .len)) width output → Draws node st lent v width output Done output′
+  draws-done output′ e d = record { answer-is = given-is tt number tt e refl; output-is = d ∙ ap (λ (x : ℕ). drawn node (pixelRange v (st .len)) (unrefused x width) output) (sym e) }

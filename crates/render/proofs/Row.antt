@@ -9,8 +9,8 @@ use native.Mathlib.Omega.{arith}
 use lib.ListN.{length, take, drop, set, length-append, length-drop}
 use lib.Seq.{sets-eq, take-at, drop-at, drop-drop}
 use Rattle.rules.specs.Node.{Node}
-use Rattle.rules.specs.Pixel.{View, Range, pixelRange, shown, rowBy}
-use Rattle.rules.proofs.Row.{row-length, row-same}
+use Rattle.rules.specs.Pixel.{Range, shown, rowBy}
+use Rattle.rules.proofs.Row.{Stored, row-length, row-same}
 use Rattle.render.specs.Render.{drawn, pixelNode}
 
 module _ (node : ℕ → ℕ → Node) where
@@ -24,41 +24,41 @@ module _ (node : ℕ → ℕ → Node) where
   shown-is (some r) n e = ap (λ (m : Node). m .first ∷ m .toggles ∷ []) e
 
   -- ---- a row
-  module _ (v : View) (len : ℕ) where
+  module _ (range : ℕ → Option Range) where
     -- one pixel more
-    row-last : (px n : ℕ) → rowBy node v len px (suc n) ≡ rowBy node v len px n ++ shown node (pixelRange v len (px + n)) []
+    row-last : (px n : ℕ) → rowBy node range px (suc n) ≡ rowBy node range px n ++ shown node (range (px + n)) []
     unfolding rowBy
-    row-last px zero = ap (λ (k : ℕ). shown node (pixelRange v len k) []) (sym (add-zero px))
+    row-last px zero = ap (λ (k : ℕ). shown node (range k) []) (sym (add-zero px))
     row-last px (suc n) =
-        ap (shown node (pixelRange v len px)) (row-last (px + 1) n ∙ ap (λ (k : ℕ). rowBy node v len (px + 1) n ++ shown node (pixelRange v len k) []) next)
-        ∙ shown-append (pixelRange v len px) (rowBy node v len (px + 1) n) (shown node (pixelRange v len (px + suc n)) [])
+        ap (shown node (range px)) (row-last (px + 1) n ∙ ap (λ (k : ℕ). rowBy node range (px + 1) n ++ shown node (range k) []) next)
+        ∙ shown-append (range px) (rowBy node range (px + 1) n) (shown node (range (px + suc n)) [])
       where
         next : px + 1 + n ≡ px + suc n
         next = omega arith
 
     -- ---- output, of which the first pixels are drawn
-    pub drawn-none : (output : List ℕ) → output ≡ drawn node v len 0 output
+    pub drawn-none : (output : List ℕ) → output ≡ drawn node range 0 output
     unfolding drawn rowBy
     drawn-none output = refl
 
-    drawn-length : (k : ℕ) (output : List ℕ) → 2 * k ≤ length output → length (drawn node v len k output) ≡ length output
+    pub drawn-length : (k : ℕ) (output : List ℕ) → 2 * k ≤ length output → length (drawn node range k output) ≡ length output
     unfolding drawn
-    drawn-length k output h = length-append (rowBy node v len 0 k) (drop (2 * k) output) ∙ omega (arith, row-length node v len 0 k, length-drop (2 * k) output)
+    drawn-length k output h = length-append (rowBy node range 0 k) (drop (2 * k) output) ∙ omega (arith, row-length node range 0 k, length-drop (2 * k) output)
 
-    pub drawn-turn : (px : ℕ) (n : Node) (output now : List ℕ) → 2 * px + 2 ≤ length output → now ≡ drawn node v len px output → n ≡ pixelNode node (pixelRange v len px) → set (set now (2 * px) (n .first)) (2 * px + 1) (n .toggles) ≡ drawn node v len (px + 1) output
+    pub drawn-turn : (px : ℕ) (n : Node) (output now : List ℕ) → 2 * px + 2 ≤ length output → now ≡ drawn node range px output → n ≡ pixelNode node (range px) → set (set now (2 * px) (n .first)) (2 * px + 1) (n .toggles) ≡ drawn node range (px + 1) output
     unfolding drawn
     drawn-turn px n output now h e en =
         ap (λ (k : ℕ). set (set now (2 * px) (n .first)) k (n .toggles)) (add-one (2 * px))
         ∙ sets-eq (n .first ∷ n .toggles ∷ []) now (2 * px) (omega (arith, ap length e, drawn-length px output (omega arith)))
         ∙ ap₂ (λ (a b : List ℕ). a ++ (n .first ∷ n .toggles ∷ []) ++ b) before after
-        ∙ ap (λ (a : List ℕ). row ++ a ++ drop (2 * (px + 1)) output) (shown-is (pixelRange v len px) n en)
-        ∙ ap (λ (a : List ℕ). a ++ drop (2 * (px + 1)) output) (ap (λ (k : ℕ). row ++ shown node (pixelRange v len k) []) here ∙ sym (row-last 0 px) ∙ ap (rowBy node v len 0) (sym (add-one px)))
+        ∙ ap (λ (a : List ℕ). row ++ a ++ drop (2 * (px + 1)) output) (shown-is (range px) n en)
+        ∙ ap (λ (a : List ℕ). a ++ drop (2 * (px + 1)) output) (ap (λ (k : ℕ). row ++ shown node (range k) []) here ∙ sym (row-last 0 px) ∙ ap (rowBy node range 0) (sym (add-one px)))
       where
         row : List ℕ
-        row = rowBy node v len 0 px
+        row = rowBy node range 0 px
 
         before : take (2 * px) now ≡ row
-        before = ap (take (2 * px)) e ∙ take-at row (drop (2 * px) output) (2 * px) (row-length node v len 0 px)
+        before = ap (take (2 * px)) e ∙ take-at row (drop (2 * px) output) (2 * px) (row-length node range 0 px)
 
         here : px ≡ 0 + px
         here = omega arith
@@ -69,15 +69,15 @@ module _ (node : ℕ → ℕ → Node) where
         after : drop (2 * px + 2) now ≡ drop (2 * (px + 1)) output
         after =
             sym (drop-drop 2 (2 * px) now)
-            ∙ ap (drop 2) (ap (drop (2 * px)) e ∙ drop-at row (drop (2 * px) output) (2 * px) (row-length node v len 0 px))
+            ∙ ap (drop 2) (ap (drop (2 * px)) e ∙ drop-at row (drop (2 * px) output) (2 * px) (row-length node range 0 px))
             ∙ drop-drop 2 (2 * px) output
             ∙ ap (λ (k : ℕ). drop k output) two
 
     -- past the pixels
-    pub drawn-rest : (k : ℕ) (output : List ℕ) → drop (2 * k) (drawn node v len k output) ≡ drop (2 * k) output
+    pub drawn-rest : (k : ℕ) (output : List ℕ) → drop (2 * k) (drawn node range k output) ≡ drop (2 * k) output
     unfolding drawn
-    drawn-rest k output = drop-at (rowBy node v len 0 k) (drop (2 * k) output) (2 * k) (row-length node v len 0 k)
+    drawn-rest k output = drop-at (rowBy node range 0 k) (drop (2 * k) output) (2 * k) (row-length node range 0 k)
 
-pub drawn-same : (node node′ : ℕ → ℕ → Node) (v : View) (len : ℕ) → ((a b : ℕ) → a < b → b ≤ len → node a b ≡ node′ a b) → (k : ℕ) (output : List ℕ) → drawn node v len k output ≡ drawn node′ v len k output
+pub drawn-same : (node node′ : ℕ → ℕ → Node) (range : ℕ → Option Range) (len : ℕ) → Stored range len → ((a b : ℕ) → a < b → b ≤ len → node a b ≡ node′ a b) → (k : ℕ) (output : List ℕ) → drawn node range k output ≡ drawn node′ range k output
 unfolding drawn
-drawn-same node node′ v len same k output = ap (λ (a : List ℕ). a ++ drop (2 * k) output) (row-same node node′ v len same 0 k)
+drawn-same node node′ range len stored same k output = ap (λ (a : List ℕ). a ++ drop (2 * k) output) (row-same node node′ range len stored same 0 k)

@@ -11,6 +11,7 @@ use summary::summary_in;
 ghost use mathlib.Core.Path.{_≡_};
 ghost use lib.ListN.{length};
 ghost use Rattle.rules.specs.Sample.{sampleOf};
+ghost use Rattle.rules.specs.Pixel.{rangeFrom};
 ghost use Rattle.rules.specs.Refusal.{firstOf, viewRows};
 ghost use Rattle.node.specs.Memory.{asNode, levelOf};
 ghost use Rattle.capture.specs.Record.{storeOf, lentOf};
@@ -21,7 +22,7 @@ ghost use Rattle.render.specs.Render.{pixelNode, drawn, Draws, Covered, 
 const MOST_PIXELS: usize = 65536;
 
 // Rows 10 and 11: the number of the first that holds, or 0.
-fn view_refusal(view: View, width: usize, output: usize) -> u8
+pub fn view_refusal(view: View, width: usize, output: usize) -> u8
     ensures { λ r. ⌜ r ≡ firstOf (viewRows (viewAs view) width output) ⌝ }
 {
     if !is_finite(view.start) {
@@ -58,20 +59,21 @@ fn pixel_node<'a>(
     }
 }
 
-// The first 2 × width numbers of output become the pixels' first and toggles.
-fn draw<'a>(
+// The first 2 × width numbers of output become the pixels' first and toggles, of a view that counts from origin.
+pub fn draw<'a>(
     c: Capture,
     samples: &[u8],
     l1: &'a [Mask],
     l2: &'a [Mask],
     l3: &'a [Mask],
     l4: &'a [Mask],
+    origin: usize,
     view: View,
     width: usize,
     output: &mut [Mask],
 )
-    requires { ⌜ Drawable (storeOf c) (lentOf (now samples) (levelOf (now l1) (now l2) (now l3) (now l4))) width (length (now output)) ⌝ }
-    ensures { λ _. ⌜ now (output .exit) ≡ drawn (summed (levelOf (now (l1 .entry)) (now (l2 .entry)) (now (l3 .entry)) (now (l4 .entry))) (sampleOf (c .unitsize) (now (samples .entry)))) (viewAs view) (c .len) width (now (output .entry)) ⌝ }
+    requires { ⌜ Drawable (storeOf c) (lentOf (now samples) (levelOf (now l1) (now l2) (now l3) (now l4))) origin width (length (now output)) ⌝ }
+    ensures { λ _. ⌜ now (output .exit) ≡ drawn (summed (levelOf (now (l1 .entry)) (now (l2 .entry)) (now (l3 .entry)) (now (l4 .entry))) (sampleOf (c .unitsize) (now (samples .entry)))) (rangeFrom origin (viewAs view) (c .len)) width (now (output .entry)) ⌝ }
 {
     let mut px = 0;
     while px < width {
@@ -82,7 +84,7 @@ fn draw<'a>(
             l2,
             l3,
             l4,
-            pixel_range(view, px as u64, c.len as u64),
+            pixel_range(view, px as u64, origin as u64, c.len as u64),
         );
         output[2 * px] = n.first;
         output[2 * px + 1] = n.mask;
@@ -118,6 +120,6 @@ pub fn render<'a>(
     if k != 0 {
         return Drawn::Refused(k);
     }
-    draw(c, samples, l1, l2, l3, l4, view, width, output);
+    draw(c, samples, l1, l2, l3, l4, 0, view, width, output);
     Drawn::Done
 }

@@ -14,4 +14,6 @@ pub mod Floats
 pub mod Refusal
 pub mod Start
 pub mod Row
+pub mod Mill
+pub mod Origin
 pub mod Examples

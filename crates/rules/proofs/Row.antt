@@ -12,7 +12,7 @@ use borrow.Author.Tests.{leb-false, eqb-false}
 use Rattle.rules.specs.Node.{Node}
 use Rattle.rules.specs.Floor.{Whole, under, over, at, count}
 use Rattle.rules.specs.Floor
-use Rattle.rules.specs.Pixel.{View, Range, edge, below0, reaches, endOf, rangeOf, pixelRange, shown, rowBy}
+use Rattle.rules.specs.Pixel.{View, Range, edge, below0, reaches, endOf, rangeOf, pixelRange, shown, rowBy, moved, rangeFrom}
 use Rattle.rules.proofs.Refusal.{neither}
 
 -- ---- one pixel
@@ -48,19 +48,30 @@ shown-length : (node : ℕ → ℕ → Node) (r : Option Range) (rest : List ℕ
 shown-length node none rest = refl
 shown-length node (some r) rest = refl
 
-pub row-length : (node : ℕ → ℕ → Node) (v : View) (len px n : ℕ) → length (rowBy node v len px n) ≡ 2 * n
-unfolding rowBy
-row-length node v len px zero = refl
-row-length node v len px (suc n) = shown-length node (pixelRange v len px) (rowBy node v len (px + 1) n) ∙ omega (arith, row-length node v len (px + 1) n)
+module _ (node : ℕ → ℕ → Node) (range : ℕ → Option Range) where
+  pub row-length : (px n : ℕ) → length (rowBy node range px n) ≡ 2 * n
+  unfolding rowBy
+  row-length px zero = refl
+  row-length px (suc n) = shown-length node (range px) (rowBy node range (px + 1) n) ∙ omega (arith, row-length (px + 1) n)
 
-module _ (node₁ node₂ : ℕ → ℕ → Node) (v : View) (len : ℕ) (same : (a b : ℕ) → a < b → b ≤ len → node₁ a b ≡ node₂ a b) where
+-- ranges of stored places alone, none of them empty
+abbrev pub Stored : (ℕ → Option Range) → ℕ → Type 0
+Stored range len = (px : ℕ) (r : Range) → range px ≡ some r → (r .from < r .to) × (r .to ≤ len)
+
+pub pixels-stored : (v : View) (len : ℕ) → Stored (pixelRange v len) len
+pixels-stored v len px r e = range-inside (edge v px) (edge v (px + 1)) len r e
+
+pub from-stored : (origin : ℕ) (v : View) (len : ℕ) → Stored (rangeFrom origin v len) len
+from-stored origin v len px r e = range-inside (moved (pos origin) (edge v px)) (moved (pos origin) (edge v (px + 1))) len r e
+
+module _ (node₁ node₂ : ℕ → ℕ → Node) (range : ℕ → Option Range) (len : ℕ) (stored : Stored range len) (same : (a b : ℕ) → a < b → b ≤ len → node₁ a b ≡ node₂ a b) where
   shown-same : (r : Option Range) → ((x : Range) → r ≡ some x → (x .from < x .to) × (x .to ≤ len)) → (rest₁ rest₂ : List ℕ) → rest₁ ≡ rest₂ → shown node₁ r rest₁ ≡ shown node₂ r rest₂
   shown-same none inside rest₁ rest₂ e = ap (λ (rest : List ℕ). 0 ∷ 0 ∷ rest) e
   shown-same (some x) inside rest₁ rest₂ e =
       let h = inside x refl in
       ap₂ (λ (n : Node) (rest : List ℕ). n .first ∷ n .toggles ∷ rest) (same (x .from) (x .to) (h .0) (h .1)) e
 
-  pub row-same : (px n : ℕ) → rowBy node₁ v len px n ≡ rowBy node₂ v len px n
+  pub row-same : (px n : ℕ) → rowBy node₁ range px n ≡ rowBy node₂ range px n
   unfolding rowBy
   row-same px zero = refl
-  row-same px (suc n) = shown-same (pixelRange v len px) (λ x e. range-inside (edge v px) (edge v (px + 1)) len x e) _ _ (row-same (px + 1) n)
+  row-same px (suc n) = shown-same (range px) (stored px) _ _ (row-same (px + 1) n)

@@ -9,3 +9,8 @@ pub data Answer (A : Type 0) : Type 0 where
 abbrev pub unless : {A : Type 0} → ℕ → A → Answer A
 unless zero a = given a
 unless (suc n) a = refused (suc n)
+
+-- "refusals count as answers": what is given is seen through f
+abbrev pub seen : {A B : Type 0} → (A → B) → Answer A → Answer B
+seen f (refused n) = refused n
+seen f (given x) = given (f x)

@@ -10,3 +10,4 @@ pub mod Trigger
 pub mod Selection
 pub mod Refusal
 pub mod Answer
+pub mod Mill

@@ -1,10 +1,11 @@
 -- Pixels of a view. 01: Burst and render.
 use mathlib.Core.Bool.{Bool, true, false, cond, _||_}
-use mathlib.Core.List.{List, [], _∷_}
+use mathlib.Core.List.{List, [], _∷_, map}
 use mathlib.Core.Option.{Option, none, some}
 use Prim.Native.Nat.{ℕ, zero, suc, _+_, min, max}
+use lib.Bits.{bitAnd}
 use lib.Dec.{leb, eqb}
-use lib.IntN.{ℤ, pos, negsuc}
+use lib.IntN.{ℤ, pos, negsuc, _+ℤ_}
 use lib.Ieee.{Float, binary64, add, mul, ofInt}
 use Rattle.rules.specs.Node.{Node, nodeOf}
 use Rattle.rules.specs.Floor.{Whole, under, over, at, floorOf, count}
@@ -61,11 +62,27 @@ abbrev pub shown : (ℕ → ℕ → Node) → Option Range → List ℕ → List
 shown node none rest = 0 ∷ 0 ∷ rest
 shown node (some r) rest = node (r .from) (r .to) .first ∷ node (r .from) (r .to) .toggles ∷ rest
 
--- n pixels from px on, over any summary of ranges
-unfoldable pub rowBy : (ℕ → ℕ → Node) → View → ℕ → ℕ → ℕ → List ℕ
-rowBy node v len px zero = []
-rowBy node v len px (suc n) = shown node (pixelRange v len px) (rowBy node v len (px + 1) n)
+-- n pixels from px on, over any summary of ranges and any ranges of pixels
+unfoldable pub rowBy : (ℕ → ℕ → Node) → (ℕ → Option Range) → ℕ → ℕ → List ℕ
+rowBy node range px zero = []
+rowBy node range px (suc n) = shown node (range px) (rowBy node range (px + 1) n)
 
 -- what render draws: two numbers a pixel
 abbrev pub render : (ℕ → ℕ) → ℕ → View → ℕ → List ℕ
-render s len v width = rowBy (nodeOf s) v len 0 width
+render s len v width = rowBy (nodeOf s) (pixelRange v len) 0 width
+
+-- "Cutting down takes first .. and toggles AND that mask", of every pixel
+abbrev pub cutPixels : ℕ → List ℕ → List ℕ
+cutPixels v row = map (λ x. bitAnd x v) row
+
+-- ---- a view that counts from another place than the first
+-- a whole number with d added
+abbrev pub moved : ℤ → Whole → Whole
+moved d Floor.none = Floor.none
+moved d under = under
+moved d over = over
+moved d (at z) = at (z +ℤ d)
+
+-- CR 1: "In render, −mark and len − mark stand for 0 and len": the places of the run that pixel px covers, where the view counts from origin
+abbrev pub rangeFrom : ℕ → View → ℕ → ℕ → Option Range
+rangeFrom origin v len px = rangeOf (moved (pos origin) (edge v px)) (moved (pos origin) (edge v (px + 1))) len

@@ -93,16 +93,22 @@ abbrev pub appendRefusal : Store → Lent → ℕ → ℕ
 appendRefusal st lent n = firstOf (storeRows st lent (record { number = 8; holds = ltb (st .capacity) (st .len + n) } ∷ []))
 
 -- ---- 9: "i ≥ len"
+abbrev pub getRow : ℕ → ℕ → Row
+getRow len i = record { number = 9; holds = leb len i }
+
 abbrev pub getRefusal : Store → Lent → ℕ → ℕ
-getRefusal st lent i = firstOf (storeRows st lent (record { number = 9; holds = leb (st .len) i } ∷ []))
+getRefusal st lent i = firstOf (storeRows st lent (getRow (st .len) i ∷ []))
 
 -- ---- 11, samples: "output under the count copied"
 -- "Samples(start, count) copies s[start..min(start+count, len))": how many those are
 abbrev pub copied : ℕ → ℕ → ℕ → ℕ
 copied len start n = min (sum start n) len - start
 
+abbrev pub copyRow : ℕ → ℕ → ℕ → ℕ → Row
+copyRow len start n output = record { number = 11; holds = ltb output (copied len start n) }
+
 abbrev pub samplesRefusal : Store → Lent → ℕ → ℕ → ℕ → ℕ
-samplesRefusal st lent start n output = firstOf (storeRows st lent (record { number = 11; holds = ltb output (copied (st .len) start n) } ∷ []))
+samplesRefusal st lent start n output = firstOf (storeRows st lent (copyRow (st .len) start n output ∷ []))
 
 -- ---- 10: "start or spp infinite or not a number"; 11: "width > 65,536 or output under 2 × width"
 abbrev pub mostPixels : ℕ

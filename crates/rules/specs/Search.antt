@@ -4,7 +4,7 @@ use mathlib.Core.Option.{Option, none, some}
 use Prim.Native.Nat.{ℕ, zero, suc, _+_, _-_, min}
 use lib.Bits.{bitAnd}
 use lib.Dec.{ltb, eqb}
-use Rattle.rules.specs.Node.{Node, changes, nodeOf}
+use Rattle.rules.specs.Node.{Node, changes, nodeOf, cut}
 
 -- "(s[i] XOR s[i−1]) AND mask nonzero"
 abbrev pub changed : (ℕ → ℕ) → ℕ → ℕ → Bool
@@ -32,3 +32,8 @@ previous s len mask from = seek down (changed s mask) (min from (len - 1)) (min 
 -- "Summary(a,b) is the node of [a, min(b,len)), or none if empty."
 abbrev pub summary : (ℕ → ℕ) → ℕ → ℕ → ℕ → Option Node
 summary s len a b = cond (ltb a (min b len)) (some (nodeOf s a (min b len))) none
+
+-- "Cutting down takes first, last and toggles AND that mask; none stays none." (01, Lists of pushes)
+abbrev pub cutSummary : ℕ → Option Node → Option Node
+cutSummary v none = none
+cutSummary v (some n) = some (cut v n)

@@ -13,6 +13,7 @@ use Rattle.rules.specs.Refusal.{storeRefusal, nodeSize}
 use Rattle.rules.specs.Answer.{refused, given}
 use Rattle.rules.specs.Walk.{nothing, nextWalk, previousFrom, previousWalk, ahead, chunks, chunksFor}
 use Rattle.rules.proofs.Walk.{span-pos}
+use Rattle.rules.proofs.Refusal.{Sound}
 use Rattle.node.specs.Memory.{levelOf}
 use Rattle.capture.specs.declared.Capture.{Capture}
 use Rattle.capture.specs.Record.{storeOf, lentNumbers, lentOf}
@@ -23,6 +24,14 @@ use Rattle.search.specs.Answer.{asked}
 -- a node that starts below the capacity has a number below the count
 node-counted : (capacity l j : ℕ) → j * span l < capacity → suc j ≤ nodesFor capacity l
 node-counted capacity l j h = le-div-iff-mul-le (span-pos l) .1 (omega (arith, suc-mul j (span l), span-pos l))
+
+-- a sound store's samples and nodes lie in memory
+pub stored-of : (c : Capture) (samples : List ℕ) (levels : ℕ → List ℕ) → Sound (storeOf c) (lentOf samples levels) → Stored (c .unitsize) (c .len) samples levels
+stored-of c samples levels s = record {
+  bytes = record { low = s .unit-least; high = s .unit-most; room = omega (arith, mul-le-mul-right (c .unitsize) (s .len-most), s .samples) };
+  most = omega (arith, s .len-most, s .capacity-most);
+  nodes = record { inside = λ l j k m h. omega (arith, s .level l k m, mul-le-mul-right nodeSize (node-counted (c .capacity) l j (omega (arith, s .len-most))), suc-mul j nodeSize) };
+}
 
 module _ (c : Capture) (samples a b d e : List ℕ) (number : ℕ) (is : number ≡ storeRefusal (storeOf c) (lentNumbers (length samples) (length a) (length b) (length d) (length e))) where
   refusal-is : storeRefusal (storeOf c) (lentOf samples (levelOf a b d e)) ≡ number
@@ -35,13 +44,7 @@ module _ (c : Capture) (samples a b d e : List ℕ) (number : ℕ) (is : number 
   asked-given place z = given-is place _ place (refusal-is ∙ z) refl
 
   pub asked-stored : number ≡ 0 → Stored (c .unitsize) (c .len) samples (levelOf a b d e)
-  asked-stored z =
-      let s = rows-sound (storeOf c) samples a b d e number is z in
-      record {
-        bytes = record { low = s .unit-least; high = s .unit-most; room = omega (arith, mul-le-mul-right (c .unitsize) (s .len-most), s .samples) };
-        most = omega (arith, s .len-most, s .capacity-most);
-        nodes = record { inside = λ l j k m h. omega (arith, s .level l k m, mul-le-mul-right nodeSize (node-counted (c .capacity) l j (omega (arith, s .len-most))), suc-mul j nodeSize) };
-      }
+  asked-stored z = stored-of c samples (levelOf a b d e) (rows-sound (storeOf c) samples a b d e number is z)
 
 -- ---- questions with nothing to search
 module _ (has : ℕ → Bool) (reader : ℕ → ℕ → Node) (len mask from : ℕ) where

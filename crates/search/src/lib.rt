@@ -8,7 +8,7 @@ ghost use mathlib.Core.Path.{_≡_};
 ghost use Prim.Native.Nat.{_+_, _-_, _*_, _≤_, _<_, min};
 ghost use Rattle.rules.specs.Node.{chunk};
 ghost use Rattle.rules.specs.Refusal.{mostSamples};
-ghost use Rattle.rules.specs.Walk.{walkFrom, nextWalk, previousFrom, allLevels};
+ghost use Rattle.rules.specs.Walk.{walkFrom, nextWalk, previousFrom, previousWalk, allLevels};
 ghost use Rattle.rules.specs.Answer.{given};
 ghost use Rattle.node.specs.Memory.{levelOf, readerOf};
 ghost use Rattle.find.specs.Way.{wayIn, placeOf};
@@ -218,6 +218,61 @@ pub fn prev_from<'a>(
     chunks_back(samples, l1, l2, l3, l4, unitsize, len, mask, start)
 }
 
+// The next change after any place, of a capture that passed rows 1 and 2.
+pub fn next_in<'a>(
+    samples: &[u8],
+    l1: &'a [Mask],
+    l2: &'a [Mask],
+    l3: &'a [Mask],
+    l4: &'a [Mask],
+    unitsize: usize,
+    len: usize,
+    mask: Mask,
+    from: usize,
+) -> Found
+    requires { ⌜ Stored unitsize len (now samples) (levelOf (now l1) (now l2) (now l3) (now l4)) ⌝ }
+    ensures { λ r. ⌜ foundOf r ≡ given (nextWalk allLevels (readerOf unitsize (now (samples .entry)) (levelOf (now (l1 .entry)) (now (l2 .entry)) (now (l3 .entry)) (now (l4 .entry)))) len mask from .found) ⌝ }
+{
+    if len <= from {
+        return Found::Nothing;
+    }
+    if len <= from + 1 {
+        return Found::Nothing;
+    }
+    next_from(samples, l1, l2, l3, l4, unitsize, len, mask, from)
+}
+
+// The last change up to any place, of a capture that passed rows 1 and 2.
+pub fn prev_in<'a>(
+    samples: &[u8],
+    l1: &'a [Mask],
+    l2: &'a [Mask],
+    l3: &'a [Mask],
+    l4: &'a [Mask],
+    unitsize: usize,
+    len: usize,
+    mask: Mask,
+    from: usize,
+) -> Found
+    requires { ⌜ Stored unitsize len (now samples) (levelOf (now l1) (now l2) (now l3) (now l4)) ⌝ }
+    ensures { λ r. ⌜ foundOf r ≡ given (previousWalk allLevels (readerOf unitsize (now (samples .entry)) (levelOf (now (l1 .entry)) (now (l2 .entry)) (now (l3 .entry)) (now (l4 .entry)))) len mask from .found) ⌝ }
+{
+    if len == 0 {
+        return Found::Nothing;
+    }
+    prev_from(
+        samples,
+        l1,
+        l2,
+        l3,
+        l4,
+        unitsize,
+        len,
+        mask,
+        least(from, len - 1),
+    )
+}
+
 // 01's Next: the smallest place after from, and below len, at which a masked line changes.
 // Theorems, in proofs/Change.antt: next-right, that on right levels it is the rules' next; next-range, on any memory.
 pub fn next_change<'a>(
@@ -236,13 +291,7 @@ pub fn next_change<'a>(
     if number != 0 {
         return Found::Refused(number);
     }
-    if c.len <= from {
-        return Found::Nothing;
-    }
-    if c.len <= from + 1 {
-        return Found::Nothing;
-    }
-    next_from(samples, l1, l2, l3, l4, c.unitsize, c.len, mask, from)
+    next_in(samples, l1, l2, l3, l4, c.unitsize, c.len, mask, from)
 }
 
 // 01's Previous: the largest place up to from, from 1 on and below len, at which a masked line changes.
@@ -263,9 +312,5 @@ pub fn prev_change<'a>(
     if number != 0 {
         return Found::Refused(number);
     }
-    if c.len == 0 {
-        return Found::Nothing;
-    }
-    let start = least(from, c.len - 1);
-    prev_from(samples, l1, l2, l3, l4, c.unitsize, c.len, mask, start)
+    prev_in(samples, l1, l2, l3, l4, c.unitsize, c.len, mask, from)
 }

@@ -13,8 +13,9 @@ ghost use Prim.Native.Nat.{_+_, _-_, _*_, _≤_, _<_, min};
 ghost use lib.ListN.{length};
 ghost use Rattle.rules.specs.Sample.{sampleOf};
 ghost use Rattle.rules.specs.Node.{nodeOf, chunk};
-ghost use Rattle.rules.specs.Answer.{unless};
+ghost use Rattle.rules.specs.Answer.{given, unless};
 ghost use Rattle.rules.specs.Refusal.{storeRefusal, nodeSize, mostSamples};
+ghost use Rattle.rules.proofs.Refusal.{Sound};
 ghost use Rattle.node.specs.Memory.{asNode, levelOf};
 ghost use Rattle.capture.specs.Record.{storeOf, lentOf};
 ghost use Rattle.summary.specs.Scan.{Run, fromFirst};
@@ -207,6 +208,27 @@ pub enum Summed {
     Nothing,
 }
 
+// The node of [a, min(b, len)), none where that is empty, of a capture that passed rows 1 and 2.
+pub fn summed_in<'a>(
+    c: Capture,
+    samples: &[u8],
+    l1: &'a [Mask],
+    l2: &'a [Mask],
+    l3: &'a [Mask],
+    l4: &'a [Mask],
+    a: usize,
+    b: usize,
+) -> Summed
+    requires { ⌜ Sound (storeOf c) (lentOf (now samples) (levelOf (now l1) (now l2) (now l3) (now l4))) ⌝ }
+    ensures { λ r. ⌜ summedOf r ≡ given (summaryOf (levelOf (now (l1 .entry)) (now (l2 .entry)) (now (l3 .entry)) (now (l4 .entry))) (sampleOf (c .unitsize) (now (samples .entry))) (c .len) a b) ⌝ }
+{
+    let end = smaller(b, c.len);
+    if end <= a {
+        return Summed::Nothing;
+    }
+    Summed::Node(summary_in(c, samples, l1, l2, l3, l4, a, end))
+}
+
 // 01's Summary(a, b): the node of [a, min(b, len)), none where that is empty, or 1 or 2.
 // By `Answers.summary-right` it is the rule's where levels are right.
 pub fn summary<'a>(
@@ -225,9 +247,5 @@ pub fn summary<'a>(
     if n != 0 {
         return Summed::Refused(n);
     }
-    let end = smaller(b, c.len);
-    if end <= a {
-        return Summed::Nothing;
-    }
-    Summed::Node(summary_in(c, samples, l1, l2, l3, l4, a, end))
+    summed_in(c, samples, l1, l2, l3, l4, a, b)
 }

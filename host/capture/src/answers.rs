@@ -15,13 +15,14 @@ pub struct Node {
     pub toggles: Lines,
 }
 
-/// Changes that follow each other in less than a gap.
+/// Changes that follow each other in less than a gap. Its places count as its reader does: from the first sample, or
+/// as `Burst<i64>` from the mark (see [`Mill`](crate::Mill)).
 #[derive(Clone, Copy, Debug, PartialEq, Eq, Hash)]
-pub struct Burst {
+pub struct Burst<Place = usize> {
     /// The place of the first change.
-    pub first: usize,
+    pub first: Place,
     /// The place of the last change.
-    pub last: usize,
+    pub last: Place,
     /// How many jumps moved `last`.
     pub jumps_at_end: usize,
     /// How many jumps moved `first`.
@@ -31,19 +32,38 @@ pub struct Burst {
 /// The stretch of a capture that is drawn.
 #[derive(Clone, Copy, Debug, PartialEq)]
 pub struct View {
-    /// The place at which the first pixel begins. It may be a part of a sample, or before the capture.
+    /// The place at which the first pixel begins, as its reader counts. It may be a part of a sample, or before the
+    /// capture.
     pub start: f64,
     /// Samples per pixel.
     pub spp: f64,
 }
 
-/// One pixel of all lines.
+/// One pixel of all lines, or of a [`Mill`](crate::Mill)'s granted lines.
 #[derive(Clone, Copy, Debug, Default, PartialEq, Eq, Hash)]
 pub struct Pixel {
     /// The first sample under it; 0 where there is none.
     pub first: Lines,
     /// The lines that change under it, up to and with the first sample of the next pixel.
     pub toggles: Lines,
+}
+
+impl Pixel {
+    /// The pixels of a drawn row, two numbers each.
+    pub(crate) fn of(row: &[Lines]) -> Vec<Pixel> {
+        row.chunks_exact(2).map(|pixel| Pixel { first: pixel[0], toggles: pixel[1] }).collect()
+    }
+}
+
+/// Which places a [`Mill`](crate::Mill) has, as it counts them.
+#[derive(Clone, Copy, Debug, PartialEq, Eq, Hash)]
+pub struct Extent {
+    /// The place of the first sample, 0 or below.
+    pub first: i64,
+    /// The place behind the last sample.
+    pub end: i64,
+    /// Whether there is a mark. It is at 0 then, and else the first sample is.
+    pub marked: bool,
 }
 
 /// A node of the summary tree that is not the node of its stretch.

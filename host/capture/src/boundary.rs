@@ -6,7 +6,7 @@
 //! them apart.
 
 use crate::memory::Memory;
-use crate::{Lines, Node, Refusal};
+use crate::{Extent, Lines, Node, Refusal};
 
 /// unit, capacity, len, whether there is a mark, the mark
 pub type Record = [usize; 5];
@@ -54,6 +54,32 @@ declare! {
     fn lc_render(
         record: *const usize; *const u8, *const u16;
         start: f64, spp: f64, width: usize, output: *mut u16, output_len: usize
+    ) -> u32;
+    fn lc_mill_extent(
+        record: *const usize; *const u8, *const u16; first: *mut i64, end: *mut i64, marked: *mut bool
+    ) -> u32;
+    fn lc_mill_get(record: *const usize; *const u8, *const u16; grant: u16, place: i64, value: *mut u16) -> u32;
+    fn lc_mill_samples(
+        record: *const usize; *const u8, *const u16;
+        grant: u16, start: i64, count: usize, output: *mut u16, output_len: usize, copied: *mut usize
+    ) -> u32;
+    fn lc_mill_summary(
+        record: *const usize; *const u8, *const u16; grant: u16, a: i64, b: i64, node: *mut u16
+    ) -> u32;
+    fn lc_mill_next_change(
+        record: *const usize; *const u8, *const u16; grant: u16, mask: u16, from: i64, place: *mut i64
+    ) -> u32;
+    fn lc_mill_prev_change(
+        record: *const usize; *const u8, *const u16; grant: u16, mask: u16, from: i64, place: *mut i64
+    ) -> u32;
+    fn lc_mill_burst_at(
+        record: *const usize; *const u8, *const u16;
+        grant: u16, mask: u16, sample: i64, max_gap: usize, tolerance: usize, budget: usize,
+        first: *mut i64, last: *mut i64, jumps: *mut usize
+    ) -> u32;
+    fn lc_mill_render(
+        record: *const usize; *const u8, *const u16;
+        grant: u16, start: f64, spp: f64, width: usize, output: *mut u16, output_len: usize
     ) -> u32;
     fn lc_feeder_start(
         channels: usize, capacity: usize, limit: usize,
@@ -241,6 +267,136 @@ pub fn render(
         (record.as_ptr()),
         memory.as_ptr,
         (start, spp, width, output.as_mut_ptr(), room)
+    );
+    answered(code).map(|_| ())
+}
+
+pub fn mill_extent(record: &Record, memory: &Memory) -> Result<Extent, Refusal> {
+    let (mut first, mut end, mut marked) = (0, 0, false);
+    let code = call!(
+        lc_mill_extent,
+        (record.as_ptr()),
+        memory.as_ptr,
+        (&mut first, &mut end, &mut marked)
+    );
+    answered(code).map(|_| Extent { first, end, marked })
+}
+
+pub fn mill_get(
+    record: &Record,
+    memory: &Memory,
+    grant: Lines,
+    place: i64,
+) -> Result<Lines, Refusal> {
+    let mut value = 0;
+    let code = call!(lc_mill_get, (record.as_ptr()), memory.as_ptr, (grant, place, &mut value));
+    answered(code).map(|_| value)
+}
+
+pub fn mill_samples(
+    record: &Record,
+    memory: &Memory,
+    grant: Lines,
+    start: i64,
+    count: usize,
+    output: &mut [Lines],
+) -> Result<usize, Refusal> {
+    let (room, mut copied) = (output.len(), 0);
+    let code = call!(
+        lc_mill_samples,
+        (record.as_ptr()),
+        memory.as_ptr,
+        (grant, start, count, output.as_mut_ptr(), room, &mut copied)
+    );
+    answered(code).map(|_| copied)
+}
+
+pub fn mill_summary(
+    record: &Record,
+    memory: &Memory,
+    grant: Lines,
+    a: i64,
+    b: i64,
+) -> Result<Option<Node>, Refusal> {
+    let mut node = [0; 3];
+    let out = node.as_mut_ptr();
+    let code = call!(lc_mill_summary, (record.as_ptr()), memory.as_ptr, (grant, a, b, out));
+    let found = answered(code)?;
+    let [first, last, toggles] = node;
+    Ok(found.then_some(Node { first, last, toggles }))
+}
+
+pub fn mill_next_change(
+    record: &Record,
+    memory: &Memory,
+    grant: Lines,
+    mask: Lines,
+    from: i64,
+) -> Result<Option<i64>, Refusal> {
+    let mut place = 0;
+    let found = answered(call!(
+        lc_mill_next_change,
+        (record.as_ptr()),
+        memory.as_ptr,
+        (grant, mask, from, &mut place)
+    ))?;
+    Ok(found.then_some(place))
+}
+
+pub fn mill_prev_change(
+    record: &Record,
+    memory: &Memory,
+    grant: Lines,
+    mask: Lines,
+    from: i64,
+) -> Result<Option<i64>, Refusal> {
+    let mut place = 0;
+    let found = answered(call!(
+        lc_mill_prev_change,
+        (record.as_ptr()),
+        memory.as_ptr,
+        (grant, mask, from, &mut place)
+    ))?;
+    Ok(found.then_some(place))
+}
+
+/// The first and the last place; then the jumps at the end and those at the start.
+pub type MillEnds = ([i64; 2], [usize; 2]);
+
+pub fn mill_burst_at(
+    record: &Record,
+    memory: &Memory,
+    grant: Lines,
+    mask: Lines,
+    sample: i64,
+    [max_gap, tolerance, budget]: [usize; 3],
+) -> Result<Option<MillEnds>, Refusal> {
+    let (mut first, mut last, mut jumps) = (0, 0, [0; 2]);
+    let out = jumps.as_mut_ptr();
+    let code = call!(
+        lc_mill_burst_at,
+        (record.as_ptr()),
+        memory.as_ptr,
+        (grant, mask, sample, max_gap, tolerance, budget, &mut first, &mut last, out)
+    );
+    Ok(answered(code)?.then_some(([first, last], jumps)))
+}
+
+/// Two numbers of the output for each pixel.
+pub fn mill_render(
+    record: &Record,
+    memory: &Memory,
+    grant: Lines,
+    [start, spp]: [f64; 2],
+    width: usize,
+    output: &mut [Lines],
+) -> Result<(), Refusal> {
+    let room = output.len();
+    let code = call!(
+        lc_mill_render,
+        (record.as_ptr()),
+        memory.as_ptr,
+        (grant, start, spp, width, output.as_mut_ptr(), room)
     );
     answered(code).map(|_| ())
 }

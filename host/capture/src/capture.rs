@@ -254,10 +254,7 @@ impl Capture {
         // A wider one is refused, and needs no memory for that.
         let mut output = vec![0; 2 * width.min(MOST_PIXELS)];
         boundary::render(&self.record, &self.memory, view.start, view.spp, width, &mut output)?;
-        Ok(output
-            .chunks_exact(2)
-            .map(|pixel| Pixel { first: pixel[0], toggles: pixel[1] })
-            .collect())
+        Ok(Pixel::of(&output))
     }
 }
 
@@ -293,6 +290,7 @@ mod tests {
         fn shared<T: Send + Sync>() {}
         shared::<Capture>();
         shared::<crate::Recorder>();
+        shared::<crate::Mill>();
     }
 
     #[test]

@@ -28,6 +28,8 @@
 //! ```
 //!
 //! Places count samples from 0. A mask has bit k for line k.
+//!
+//! [`Capture::mill`] gives a [`Mill`], a reader that sees some lines only and counts places from the mark.
 
 #![deny(unsafe_code, missing_docs)]
 
@@ -37,14 +39,16 @@ mod boundary;
 mod capture;
 mod changes;
 mod memory;
+mod mill;
 mod recorder;
 mod refusal;
 mod settings;
 
-pub use answers::{Burst, Node, Pixel, View, WrongNode};
+pub use answers::{Burst, Extent, Node, Pixel, View, WrongNode};
 pub use capture::Capture;
 pub use changes::Changes;
 pub use memory::Needs;
+pub use mill::Mill;
 pub use recorder::{Pushed, Recorder};
 pub use refusal::Refusal;
 pub use settings::{Condition, Settings, Term, Wish};

@@ -11,6 +11,8 @@ pub enum Takes {
     Value,
     /// A value, as often as it is given.
     Values,
+    /// It is known and refused, for this reason.
+    Refused(&'static str),
 }
 
 /// An option's name, and what it takes.
@@ -60,6 +62,9 @@ impl Args {
                 let Some(&(name, takes)) = known.iter().find(|known| known.0 == name) else {
                     return Err(bad(format!("there is no option '{name}'; see --help")));
                 };
+                if let Takes::Refused(why) = takes {
+                    return Err(bad(format!("{name}: {why}")));
+                }
                 if takes != Takes::Values && args.flag(name) {
                     return Err(bad(format!("{name} is given twice")));
                 }
@@ -122,11 +127,12 @@ impl Args {
 mod tests {
     use super::*;
 
-    const KNOWN: [Known; 4] = [
+    const KNOWN: [Known; 5] = [
         ("--from", Takes::Value),
         ("--hex", Takes::Nothing),
         ("--trigger", Takes::Values),
         ("--output", Takes::Value),
+        ("--grant", Takes::Refused("not here")),
     ];
 
     fn read(line: &str) -> Result<Option<Args>, String> {
@@ -170,5 +176,7 @@ mod tests {
         assert_eq!(read("--hex=1").unwrap_err(), "--hex takes no value");
         assert_eq!(read("--from 1 --from 2").unwrap_err(), "--from is given twice");
         assert_eq!(read("a b").unwrap_err(), "'b' is one file too many beside 'a'");
+        assert_eq!(read("--grant 1").unwrap_err(), "--grant: not here");
+        assert_eq!(read("--grant").unwrap_err(), "--grant: not here");
     }
 }

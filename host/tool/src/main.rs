@@ -12,6 +12,7 @@ mod number;
 mod output;
 mod place;
 mod progress;
+mod reader;
 mod recording;
 mod source;
 mod svg;

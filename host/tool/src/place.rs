@@ -3,50 +3,74 @@
 use crate::args::Args;
 use crate::failure::Failure;
 use crate::number;
-use crate::recording::Recording;
+use crate::reader::{Place, Reader};
+use capture::Refusal;
+
+const FORM: &str = "a place is a number, mark or end, as in mark+10";
 
 /// The place behind an option.
-pub fn asked(
-    args: &Args,
-    name: &'static str,
-    recording: &Recording,
-) -> Result<Option<usize>, Failure> {
-    args.read_value(name, |text| read(text, recording.mark, recording.capture.len()))
+pub fn asked(args: &Args, name: &'static str, reader: &Reader) -> Result<Option<Place>, Failure> {
+    args.read_value(name, |text| read(text, reader))
 }
 
-/// A number, `mark` or `end`; behind one of these two `+` or `-` and a number.
-fn read(text: &str, mark: Option<usize>, end: usize) -> Result<usize, String> {
-    let (base, rest) = if let Some(rest) = text.strip_prefix("mark") {
-        (mark.ok_or("this capture has no mark")?, rest)
+/// A number, `mark` or `end`; behind one of these two `+` or `-` and a number. A mill's number may be negative.
+fn read(text: &str, reader: &Reader) -> Result<Place, String> {
+    let place = if let Some(rest) = text.strip_prefix("mark") {
+        reader.mark().ok_or("this capture has no mark")? + offset(rest)?
     } else if let Some(rest) = text.strip_prefix("end") {
-        (end, rest)
+        reader.end() + offset(rest)?
     } else {
-        return number::whole(text).map_err(|what| match what.as_str() {
-            "not a whole number" => "a place is a number, mark or end, as in mark+10".into(),
-            _ => what,
-        });
+        plain(text, reader)?
     };
-    match rest.split_at_checked(1) {
-        None if rest.is_empty() => Ok(base),
-        Some(("+", number)) => {
-            base.checked_add(number::whole(number)?).ok_or_else(|| "too far".into())
-        }
-        Some(("-", number)) => {
-            base.checked_sub(number::whole(number)?).ok_or_else(|| "before the first sample".into())
-        }
-        _ => Err("a place is a number, mark or end, as in mark+10".into()),
+    if place > reader.most() {
+        return Err("too far".into());
+    }
+    if place < reader.first() {
+        return Err(match reader {
+            Reader::Service(_) => "before the first sample".into(),
+            Reader::Mill(_) => Refusal::Before.to_string(),
+        });
+    }
+    Ok(place)
+}
+
+/// What stands behind `mark` or `end`.
+fn offset(text: &str) -> Result<Place, String> {
+    match text.split_at_checked(1) {
+        None if text.is_empty() => Ok(0),
+        Some(("+", number)) => Ok(number::whole(number)? as Place),
+        Some(("-", number)) => Ok(-(number::whole(number)? as Place)),
+        _ => Err(FORM.into()),
+    }
+}
+
+fn plain(text: &str, reader: &Reader) -> Result<Place, String> {
+    let (sign, digits) = match (reader, text.strip_prefix('-')) {
+        (Reader::Mill(_), Some(digits)) => (-1, digits),
+        _ => (1, text),
+    };
+    match number::whole(digits) {
+        Ok(number) => Ok(sign * number as Place),
+        Err(what) if what == "not a whole number" => Err(FORM.into()),
+        Err(what) => Err(what),
     }
 }
 
 #[cfg(test)]
 mod tests {
     use super::*;
+    use crate::recording::Recording;
+
+    fn recording(mark: Option<usize>) -> Recording {
+        Recording::of(&[0; 20], mark)
+    }
 
     #[test]
     fn places() {
+        let recording = recording(Some(7));
         for (text, place) in [
             ("0", 0),
-            ("18446744073709551615", usize::MAX),
+            ("18446744073709551615", usize::MAX as Place),
             ("mark", 7),
             ("mark+3", 10),
             ("mark-7", 0),
@@ -54,26 +78,64 @@ mod tests {
             ("end-1", 19),
             ("end+1", 21),
         ] {
-            assert_eq!(read(text, Some(7), 20), Ok(place));
+            assert_eq!(read(text, &Reader::Service(&recording)), Ok(place));
         }
     }
 
     #[test]
-    fn what_is_wrong_is_said() {
-        let form = "a place is a number, mark or end, as in mark+10";
+    fn places_of_a_mill() {
+        let recording = recording(Some(7));
+        let mill = Reader::Mill(recording.capture.mill_with_mark(1, 7).unwrap());
+        for (text, place) in [
+            ("0", 0),
+            ("-7", -7),
+            ("9223372036854775807", i64::MAX.into()),
+            ("mark", 0),
+            ("mark+3", 3),
+            ("mark-7", -7),
+            ("end", 13),
+            ("end-20", -7),
+        ] {
+            assert_eq!(read(text, &mill), Ok(place));
+        }
+        let before = "refused, 13: the place is before the first sample";
         for (text, what) in [
-            ("", form),
-            ("-1", form),
-            ("marks", form),
-            ("mark*2", form),
-            ("mark€", form),
+            ("-8", before),
+            ("mark-8", before),
+            ("end-21", before),
+            ("-18446744073709551615", before),
+            ("9223372036854775808", "too far"),
+            ("end+9223372036854775807", "too far"),
+            ("18446744073709551616", "above 18446744073709551615"),
+            ("-", FORM),
+            ("--1", FORM),
+            ("-mark", FORM),
+        ] {
+            assert_eq!(read(text, &mill).unwrap_err(), what, "{text}");
+        }
+        let mill = Reader::Mill(recording.capture.mill(1));
+        assert_eq!(read("mark", &mill).unwrap_err(), "this capture has no mark");
+        assert_eq!(read("end", &mill), Ok(20));
+    }
+
+    #[test]
+    fn what_is_wrong_is_said() {
+        let marked = recording(Some(7));
+        for (text, what) in [
+            ("", FORM),
+            ("-1", FORM),
+            ("marks", FORM),
+            ("mark*2", FORM),
+            ("mark€", FORM),
             ("mark+", "not a whole number"),
             ("mark-8", "before the first sample"),
             ("mark+18446744073709551615", "too far"),
             ("18446744073709551616", "above 18446744073709551615"),
         ] {
-            assert_eq!(read(text, Some(7), 20).unwrap_err(), what, "{text}");
+            assert_eq!(read(text, &Reader::Service(&marked)).unwrap_err(), what, "{text}");
         }
-        assert_eq!(read("mark", None, 20).unwrap_err(), "this capture has no mark");
+        let unmarked = recording(None);
+        let service = Reader::Service(&unmarked);
+        assert_eq!(read("mark", &service).unwrap_err(), "this capture has no mark");
     }
 }

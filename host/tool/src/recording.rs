@@ -1,8 +1,10 @@
 //! What is in a capture file.
 
+use crate::failure::Failure;
 use crate::lines;
+use crate::reader::Reader;
 use capture::Capture;
-use std::io::{self, Write};
+use std::io::Write;
 
 /// A capture with the mark and the rate that were recorded with it.
 pub struct Recording {
@@ -14,17 +16,39 @@ pub struct Recording {
 }
 
 impl Recording {
-    /// Prints its numbers, one a line.
-    pub fn describe(&self, out: &mut dyn Write) -> io::Result<()> {
-        let capture = &self.capture;
-        writeln!(out, "unit {}", capture.unit())?;
-        writeln!(out, "samples {}", capture.len())?;
-        writeln!(out, "mark {}", or_dash(self.mark))?;
+    /// Prints its numbers, one a line, as far as the reader sees them.
+    pub fn describe(&self, reader: &Reader, out: &mut dyn Write) -> Result<(), Failure> {
+        let (first, end) = (reader.first(), reader.end());
+        let samples = end - first;
+        match reader {
+            Reader::Service(_) => {
+                writeln!(out, "unit {}", reader.unit())?;
+                writeln!(out, "samples {samples}")?;
+            }
+            Reader::Mill(mill) => {
+                writeln!(out, "grant {}", lines::written(mill.grant()))?;
+                writeln!(out, "samples {samples}")?;
+                writeln!(out, "first {first}")?;
+                writeln!(out, "end {end}")?;
+            }
+        }
+        writeln!(out, "mark {}", or_dash(reader.mark()))?;
         writeln!(out, "rate {}", or_dash(self.rate))?;
-        let seconds = self.rate.map(|rate| capture.len() as f64 / rate as f64);
+        let seconds = self.rate.map(|rate| samples as f64 / rate as f64);
         writeln!(out, "seconds {}", or_dash(seconds))?;
-        let changing = capture.summary(0, capture.len()).map_or(0, |node| node.toggles);
-        writeln!(out, "changing {}", lines::written(changing))
+        let changing = reader.summary(first, end)?.map_or(0, |node| node.toggles);
+        writeln!(out, "changing {}", lines::written(changing))?;
+        Ok(())
+    }
+}
+
+#[cfg(test)]
+impl Recording {
+    /// For tests: samples of unit 1, and a mark beside them.
+    pub fn of(samples: &[u8], mark: Option<usize>) -> Recording {
+        let mut capture = Capture::start(8, samples.len().max(1)).unwrap();
+        capture.append(samples).unwrap();
+        Recording { capture, mark, rate: None }
     }
 }
 

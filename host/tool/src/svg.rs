@@ -1,5 +1,6 @@
 //! A wave as an SVG picture.
 
+use crate::reader::Place;
 use crate::wave::{Step, Wave};
 use std::fmt::Write as _;
 use std::io::{self, Write};
@@ -16,7 +17,7 @@ pub fn draw(
     out: &mut dyn Write,
     wave: &Wave,
     lines: &[(u8, String)],
-    mark: Option<usize>,
+    mark: Option<Place>,
     room: usize,
 ) -> io::Result<()> {
     // Whole units where there are as many columns as that; wider where samples are fewer.
@@ -90,14 +91,15 @@ fn escaped(text: &str) -> String {
 #[cfg(test)]
 mod tests {
     use super::*;
-    use capture::Capture;
+    use crate::reader::Reader;
+    use crate::recording::Recording;
 
     fn drawn(samples: &[u8], room: usize, mark: Option<usize>, label: &str) -> String {
-        let mut capture = Capture::start(8, 1000).unwrap();
-        capture.append(samples).unwrap();
-        let wave = Wave::new(&capture, 0, samples.len(), room).unwrap().unwrap();
+        let recording = Recording::of(samples, mark);
+        let reader = Reader::Service(&recording);
+        let wave = Wave::new(&reader, 0, reader.end(), room).unwrap().unwrap();
         let mut out = Vec::new();
-        draw(&mut out, &wave, &[(0, label.to_string())], mark, room).unwrap();
+        draw(&mut out, &wave, &[(0, label.to_string())], reader.mark(), room).unwrap();
         String::from_utf8(out).unwrap()
     }
 

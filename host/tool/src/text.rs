@@ -1,5 +1,6 @@
 //! A wave as text in the terminal.
 
+use crate::reader::Place;
 use crate::wave::{Step, Wave};
 use std::io::{self, Write};
 
@@ -51,7 +52,7 @@ pub fn draw(
     out: &mut dyn Write,
     wave: &Wave,
     lines: &[(u8, String)],
-    mark: Option<usize>,
+    mark: Option<Place>,
     style: Style,
     room: usize,
 ) -> io::Result<()> {
@@ -86,7 +87,8 @@ pub fn draw(
 
 /// Places, each written from its column on, as many as there is room for.
 fn ruler(wave: &Wave, stretch: usize) -> String {
-    let widest = wave.place(wave.width()).to_string().len();
+    let length = |column: usize| wave.place(column).to_string().len();
+    let widest = length(0).max(length(wave.width()));
     // Every tenth character or so, and further apart where places are longer.
     let every = (widest + 2).max(10).div_ceil(stretch);
     let mut text = String::new();
@@ -99,15 +101,18 @@ fn ruler(wave: &Wave, stretch: usize) -> String {
 #[cfg(test)]
 mod tests {
     use super::*;
-    use capture::Capture;
+    use crate::reader::Reader;
+    use crate::recording::Recording;
 
     fn drawn(samples: &[u8], style: Style, room: usize, mark: Option<usize>) -> String {
-        let mut capture = Capture::start(8, 1000).unwrap();
-        capture.append(samples).unwrap();
-        let wave = Wave::new(&capture, 0, samples.len(), room).unwrap().unwrap();
+        drawn_for(&Reader::Service(&Recording::of(samples, mark)), style, room)
+    }
+
+    fn drawn_for(reader: &Reader, style: Style, room: usize) -> String {
+        let wave = Wave::new(reader, reader.first(), reader.end(), room).unwrap().unwrap();
         let lines = [(0, "0".to_string()), (1, "1 turner".to_string())];
         let mut out = Vec::new();
-        draw(&mut out, &wave, &lines, mark, style, room).unwrap();
+        draw(&mut out, &wave, &lines, reader.mark(), style, room).unwrap();
         String::from_utf8(out).unwrap()
     }
 
@@ -144,6 +149,20 @@ mod tests {
         assert_eq!(text.lines().nth(2), Some("0        ┴┘│"));
         let text = drawn(&samples, Style::Ascii, 4, None);
         assert_eq!(text.lines().nth(1), Some("0        |/|-"));
+    }
+
+    #[test]
+    fn a_mill_sees_its_lines_and_its_places() {
+        let recording = Recording::of(&[0, 0, 1, 3, 2, 0], None);
+        let mill = recording.capture.mill_with_mark(0b01, 3).unwrap();
+        let text = drawn_for(&Reader::Mill(mill), Style::Ascii, 6);
+        let expected = [
+            "place    -3", //
+            "mark        v 0",
+            "0        _/-\\__",
+            "1 turner ______",
+        ];
+        assert_eq!(text.lines().collect::<Vec<_>>(), expected);
     }
 
     #[test]

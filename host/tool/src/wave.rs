@@ -1,6 +1,7 @@
 //! A stretch of a capture as columns, for the drawings in text and in SVG.
 
-use capture::{Capture, Lines, Refusal, View, MOST_PIXELS};
+use crate::reader::{Place, Reader};
+use capture::{Lines, Refusal, View, MOST_PIXELS};
 
 /// What a line does in a column.
 #[derive(Clone, Copy, Debug, PartialEq, Eq)]
@@ -27,7 +28,7 @@ struct Column {
 pub struct Wave {
     view: View,
     /// The place behind its last sample.
-    end: usize,
+    end: Place,
     columns: Vec<Column>,
 }
 
@@ -35,28 +36,25 @@ pub struct Wave {
 pub const MOST_COLUMNS: usize = MOST_PIXELS - 1;
 
 impl Wave {
-    /// Draws the places from `from` up to `to`, or up to the capture's end; none where no sample is there. No column
-    /// has less than a sample, so there may be fewer of them than `width`.
+    /// Draws the places from `from`, which is not before the first, up to `to`, or up to the capture's end; none where
+    /// no sample is there. No column has less than a sample, so there may be fewer of them than `width`.
     pub fn new(
-        capture: &Capture,
-        from: usize,
-        to: usize,
+        reader: &Reader,
+        from: Place,
+        to: Place,
         width: usize,
     ) -> Result<Option<Wave>, Refusal> {
-        let to = to.min(capture.len());
+        let to = to.min(reader.end());
         if from >= to {
             return Ok(None);
         }
         let count = to - from;
-        let width = width.min(count);
+        let width = count.min(width as Place) as usize;
         let view = View { start: from as f64, spp: count as f64 / width as f64 };
-        let pixels = capture.render(view, width + 1)?;
+        let pixels = reader.render(view, width + 1)?;
         // Past the capture's end there is no next pixel: the last sample is what is left.
-        let last = if to < capture.len() {
-            pixels[width].first
-        } else {
-            capture.get(capture.len() - 1)?
-        };
+        let last =
+            if to < reader.end() { pixels[width].first } else { reader.get(reader.end() - 1)? };
         let left = pixels[1..width].iter().map(|pixel| pixel.first).chain([last]);
         let columns = pixels.iter().zip(left).map(|(pixel, left)| Column {
             entered: pixel.first,
@@ -72,12 +70,12 @@ impl Wave {
     }
 
     /// The first place of a column.
-    pub fn place(&self, column: usize) -> usize {
-        (self.view.start + column as f64 * self.view.spp).floor() as usize
+    pub fn place(&self, column: usize) -> Place {
+        (self.view.start + column as f64 * self.view.spp).floor() as Place
     }
 
     /// The column that a place is in.
-    pub fn column(&self, place: usize) -> Option<usize> {
+    pub fn column(&self, place: Place) -> Option<usize> {
         if place < self.place(0) || place >= self.end {
             return None;
         }
@@ -103,15 +101,15 @@ impl Wave {
 #[cfg(test)]
 mod tests {
     use super::*;
+    use crate::recording::Recording;
     use Step::*;
 
-    fn wave(samples: &[u8], from: usize, to: usize, width: usize) -> Wave {
-        let mut capture = Capture::start(8, 100).unwrap();
-        capture.append(samples).unwrap();
-        Wave::new(&capture, from, to, width).unwrap().unwrap()
+    fn wave(samples: &[u8], from: Place, to: Place, width: usize) -> Wave {
+        let recording = Recording::of(samples, None);
+        Wave::new(&Reader::Service(&recording), from, to, width).unwrap().unwrap()
     }
 
-    fn steps(samples: &[u8], from: usize, to: usize, width: usize) -> Vec<Step> {
+    fn steps(samples: &[u8], from: Place, to: Place, width: usize) -> Vec<Step> {
         wave(samples, from, to, width).steps(0).collect()
     }
 
@@ -135,26 +133,39 @@ mod tests {
         for (from, to) in [(0, 100), (10, 90), (3, 10), (99, 100)] {
             for width in 1..110 {
                 let wave = wave(&[0; 100], from, to, width);
-                assert_eq!(wave.width(), width.min(to - from));
+                assert_eq!(wave.width(), width.min((to - from) as usize));
                 for place in from..to {
                     let column = wave.column(place).unwrap();
                     assert!(wave.place(column) <= place);
                     assert!(column + 1 == wave.width() || place < wave.place(column + 1));
                 }
-                assert_eq!(
-                    (from.checked_sub(1).and_then(|place| wave.column(place)), wave.column(to)),
-                    (None, None)
-                );
+                assert_eq!((wave.column(from - 1), wave.column(to)), (None, None));
+            }
+        }
+    }
+
+    /// A mill's columns are the service's, on granted lines, each place moved by the mark.
+    #[test]
+    fn a_mill_draws_the_same_columns() {
+        let samples = [0, 1, 2, 2, 3, 1, 1, 0, 0, 2, 2, 2, 3, 3, 1, 0];
+        let recording = Recording::of(&samples, None);
+        for (mark, width) in [(0, 4), (3, 16), (7, 8), (16, 2)] {
+            let mill = Reader::Mill(recording.capture.mill_with_mark(0b10, mark).unwrap());
+            let drawn = Wave::new(&mill, mill.first(), mill.end(), width).unwrap().unwrap();
+            let whole = wave(&samples, 0, 16, width);
+            assert!(drawn.steps(1).eq(whole.steps(1)));
+            assert!(drawn.steps(0).all(|step| step == Low));
+            for column in 0..width {
+                assert_eq!(drawn.place(column), whole.place(column) - mark as Place);
             }
         }
     }
 
     #[test]
     fn nothing_to_draw() {
-        let mut capture = Capture::start(8, 100).unwrap();
-        assert!(Wave::new(&capture, 0, 0, 10).unwrap().is_none());
-        capture.append(&[0; 10]).unwrap();
-        assert!(Wave::new(&capture, 10, 20, 10).unwrap().is_none());
-        assert!(Wave::new(&capture, 9, 9, 10).unwrap().is_none());
+        for (samples, from, to) in [(&[][..], 0, 0), (&[0; 10], 10, 20), (&[0; 10], 9, 9)] {
+            let recording = Recording::of(samples, None);
+            assert!(Wave::new(&Reader::Service(&recording), from, to, 10).unwrap().is_none());
+        }
     }
 }

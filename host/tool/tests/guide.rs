@@ -83,6 +83,8 @@ fn refusals_say_what_the_guide_says() {
         Refusal::Place,
         Refusal::View,
         Refusal::Width,
+        Refusal::Grant,
+        Refusal::Before,
     ];
     let rows = rows("| No. |");
     assert_eq!(rows.len(), refusals.len());

@@ -1,5 +1,6 @@
 //! Document 01 as a side: it has an answer to every line that wants one.
 
+mod mill;
 pub mod refusals;
 pub mod rules;
 
@@ -46,6 +47,14 @@ impl Side for Document {
 }
 
 impl Document {
+    pub fn store(&self) -> Store {
+        self.store
+    }
+
+    pub fn samples(&self) -> &[u16] {
+        &self.samples
+    }
+
     /// Whether rows 1 and 2 refuse the store as it is now. This is Raw's refusal too, which has no number.
     pub fn refuses(&self) -> bool {
         refusals::store(&self.store, &self.lent).is_err()
@@ -116,6 +125,7 @@ impl Document {
                 refusals::render(view)?;
                 vec![digest(rules::render(s, view).into_iter().map(u64::from))]
             }
+            Op::Mill(mill) => return mill::answer(s, self.store.mark, mill),
             _ => unreachable!("no question: {op:?}"),
         })
     }

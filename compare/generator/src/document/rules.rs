@@ -101,10 +101,15 @@ fn floor(x: f64) -> i128 {
 
 /// First and toggles of each pixel.
 pub fn render(s: &[u16], view: &View) -> Vec<u16> {
+    render_from(s, 0, view)
+}
+
+/// The same for a view that counts places from `origin`: the edges are floored as it counts, and then moved.
+pub fn render_from(s: &[u16], origin: u64, view: &View) -> Vec<u16> {
     let len = s.len() as i128;
     let edge = |px: u64| {
         let product = px as f64 * view.spp;
-        floor(view.start + product)
+        floor(view.start + product).saturating_add(origin as i128)
     };
     let pixel = |px: u64| {
         let (a, b) = (edge(px), edge(px + 1));

@@ -2,8 +2,8 @@
 
 mod burst;
 mod recorder;
-mod refused;
-mod render;
+pub mod refused;
+pub mod render;
 mod search;
 mod store;
 

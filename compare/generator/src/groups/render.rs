@@ -9,7 +9,7 @@ use crate::shapes::{Shape, Size, CHUNK};
 use rng::Rng;
 
 /// Numbers that floor, round or overflow in ways of their own.
-const SPECIAL: [f64; 34] = [
+pub const SPECIAL: [f64; 34] = [
     0.0,
     -0.0,
     5e-324,

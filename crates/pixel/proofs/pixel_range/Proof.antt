@@ -1,8 +1,9 @@
 -- `pixel::pixel_range` meets its contract. Assumes nothing.
 use mathlib.Core.Path.{ap, _∙_}
 use Prim.Native.Nat.{_+_}
+use lib.IntN.{pos}
 use borrow.Author.Needs.{needs}
-use Rattle.rules.specs.Pixel.{edge}
+use Rattle.rules.specs.Pixel.{edge, moved}
 use Rattle.float.specs.declared.Place.{Place}
 use Rattle.float.specs.Places.{placeOf}
 use Rattle.pixel.specs.Ranges.{viewAs, coverBy}
@@ -25,11 +26,12 @@ cover-requires c κs = search needs
 returns : tie.Need-returns
 returns c =
     let s = c .before .before .before .args in
-    let v = viewAs (s .v) in
+    let a = moved (pos (s .origin)) (edge (viewAs (s .v)) (s .px)) in
+    let b = moved (pos (s .origin)) (edge (viewAs (s .v)) (s .px + 1)) in
     c .cover .ensures
     ∙ ap (λ (p : Place). coverBy p (c .before .edge-in2 .result) (s .len)) (c .before .before .edge-in .ensures)
-    ∙ ap (λ (p : Place). coverBy (placeOf (edge v (s .px)) (s .len)) p (s .len)) (c .before .edge-in2 .ensures)
-    ∙ covers (edge v (s .px)) (edge v (s .px + 1)) (s .len)
+    ∙ ap (λ (p : Place). coverBy (placeOf a (s .len)) p (s .len)) (c .before .edge-in2 .ensures)
+    ∙ covers a b (s .len)
 
 pub pixel-range-spec : {M : Type 1} → statement M
 pixel-range-spec = tie.close (tie.spec edge-in-requires add-edge-in edge-in-requires-2 cover-requires returns)

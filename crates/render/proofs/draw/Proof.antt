@@ -7,7 +7,8 @@ use native.Mathlib.Omega.{arith}
 use lib.ListN.{length, length-set}
 use denote.Ref.{now}
 use Rattle.rules.specs.Sample.{sampleOf}
-use Rattle.rules.specs.Pixel.{Range, edge}
+use Rattle.rules.specs.Pixel.{Range, rangeFrom}
+use Rattle.rules.proofs.Row.{from-stored}
 use Rattle.node.specs.Memory.{asNode, levelOf}
 use Rattle.pixel.specs.Ranges.{viewAs}
 use Rattle.summary.specs.Summary.{summed}
@@ -18,25 +19,25 @@ use Rattle.render.proofs.draw.Statement.{statement}
 use Rattle.render.proofs.draw.Tie as tie
 
 abbrev Inv-loop : tie.InvT-loop
-Inv-loop c samples l1 l2 l3 l4 view width output₀ px₀ output px = (px ≤ width) × (length output ≡ length output₀) × (output ≡ drawn (summed (levelOf l1 l2 l3 l4) (sampleOf (c .unitsize) samples)) (viewAs view) (c .len) px output₀)
+Inv-loop c samples l1 l2 l3 l4 origin view width output₀ px₀ output px = (px ≤ width) × (length output ≡ length output₀) × (output ≡ drawn (summed (levelOf l1 l2 l3 l4) (sampleOf (c .unitsize) samples)) (rangeFrom origin (viewAs view) (c .len)) px output₀)
 
 abbrev μ-loop : tie.MeasureT-loop
-μ-loop c samples l1 l2 l3 l4 view width output₀ px₀ output px = width - px
+μ-loop c samples l1 l2 l3 l4 origin view width output₀ px₀ output px = width - px
 
 loop-holds : tie.Need-loop-holds Inv-loop μ-loop
 loop-holds c =
     let a = c .before .before .before .before .before .before .args in
-    (omega arith, omega arith, drawn-none (summed (levelOf (now (a .l1)) (now (a .l2)) (now (a .l3)) (now (a .l4))) (sampleOf (a .c .unitsize) (now (a .samples)))) (viewAs (a .view)) (a .c .len) (now (a .output)))
+    (omega arith, omega arith, drawn-none (summed (levelOf (now (a .l1)) (now (a .l2)) (now (a .l3)) (now (a .l4))) (sampleOf (a .c .unitsize) (now (a .samples)))) (rangeFrom (a .origin) (viewAs (a .view)) (a .c .len)) (now (a .output)))
 
 pixel-range-requires : tie.Need-pixel-range-requires Inv-loop μ-loop
 pixel-range-requires c κs =
     let p = c .before .before .before .before .before .before .before .before .pre in
-    (omega (arith, c .loop-test .taken, p .most), omega (arith, p .sound .len-most, p .sound .capacity-most))
+    (omega (arith, c .loop-test .taken, p .most), (p .counts, omega (arith, p .sound .len-most, p .sound .capacity-most)))
 
 pixel-node-requires : tie.Need-pixel-node-requires Inv-loop μ-loop
 pixel-node-requires c κs =
     let s = c .before .before .before .before .before .before .before .before .before in
-    record { sound = s .pre .sound; inside = subst (λ (r : Option Range). Inside r (s .args .c .len)) (sym (c .pixel-range .ensures)) (inside (edge (viewAs (s .args .view)) _) (edge (viewAs (s .args .view)) _) (s .args .c .len)) }
+    record { sound = s .pre .sound; inside = subst (λ (r : Option Range). Inside r (s .args .c .len)) (sym (c .pixel-range .ensures)) (inside (rangeFrom (s .args .origin) (viewAs (s .args .view)) (s .args .c .len)) (s .args .c .len) (from-stored (s .args .origin) (viewAs (s .args .view)) (s .args .c .len)) (c .before .before .loop .px)) }
 
 mul-output : tie.Need-mul-output Inv-loop μ-loop
 mul-output c = omega (arith, c .before .before .loop-test .taken, c .before .before .before .before .before .before .before .before .before .before .pre .most)
@@ -73,7 +74,7 @@ loop-again c =
     let n = summed (levelOf (now (a .l1)) (now (a .l2)) (now (a .l3)) (now (a .l4))) (sampleOf (a .c .unitsize) (now (a .samples))) in (
       omega (arith, c .before .before .loop-test .taken),
       simp length-set (l .inv .1),
-      drawn-turn n (viewAs (a .view)) (a .c .len) (l .px) (asNode (c .pixel-node .result)) (now (a .output)) (l .output) (omega (arith, s .pre .room, c .before .before .loop-test .taken)) (l .inv .2) (c .pixel-node .ensures ∙ ap (pixelNode n) (c .before .pixel-range .ensures)),
+      drawn-turn n (rangeFrom (a .origin) (viewAs (a .view)) (a .c .len)) (l .px) (asNode (c .pixel-node .result)) (now (a .output)) (l .output) (omega (arith, s .pre .room, c .before .before .loop-test .taken)) (l .inv .2) (c .pixel-node .ensures ∙ ap (pixelNode n) (c .before .pixel-range .ensures)),
     )
 
 same-length : tie.Need-same-length Inv-loop μ-loop
@@ -82,7 +83,7 @@ same-length c = c .before .loop .inv .1
 returns : tie.Need-returns Inv-loop μ-loop
 returns c =
     let a = c .before .before .before .before .before .before .before .before .args in
-    c .before .loop .inv .2 ∙ ap (λ (k : ℕ). drawn (summed (levelOf (now (a .l1)) (now (a .l2)) (now (a .l3)) (now (a .l4))) (sampleOf (a .c .unitsize) (now (a .samples)))) (viewAs (a .view)) (a .c .len) k (now (a .output))) (le-antisymm (c .before .loop .inv .0) (c .loop-test .left))
+    c .before .loop .inv .2 ∙ ap (λ (k : ℕ). drawn (summed (levelOf (now (a .l1)) (now (a .l2)) (now (a .l3)) (now (a .l4))) (sampleOf (a .c .unitsize) (now (a .samples)))) (rangeFrom (a .origin) (viewAs (a .view)) (a .c .len)) k (now (a .output))) (le-antisymm (c .before .loop .inv .0) (c .loop-test .left))
 
 pub draw-spec : {M : Type 1} → statement M
 draw-spec =

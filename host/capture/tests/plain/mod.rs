@@ -71,16 +71,22 @@ pub fn burst_at(
 }
 
 pub fn render(s: &[Lines], view: View, width: usize) -> Vec<Pixel> {
-    let edge = |px: usize| (view.start + px as f64 * view.spp).floor();
+    render_from(s, 0, view, width)
+}
+
+/// The same where the view counts its places from `origin`: its edges are floored as it counts, and moved after that.
+pub fn render_from(s: &[Lines], origin: usize, view: View, width: usize) -> Vec<Pixel> {
+    // A cast keeps to the numbers that there are.
+    let floor = |px: usize| (view.start + px as f64 * view.spp).floor() as i128;
+    let edge = |px: usize| floor(px).saturating_add(origin as i128);
     let pixel = |px: usize| {
         let (a, b) = (edge(px), edge(px + 1));
-        if s.is_empty() || b < 0.0 || a >= s.len() as f64 {
+        if s.is_empty() || b < 0 || a >= s.len() as i128 {
             return Pixel::default();
         }
-        // A cast keeps to the numbers that there are.
-        let a = a.max(0.0) as usize;
-        let b = (b as usize).max(a + 1).saturating_add(1);
-        let node = summary(s, a, b).unwrap();
+        let a = a.max(0);
+        let b = b.max(a + 1).saturating_add(1).min(s.len() as i128);
+        let node = summary(s, a as usize, b as usize).unwrap();
         Pixel { first: node.first, toggles: node.toggles }
     };
     (0..width).map(pixel).collect()

@@ -3,6 +3,7 @@
 use super::{chosen_lines, needed, Command};
 use crate::args::Takes;
 use crate::failure::Outcome;
+use crate::reader::Reader;
 use crate::{file, lines, number, place};
 
 pub const COMMAND: Command = Command {
@@ -15,16 +16,18 @@ pub const COMMAND: Command = Command {
         ("--tolerance", Takes::Value),
         ("--budget", Takes::Value),
         ("--lines", Takes::Value),
+        ("--grant", Takes::Value),
         ("--unit", Takes::Value),
     ],
     run: |args, out| {
         let recording = file::load("burst", args)?;
-        let mask = lines::mask(&chosen_lines(args, &recording)?);
-        let at = needed(place::asked(args, "--at", &recording)?, "--at PLACE")?;
+        let reader = Reader::asked(args, &recording)?;
+        let mask = lines::mask(&chosen_lines(args, &reader)?);
+        let at = needed(place::asked(args, "--at", &reader)?, "--at PLACE")?;
         let gap = needed(args.read_value("--gap", number::whole)?, "--gap SAMPLES")?;
         let tolerance = args.read_value("--tolerance", number::whole)?.unwrap_or(0);
         let budget = args.read_value("--budget", number::whole)?.unwrap_or(usize::MAX);
-        let burst = recording.capture.burst_at(mask, at, gap, tolerance, budget);
+        let burst = reader.burst_at(mask, at, [gap, tolerance, budget])?;
         if let Some(burst) = burst {
             writeln!(
                 out,

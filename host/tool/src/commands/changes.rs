@@ -3,6 +3,7 @@
 use super::{chosen_lines, Command};
 use crate::args::Takes;
 use crate::failure::{bad, Outcome};
+use crate::reader::Reader;
 use crate::value::Form;
 use crate::{file, lines, place};
 
@@ -17,37 +18,36 @@ pub const COMMAND: Command = Command {
         ("--total", Takes::Nothing),
         ("--hex", Takes::Nothing),
         ("--bits", Takes::Nothing),
+        ("--grant", Takes::Value),
         ("--unit", Takes::Value),
     ],
     run: |args, out| {
         let recording = file::load("changes", args)?;
-        let capture = &recording.capture;
-        let mask = lines::mask(&chosen_lines(args, &recording)?);
-        let from = place::asked(args, "--from", &recording)?.unwrap_or(0);
-        let to = place::asked(args, "--to", &recording)?.unwrap_or(capture.len());
+        let reader = Reader::asked(args, &recording)?;
+        let mask = lines::mask(&chosen_lines(args, &reader)?);
+        let from = place::asked(args, "--from", &reader)?.unwrap_or(reader.first());
+        let to = place::asked(args, "--to", &reader)?.unwrap_or(reader.end());
         let form = Form::asked(args)?;
-        if args.flag("--total") && form != Form::Decimal {
+        let total = args.flag("--total");
+        if total && form != Form::Decimal {
             return Err(bad("--total prints a number; it takes no --hex or --bits"));
         }
-        // A change at `from` is one of the stretch, so the search begins before it. There is none at place 0.
-        let changes = capture.changes(mask, from.saturating_sub(1)).take_while(|&place| place < to);
-        if args.flag("--total") {
-            let total = changes.count();
-            writeln!(out, "{total}")?;
-            return Ok(Outcome::of(total > 0));
+        // A change at `from` is one of the stretch, so the search begins before it. There is none at the first place.
+        let mut found = reader.next_change(mask, (from - 1).max(reader.first()))?;
+        let mut count = 0;
+        while let Some(place) = found.filter(|&place| place < to) {
+            count += 1;
+            if !total {
+                let (before, now) = (reader.get(place - 1)? & mask, reader.get(place)? & mask);
+                let [now, changed] =
+                    [now, before ^ now].map(|lines| form.written(lines, reader.unit()));
+                writeln!(out, "{place} {now} {changed}")?;
+            }
+            found = reader.next_change(mask, place)?;
         }
-        let mut any = false;
-        for place in changes {
-            let (before, now) = (capture.get(place - 1)? & mask, capture.get(place)? & mask);
-            let unit = capture.unit();
-            writeln!(
-                out,
-                "{place} {} {}",
-                form.written(now, unit),
-                form.written(before ^ now, unit)
-            )?;
-            any = true;
+        if total {
+            writeln!(out, "{count}")?;
         }
-        Ok(Outcome::of(any))
+        Ok(Outcome::of(count > 0))
     },
 };

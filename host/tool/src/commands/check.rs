@@ -9,7 +9,10 @@ pub const COMMAND: Command = Command {
     name: "check",
     about: "Checks a capture file, and every summary that is made of it",
     help: include_str!("../help/check.txt"),
-    options: &[("--unit", Takes::Value)],
+    options: &[
+        ("--grant", Takes::Refused("the check of summaries is not given to mills")),
+        ("--unit", Takes::Value),
+    ],
     run: |args, out| {
         let recording = file::load("check", args)?;
         match recording.capture.whole() {

@@ -5,6 +5,7 @@ use crate::args::{Args, Takes};
 use crate::failure::{bad, Failure, Outcome};
 use crate::frame::{self, DRIVE, DRIVE_STARTS, NAMES, RATE, SAMPLES, TURNER_ENCODER};
 use crate::output::Output;
+use crate::reader::{Place, Reader};
 use crate::recording::Recording;
 use crate::text::{self, Style};
 use crate::wave::Wave;
@@ -28,8 +29,8 @@ const LIMIT: usize = 1_000_000;
 const BEFORE: f64 = 0.25;
 
 /// The stretch that is drawn, from the mark, and its width.
-const BEFORE_MARK: usize = 4_000;
-const AFTER_MARK: usize = 14_000;
+const BEFORE_MARK: Place = 4_000;
+const AFTER_MARK: Place = 14_000;
 const WIDTH: usize = 72;
 
 /// The lines that are drawn.
@@ -56,7 +57,7 @@ fn run(args: &Args, out: &mut dyn Write) -> Result<Outcome, Failure> {
     writeln!(out, "A scanner frame: four heads, two encoders and a log turner on 16 lines.")?;
     writeln!(out, "{SAMPLES} samples went by in pushes of {PUSH}. The recorder waited for the turner's drive,")?;
     writeln!(out, "{DRIVE}=rising, and kept {LIMIT} of them, a quarter from before that:\n")?;
-    recording.describe(out)?;
+    recording.describe(&Reader::Service(&recording), out)?;
     writeln!(out)?;
     draw(&recording, args.flag("--ascii"), out)?;
     writeln!(out)?;
@@ -96,13 +97,13 @@ fn record(bytes: &[u8]) -> Result<Capture, Failure> {
 }
 
 fn draw(recording: &Recording, ascii: bool, out: &mut dyn Write) -> Result<(), Failure> {
-    let mark = recording.mark.unwrap_or(0);
-    let wave =
-        Wave::new(&recording.capture, mark.saturating_sub(BEFORE_MARK), mark + AFTER_MARK, WIDTH)?;
+    let reader = Reader::Service(recording);
+    let mark = reader.mark().unwrap_or(0);
+    let wave = Wave::new(&reader, (mark - BEFORE_MARK).max(0), mark + AFTER_MARK, WIDTH)?;
     let Some(wave) = wave else { return Ok(()) };
     let shown = SHOWN.map(|line| (line, format!("{line:>2} {}", NAMES[usize::from(line)])));
     let style = if ascii { Style::Ascii } else { Style::Boxes };
-    Ok(text::draw(out, &wave, &shown, recording.mark, style, WIDTH)?)
+    Ok(text::draw(out, &wave, &shown, reader.mark(), style, WIDTH)?)
 }
 
 /// Finds the places at which the turner's encoder moves, by hops over the summaries.

@@ -15,7 +15,7 @@ mod summary;
 use crate::args::{Args, Known};
 use crate::failure::{bad, Failure, Outcome};
 use crate::lines;
-use crate::recording::Recording;
+use crate::reader::Reader;
 use std::io::Write;
 
 pub struct Command {
@@ -42,11 +42,17 @@ pub const COMMANDS: [Command; 11] = [
     check::COMMAND,
 ];
 
-/// The lines that --lines chooses, all of them without it.
-fn chosen_lines(args: &Args, recording: &Recording) -> Result<Vec<u8>, Failure> {
-    let unit = recording.capture.unit();
-    let chosen = args.read_value("--lines", |text| lines::read(text, unit))?;
-    Ok(chosen.unwrap_or_else(|| lines::all(unit)))
+/// The lines that --lines chooses; without it, and for `all`, those that the reader sees.
+fn chosen_lines(args: &Args, reader: &Reader) -> Result<Vec<u8>, Failure> {
+    let chosen = args.read_value("--lines", |text| {
+        if text == "all" {
+            return Ok(reader.lines());
+        }
+        let chosen = lines::read(text, reader.unit())?;
+        reader.may_see(lines::mask(&chosen)).map_err(|refusal| refusal.to_string())?;
+        Ok(chosen)
+    })?;
+    Ok(chosen.unwrap_or_else(|| reader.lines()))
 }
 
 /// Something that a command cannot do without.

@@ -6,6 +6,7 @@ use crate::failure::{bad, Failure, Outcome};
 use crate::header::BEGINNING;
 use crate::output::Output;
 use crate::progress::Progress;
+use crate::reader::Reader;
 use crate::recording::Recording;
 use crate::source::Source;
 use crate::{file, interrupt, note, number, trigger, wish};
@@ -26,6 +27,7 @@ pub const COMMAND: Command = Command {
         ("--limit", Takes::Value),
         ("--rate", Takes::Value),
         ("--capacity", Takes::Value),
+        ("--grant", Takes::Refused("raw samples are not given to mills")),
     ],
     run,
 };
@@ -89,7 +91,7 @@ fn run(args: &Args, out: &mut dyn Write) -> Result<Outcome, Failure> {
     let is_standard = output.is_standard();
     output.write(out, |file| file::save(&recording, file))?;
     if !is_standard {
-        recording.describe(out)?;
+        recording.describe(&Reader::Service(&recording), out)?;
     }
     Ok(Outcome::of(!matches!(end, End::Full)))
 }

@@ -4,7 +4,7 @@ use super::{chosen_lines, Command};
 use crate::args::{Args, Takes};
 use crate::failure::{bad, Failure, Outcome};
 use crate::output::Output;
-use crate::recording::Recording;
+use crate::reader::Reader;
 use crate::text::{self, Style};
 use crate::value::Form;
 use crate::wave::{Wave, MOST_COLUMNS};
@@ -29,6 +29,7 @@ pub const COMMAND: Command = Command {
         ("--spp", Takes::Value),
         ("--hex", Takes::Nothing),
         ("--bits", Takes::Nothing),
+        ("--grant", Takes::Value),
         ("--unit", Takes::Value),
     ],
     run,
@@ -47,18 +48,19 @@ fn run(args: &Args, out: &mut dyn Write) -> Result<Outcome, Failure> {
     let width = args.read_value("--width", read_width)?;
     let picture = args.path("--svg").map(Output::open).transpose()?;
     let recording = file::load("render", args)?;
+    let reader = Reader::asked(args, &recording)?;
     if args.flag("--pixels") {
-        return pixels(args, &recording, width.unwrap_or(TEXT_WIDTH), out);
+        return pixels(args, &reader, width.unwrap_or(TEXT_WIDTH), out);
     }
-    let chosen = labelled(args, &recording)?;
-    let from = place::asked(args, "--from", &recording)?.unwrap_or(0);
-    let to = place::asked(args, "--to", &recording)?.unwrap_or(recording.capture.len());
+    let chosen = labelled(args, &reader)?;
+    let from = place::asked(args, "--from", &reader)?.unwrap_or(reader.first());
+    let to = place::asked(args, "--to", &reader)?.unwrap_or(reader.end());
     let width = width.unwrap_or(if picture.is_some() { SVG_WIDTH } else { TEXT_WIDTH });
-    let Some(wave) = Wave::new(&recording.capture, from, to, width)? else {
+    let Some(wave) = Wave::new(&reader, from, to, width)? else {
         note("render", "no samples to draw");
         return Ok(Outcome::No);
     };
-    let mark = recording.mark;
+    let mark = reader.mark();
     match picture {
         Some(picture) => picture.write(out, |file| svg::draw(file, &wave, &chosen, mark, width))?,
         None => {
@@ -79,26 +81,26 @@ fn read_width(text: &str) -> Result<usize, String> {
 /// The pixels of a view as they are, for programs that draw themselves.
 fn pixels(
     args: &Args,
-    recording: &Recording,
+    reader: &Reader,
     width: usize,
     out: &mut dyn Write,
 ) -> Result<Outcome, Failure> {
-    let mask = lines::mask(&chosen_lines(args, recording)?);
+    let mask = lines::mask(&chosen_lines(args, reader)?);
     let form = Form::asked(args)?;
-    let start = args.read_value("--start", number::real)?.unwrap_or(0.0);
-    let all = recording.capture.len() as f64 / width as f64;
+    let start = args.read_value("--start", number::real)?.unwrap_or(reader.first() as f64);
+    let all = (reader.end() - reader.first()) as f64 / width as f64;
     let spp = args.read_value("--spp", number::real)?.unwrap_or(all);
-    for pixel in recording.capture.render(View { start, spp }, width)? {
-        let [first, toggles] = [pixel.first, pixel.toggles]
-            .map(|lines| form.written(lines & mask, recording.capture.unit()));
+    for pixel in reader.render(View { start, spp }, width)? {
+        let [first, toggles] =
+            [pixel.first, pixel.toggles].map(|lines| form.written(lines & mask, reader.unit()));
         writeln!(out, "{first} {toggles}")?;
     }
     Ok(Outcome::Yes)
 }
 
 /// The chosen lines, each with its number and its name.
-fn labelled(args: &Args, recording: &Recording) -> Result<Vec<(u8, String)>, Failure> {
-    let unit = recording.capture.unit();
+fn labelled(args: &Args, reader: &Reader) -> Result<Vec<(u8, String)>, Failure> {
+    let unit = reader.unit();
     let mut names = Vec::new();
     for text in args.texts("--name") {
         let text = text?;
@@ -110,7 +112,7 @@ fn labelled(args: &Args, recording: &Recording) -> Result<Vec<(u8, String)>, Fai
         Some((_, name)) => (line, format!("{line:>2} {name}")),
         None => (line, format!("{line:>2}")),
     };
-    Ok(chosen_lines(args, recording)?.into_iter().map(label).collect())
+    Ok(chosen_lines(args, reader)?.into_iter().map(label).collect())
 }
 
 fn only_with(args: &Args, owner: &str, names: &[&str]) -> Result<(), Failure> {

@@ -3,6 +3,7 @@
 use super::{chosen_lines, Command};
 use crate::args::Takes;
 use crate::failure::Outcome;
+use crate::reader::{Place, Reader};
 use crate::value::Form;
 use crate::{file, lines, place};
 
@@ -19,23 +20,23 @@ pub const COMMAND: Command = Command {
         ("--to", Takes::Value),
         ("--hex", Takes::Nothing),
         ("--bits", Takes::Nothing),
+        ("--grant", Takes::Value),
         ("--unit", Takes::Value),
     ],
     run: |args, out| {
         let recording = file::load("samples", args)?;
-        let capture = &recording.capture;
-        let mask = lines::mask(&chosen_lines(args, &recording)?);
-        let from = place::asked(args, "--from", &recording)?.unwrap_or(0);
-        let to =
-            place::asked(args, "--to", &recording)?.unwrap_or(capture.len()).min(capture.len());
+        let reader = Reader::asked(args, &recording)?;
+        let mask = lines::mask(&chosen_lines(args, &reader)?);
+        let from = place::asked(args, "--from", &reader)?.unwrap_or(reader.first());
+        let to = place::asked(args, "--to", &reader)?.unwrap_or(reader.end()).min(reader.end());
         let form = Form::asked(args)?;
         let mut block = [0; BLOCK];
         let mut place = from;
         while place < to {
-            let part = &mut block[..BLOCK.min(to - place)];
-            capture.samples_to(place, part);
+            let part = &mut block[..(to - place).min(BLOCK as Place) as usize];
+            reader.samples_to(place, part)?;
             for sample in part {
-                writeln!(out, "{place} {}", form.written(*sample & mask, capture.unit()))?;
+                writeln!(out, "{place} {}", form.written(*sample & mask, reader.unit()))?;
                 place += 1;
             }
         }

@@ -3,6 +3,7 @@
 use super::{chosen_lines, Command};
 use crate::args::Takes;
 use crate::failure::Outcome;
+use crate::reader::Reader;
 use crate::value::Form;
 use crate::{file, lines, place};
 
@@ -16,19 +17,20 @@ pub const COMMAND: Command = Command {
         ("--to", Takes::Value),
         ("--hex", Takes::Nothing),
         ("--bits", Takes::Nothing),
+        ("--grant", Takes::Value),
         ("--unit", Takes::Value),
     ],
     run: |args, out| {
         let recording = file::load("summary", args)?;
-        let capture = &recording.capture;
-        let mask = lines::mask(&chosen_lines(args, &recording)?);
-        let from = place::asked(args, "--from", &recording)?.unwrap_or(0);
-        let to = place::asked(args, "--to", &recording)?.unwrap_or(capture.len());
+        let reader = Reader::asked(args, &recording)?;
+        let mask = lines::mask(&chosen_lines(args, &reader)?);
+        let from = place::asked(args, "--from", &reader)?.unwrap_or(reader.first());
+        let to = place::asked(args, "--to", &reader)?.unwrap_or(reader.end());
         let form = Form::asked(args)?;
-        let node = capture.summary(from, to);
+        let node = reader.summary(from, to)?;
         if let Some(node) = node {
             let [first, last, toggles] = [node.first, node.last, node.toggles]
-                .map(|lines| form.written(lines & mask, capture.unit()));
+                .map(|lines| form.written(lines & mask, reader.unit()));
             writeln!(out, "{first} {last} {toggles}")?;
         }
         Ok(Outcome::of(node.is_some()))

@@ -1,0 +1,35 @@
+-- `logic_core::mill_reader::lc_mill_get` says what `mill_read::get` answers. Assumes nothing.
+use borrow.Author.Needs.{needs}
+use denote.Ref.{now}
+use Rattle.node.specs.Memory.{levelOf}
+use mathlib.Core.Path.{ap, _∙_}
+use lib.IntN.{ℤ}
+use mir.Syntax.{w64}
+use mir.Val.{toZ, ofZ}
+use mir.ValLaws.{toZ-ofZ}
+use Rattle.capture.specs.declared.Capture.{Capture}
+use Rattle.capture.specs.Calls.{gotOf}
+use Rattle.codes.specs.Record.{number}
+use Rattle.codes.specs.Code.{plain}
+use Rattle.logic_core.specs.Mill.{gotFor}
+use Rattle.logic_core.proofs.Codes.{told-by}
+use Rattle.logic_core.proofs.mill_reader.lc_mill_get.Statement.{statement}
+use Rattle.logic_core.proofs.mill_reader.lc_mill_get.Tie as tie
+
+capture-in-requires : tie.Need-capture-in-requires
+capture-in-requires c κs = search needs
+
+get-requires : tie.Need-get-requires
+get-requires c κs = search needs
+
+got-code-requires : tie.Need-got-code-requires
+got-code-requires c κs = search needs
+
+returns : tie.Need-returns
+returns c =
+    let a = c .before .before .before .before .before .before .before .before .before .args in
+    let f = c .before .before .before .before .before .before .before .before .before .fits in
+    told-by number plain gotOf (λ (x : Capture). gotFor x (now (a .samples)) (levelOf (now (a .l1)) (now (a .l2)) (now (a .l3)) (now (a .l4))) (a .grant) (a .at)) (c .before .before .get .result) _ _ _ (c .before .before .before .capture-in .ensures) (c .before .before .get .ensures ∙ ap (λ (z : ℤ). gotFor (c .before .before .before .capture-in .result) (now (a .samples)) (levelOf (now (a .l1)) (now (a .l2)) (now (a .l3)) (now (a .l4))) (a .grant) z) (toZ-ofZ w64 (a .at) (f .at))) (c .got-code .ensures)
+
+pub lc-mill-get-spec : {M : Type 1} → statement M
+lc-mill-get-spec = tie.close (tie.spec capture-in-requires get-requires got-code-requires returns)

@@ -1,0 +1,85 @@
+-- `mill::refusal` meets its contract: the first row that holds. Assumes nothing.
+use Prim.Native.Nat.{ℕ}
+use mathlib.Core.Path.{_≡_, refl, sym, ap₂, _∙_}
+use mathlib.Core.Bool.{Bool, true, false}
+use lib.IntN.{ℤ}
+use mir.Syntax.{w64}
+use mir.Val.{SFits, toZ, ofZ}
+use borrow.Author.Needs.{needs}
+use Rattle.rules.specs.Refusal.{Store, Lent, firstOf, storeRows}
+use Rattle.rules.specs.Mill.{before}
+use Rattle.rules.proofs.Refusal.{rows-left, rows-refused}
+use Rattle.capture.specs.Record.{storeOf, lentNumbers}
+use Rattle.mill.specs.Reader.{originIn, millRows}
+use Rattle.mill.proofs.Places.{read-is}
+use Rattle.mill.proofs.Under.{three}
+use Rattle.mill.proofs.refusal.Statement.{statement}
+use Rattle.mill.proofs.refusal.Tie as tie
+
+abbrev st : tie.Start → Store
+st s = storeOf (s .args .c)
+
+abbrev lent : tie.Start → Lent
+lent s = lentNumbers (s .args .samples) (s .args .n1) (s .args .n2) (s .args .n3) (s .args .n4)
+
+-- whether a place is before the first sample, as the code found out
+told : (s : tie.Start) (p : ℤ) (fits : SFits w64 p) (origin : ℕ) (t u : Bool) → origin ≡ originIn (s .args .c) → t ≡ before origin (toZ w64 (ofZ w64 p)) → t ≡ u → before (originIn (s .args .c)) p ≡ u
+told s p fits origin t u eo et eu = sym (ap₂ before eo (read-is p fits)) ∙ sym et ∙ eu
+
+-- rows 1 and 2 pass: 12 and 13 are left
+left : (c : tie.Else1) → let s = c .before .before in (a b d : Bool) (n : ℕ) → s .args .outside ≡ a → before (originIn (s .args .c)) (s .args .p) ≡ b → before (originIn (s .args .c)) (s .args .q) ≡ d → n ≡ three a b d 0 → n ≡ firstOf (storeRows (st s) (lent s) (millRows (st s) (s .args .outside) (s .args .p) (s .args .q)))
+left c a b d n ea eb ed e = let s = c .before .before in e ∙ sym (rows-left (st s) (lent s) (sym (c .before .refusal .ensures) ∙ c .if1 .left) (millRows (st s) (s .args .outside) (s .args .p) (s .args .q)) ∙ (λ i. three (ea i) (eb i) (ed i) 0))
+
+refusal-requires : tie.Need-refusal-requires
+refusal-requires c κs = search needs
+
+returns : tie.Need-returns
+returns c =
+    let s = c .before .before in
+    c .before .refusal .ensures ∙ sym (rows-refused (st s) (lent s) (λ z. c .if1 .taken (c .before .refusal .ensures ∙ z)) (millRows (st s) (s .args .outside) (s .args .p) (s .args .q)))
+
+returns-2 : tie.Need-returns-2
+returns-2 c = left (c .before) _ _ _ 12 (c .if2 .taken) refl refl refl
+
+origin-requires : tie.Need-origin-requires
+origin-requires c κs = search needs
+
+lies-before-requires : tie.Need-lies-before-requires
+lies-before-requires c κs = search needs
+
+returns-3 : tie.Need-returns-3
+returns-3 c =
+    let k = c .before .before .before .before in
+    let s = k .before .before in
+    left k _ _ _ 13 (c .before .before .before .if2 .left) (told s (s .args .p) (s .fits .p) _ _ true (c .before .before .origin .ensures) (c .before .lies-before .ensures) (c .if3 .taken)) refl refl
+
+lies-before-requires-2 : tie.Need-lies-before-requires-2
+lies-before-requires-2 c κs = search needs
+
+-- both places
+both : (c : tie.After-lies-before2) (u : Bool) → c .lies-before2 .result ≡ u → let s = c .before .before .before .before .before .before .before in (n : ℕ) → n ≡ three false false u 0 → n ≡ firstOf (storeRows (st s) (lent s) (millRows (st s) (s .args .outside) (s .args .p) (s .args .q)))
+both c u e n is =
+    let o = c .before .before .before in
+    let k = o .before .before in
+    let s = k .before .before in
+    left k _ _ _ n (o .before .if2 .left) (told s (s .args .p) (s .fits .p) _ _ false (o .origin .ensures) (c .before .before .lies-before .ensures) (c .before .if3 .left)) (told s (s .args .q) (s .fits .q) _ _ u (o .origin .ensures) (c .lies-before2 .ensures) e) is
+
+returns-4 : tie.Need-returns-4
+returns-4 c = both (c .before) true (c .if4 .taken) 13 refl
+
+returns-5 : tie.Need-returns-5
+returns-5 c = both (c .before) false (c .if4 .left) 0 refl
+
+pub refusal-spec : {M : Type 1} → statement M
+refusal-spec =
+    tie.close
+    (tie.spec
+    refusal-requires
+    returns
+    returns-2
+    origin-requires
+    lies-before-requires
+    returns-3
+    lies-before-requires-2
+    returns-4
+    returns-5)

@@ -1,0 +1,31 @@
+-- How a mill's answers are written behind pointers.
+use mathlib.Core.Bool.{Bool}
+use mathlib.Core.List.{List, [], _∷_}
+use Prim.Native.Nat.{ℕ}
+use lib.IntN.{ℤ}
+use lib.Seq.{sets}
+use Rattle.rules.specs.Mill.{MillBurst}
+use Rattle.mill_read.specs.Read.{Extent}
+
+-- a place behind a pointer of its own
+abbrev pub place : ℤ → ℤ → ℤ
+place p old = p
+
+abbrev pub firstPlace : Extent → ℤ → ℤ
+firstPlace e old = e .first
+
+abbrev pub endPlace : Extent → ℤ → ℤ
+endPlace e old = e .end
+
+abbrev pub markedFlag : Extent → Bool → Bool
+markedFlag e old = e .marked
+
+abbrev pub burstFirst : MillBurst → ℤ → ℤ
+burstFirst b old = b .first
+
+abbrev pub burstLast : MillBurst → ℤ → ℤ
+burstLast b old = b .last
+
+-- the jumps at the end, and at the start
+abbrev pub jumpNumbers : MillBurst → List ℕ → List ℕ
+jumpNumbers b old = sets old 0 (b .jumps-end ∷ b .jumps-start ∷ [])

@@ -1,0 +1,60 @@
+// What the C boundary says of a mill's answers: a code, and numbers behind out pointers, as `codes` says of the service's. 02: CR 1.
+use codes::NONE;
+use codes::code;
+use mill_read::Bounded;
+use mill_search::Bursts;
+use mill_search::Found;
+ghost use mathlib.Core.Path.{_≡_};
+ghost use mathlib.Core.Bool.{Bool};
+ghost use lib.IntN.{ℤ};
+ghost use Rattle.codes.specs.Code.{plain, perhaps, Out};
+ghost use Rattle.mill_read.specs.Read.{boundedOf};
+ghost use Rattle.mill_search.specs.Answer.{foundOf, burstAs};
+ghost use Rattle.mill_codes.specs.Written.{firstPlace, endPlace, markedFlag, place, burstFirst, burstLast, jumpNumbers};
+
+pub fn bounded_code(answer: Bounded, first: &mut i64, end: &mut i64, marked: &mut bool) -> u32
+    ensures { λ r. ⌜ Out firstPlace (plain (boundedOf answer)) r (now (first .entry)) (now (first .exit)) × Out endPlace (plain (boundedOf answer)) r (now (end .entry)) (now (end .exit)) × Out markedFlag (plain (boundedOf answer)) r (now (marked .entry)) (now (marked .exit)) ⌝ }
+{
+    match answer {
+        Bounded::Refused(n) => code(n),
+        Bounded::Run(b) => {
+            let lowest = b.first;
+            let past = b.end;
+            *first = lowest;
+            *end = past;
+            *marked = b.marked;
+            0
+        }
+    }
+}
+
+pub fn found_code(answer: Found, at: &mut i64) -> u32
+    ensures { λ r. ⌜ Out place (perhaps (foundOf answer)) r (now (at .entry)) (now (at .exit)) ⌝ }
+{
+    match answer {
+        Found::Refused(n) => code(n),
+        Found::At(p) => {
+            *at = p;
+            0
+        }
+        Found::Nothing => NONE,
+    }
+}
+
+pub fn burst_code(answer: Bursts, first: &mut i64, last: &mut i64, jumps: &mut [usize; 2]) -> u32
+    ensures { λ r. ⌜ Out burstFirst (perhaps (burstAs answer)) r (now (first .entry)) (now (first .exit)) × Out burstLast (perhaps (burstAs answer)) r (now (last .entry)) (now (last .exit)) × Out jumpNumbers (perhaps (burstAs answer)) r (now (jumps .entry)) (now (jumps .exit)) ⌝ }
+{
+    match answer {
+        Bursts::Refused(n) => code(n),
+        Bursts::At(b) => {
+            let start = b.first;
+            let stop = b.last;
+            *first = start;
+            *last = stop;
+            jumps[0] = b.jumps_end;
+            jumps[1] = b.jumps_start;
+            0
+        }
+        Bursts::Nothing => NONE,
+    }
+}

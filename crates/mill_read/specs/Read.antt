@@ -1,0 +1,45 @@
+-- What a mill's extent and samples answer, and the memory that samples leaves. 02: CR 1.
+use mathlib.Core.Path.{_≡_}
+use mathlib.Core.Bool.{Bool, true, false}
+use mathlib.Core.List.{List}
+use mathlib.Core.Option.{Option, none, some}
+use Prim.Native.Nat.{ℕ}
+use lib.Bits.{bitAnd}
+use lib.IntN.{ℤ}
+use lib.ListN.{length}
+use Rattle.rules.specs.Sample.{sampleOf}
+use Rattle.rules.specs.Answer.{Answer, refused, given, unless}
+use Rattle.rules.specs.Refusal.{Store, copied}
+use Rattle.rules.specs.Mill.{originOf, counted, placeAt, millSamplesRefusal}
+use Rattle.capture.specs.declared.Copied.{Copied}
+use Rattle.capture.specs.Record.{lentOf}
+use Rattle.capture.specs.Calls.{copiedOf, over, unrefused}
+use Rattle.mill_read.specs.declared.Bounded.{Bounded}
+use Rattle.mill_read.specs.declared.Bounded.the-variants as bounded
+
+-- ---- extent
+-- a run's length and mark, as a mill counts: its first place, the one past its last, and whether place 0 is a mark
+pub record Extent : Type 0 where
+  pub first : ℤ
+  pub end : ℤ
+  pub marked : Bool
+
+abbrev pub isMarked : Option ℕ → Bool
+isMarked none = false
+isMarked (some mark) = true
+
+abbrev pub extentFor : Option ℕ → ℕ → Extent
+extentFor mark len = record { first = counted (originOf mark) 0; end = counted (originOf mark) len; marked = isMarked mark }
+
+abbrev pub extentOf : Store → Extent
+extentOf st = extentFor (st .mark) (st .len)
+
+abbrev pub boundedOf : Bounded → Answer Extent
+boundedOf (bounded.Refused n) = refused n
+boundedOf (bounded.Run b) = given (record { first = b .first; end = b .end; marked = b .marked })
+
+-- ---- samples
+-- the granted lines of the samples from place p of the mill on, as many as are copied, and after them what output had
+pub record MillCopies (st : Store) (bytes : List ℕ) (levels : ℕ → List ℕ) (grant : ℕ) (p : ℤ) (count : ℕ) (output : List ℕ) (r : Copied) (output′ : List ℕ) : Type 0 where
+  pub answer-is : copiedOf r ≡ unless (millSamplesRefusal st (lentOf bytes levels) p count (length output)) (copied (st .len) (placeAt (originOf (st .mark)) p) count)
+  pub output-is : output′ ≡ over (λ i. bitAnd (sampleOf (st .unit) bytes i) grant) (placeAt (originOf (st .mark)) p) (unrefused (millSamplesRefusal st (lentOf bytes levels) p count (length output)) (copied (st .len) (placeAt (originOf (st .mark)) p) count)) output

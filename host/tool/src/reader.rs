@@ -1,0 +1,177 @@
+//! Who asks: the service, or with --grant a mill.
+
+use crate::args::Args;
+use crate::failure::{bad, Failure};
+use crate::lines;
+use crate::recording::Recording;
+use capture::{Burst, Lines, Mill, Node, Pixel, Refusal, View};
+
+/// A place as its reader counts. It holds those of both readers, and sums of them.
+pub type Place = i128;
+
+pub enum Reader<'a> {
+    /// It sees all lines, and counts places from the first sample.
+    Service(&'a Recording),
+    /// It sees granted lines and nothing of the others, and counts places from the mark.
+    Mill(Mill<'a>),
+}
+
+/// A mill is not told the unit, so its lines are named and its numbers written as those of the larger one.
+const MILL_UNIT: usize = 2;
+
+impl<'a> Reader<'a> {
+    /// The reader that --grant asks for, or the service.
+    pub fn asked(args: &Args, recording: &'a Recording) -> Result<Reader<'a>, Failure> {
+        let Some(grant) = args.read_value("--grant", |text| lines::read(text, MILL_UNIT))? else {
+            return Ok(Reader::Service(recording));
+        };
+        let grant = lines::mask(&grant);
+        let mill = match recording.mark {
+            Some(mark) => recording.capture.mill_with_mark(grant, mark),
+            None => Some(recording.capture.mill(grant)),
+        };
+        mill.map(Reader::Mill).ok_or_else(|| bad("the mark is after the end"))
+    }
+
+    /// The bytes of a sample, as far as it shows.
+    pub fn unit(&self) -> usize {
+        match self {
+            Reader::Service(recording) => recording.capture.unit(),
+            Reader::Mill(_) => MILL_UNIT,
+        }
+    }
+
+    /// All lines that it sees.
+    pub fn lines(&self) -> Vec<u8> {
+        let all = lines::all(self.unit());
+        match self {
+            Reader::Service(_) => all,
+            Reader::Mill(mill) => {
+                all.into_iter().filter(|&line| mill.grant() >> line & 1 == 1).collect()
+            }
+        }
+    }
+
+    /// Refuses lines beyond the grant. The library does so of searches alone; elsewhere it would show them as 0.
+    pub fn may_see(&self, mask: Lines) -> Result<(), Refusal> {
+        match self {
+            Reader::Mill(mill) if mask & !mill.grant() != 0 => Err(Refusal::Grant),
+            _ => Ok(()),
+        }
+    }
+
+    /// The place of the first sample.
+    pub fn first(&self) -> Place {
+        match self {
+            Reader::Service(_) => 0,
+            Reader::Mill(mill) => mill.extent().first.into(),
+        }
+    }
+
+    /// The place behind the last sample.
+    pub fn end(&self) -> Place {
+        match self {
+            Reader::Service(recording) => recording.capture.len() as Place,
+            Reader::Mill(mill) => mill.extent().end.into(),
+        }
+    }
+
+    /// The place of the sample that fired.
+    pub fn mark(&self) -> Option<Place> {
+        match self {
+            Reader::Service(recording) => recording.mark.map(|mark| mark as Place),
+            Reader::Mill(mill) => mill.extent().marked.then_some(0),
+        }
+    }
+
+    /// The last place that it can name.
+    pub fn most(&self) -> Place {
+        match self {
+            Reader::Service(_) => usize::MAX as Place,
+            Reader::Mill(_) => i64::MAX.into(),
+        }
+    }
+
+    pub fn get(&self, place: Place) -> Result<Lines, Refusal> {
+        match self {
+            Reader::Service(recording) => recording.capture.get(from_first(place)),
+            Reader::Mill(mill) => mill.get(from_mark(place)),
+        }
+    }
+
+    /// Copies the samples from a place on, as many as there are and fit, and says how many.
+    pub fn samples_to(&self, start: Place, output: &mut [Lines]) -> Result<usize, Refusal> {
+        match self {
+            Reader::Service(recording) => {
+                Ok(recording.capture.samples_to(from_first(start), output))
+            }
+            Reader::Mill(mill) => mill.samples_to(from_mark(start), output),
+        }
+    }
+
+    pub fn summary(&self, a: Place, b: Place) -> Result<Option<Node>, Refusal> {
+        match self {
+            Reader::Service(recording) => {
+                Ok(recording.capture.summary(from_first(a), from_first(b)))
+            }
+            Reader::Mill(mill) => mill.summary(from_mark(a), from_mark(b)),
+        }
+    }
+
+    pub fn next_change(&self, mask: Lines, from: Place) -> Result<Option<Place>, Refusal> {
+        Ok(match self {
+            Reader::Service(recording) => {
+                recording.capture.next_change(mask, from_first(from)).map(|place| place as Place)
+            }
+            Reader::Mill(mill) => mill.next_change(mask, from_mark(from))?.map(Place::from),
+        })
+    }
+
+    pub fn prev_change(&self, mask: Lines, from: Place) -> Result<Option<Place>, Refusal> {
+        Ok(match self {
+            Reader::Service(recording) => {
+                recording.capture.prev_change(mask, from_first(from)).map(|place| place as Place)
+            }
+            Reader::Mill(mill) => mill.prev_change(mask, from_mark(from))?.map(Place::from),
+        })
+    }
+
+    pub fn burst_at(
+        &self,
+        mask: Lines,
+        sample: Place,
+        [max_gap, tolerance, budget]: [usize; 3],
+    ) -> Result<Option<Burst<Place>>, Refusal> {
+        Ok(match self {
+            Reader::Service(recording) => recording
+                .capture
+                .burst_at(mask, from_first(sample), max_gap, tolerance, budget)
+                .map(|burst| placed(burst, |place| place as Place)),
+            Reader::Mill(mill) => mill
+                .burst_at(mask, from_mark(sample), max_gap, tolerance, budget)?
+                .map(|burst| placed(burst, Place::from)),
+        })
+    }
+
+    pub fn render(&self, view: View, width: usize) -> Result<Vec<Pixel>, Refusal> {
+        match self {
+            Reader::Service(recording) => recording.capture.render(view, width),
+            Reader::Mill(mill) => mill.render(view, width),
+        }
+    }
+}
+
+/// A place of the service. What was read as a place is one; sums of places keep to what there is.
+fn from_first(place: Place) -> usize {
+    place.clamp(0, usize::MAX as Place) as usize
+}
+
+/// A place of a mill, the same way.
+fn from_mark(place: Place) -> i64 {
+    place.clamp(i64::MIN.into(), i64::MAX.into()) as i64
+}
+
+fn placed<P>(burst: Burst<P>, place: impl Fn(P) -> Place) -> Burst<Place> {
+    let Burst { first, last, jumps_at_end, jumps_at_start } = burst;
+    Burst { first: place(first), last: place(last), jumps_at_end, jumps_at_start }
+}

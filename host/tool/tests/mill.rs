@@ -1,0 +1,225 @@
+//! With --grant each answer is a mill's: places from the mark, granted lines, and nothing of the others.
+
+mod common;
+#[path = "../../capture/tests/plain/mod.rs"]
+mod plain;
+
+use capture::View;
+use common::{Folder, Run};
+use plain::Rng;
+
+/// A capture file with a mark.
+fn file(unit: usize, mark: Option<usize>, s: &[u16]) -> Vec<u8> {
+    let mark = mark.map_or("-".into(), |mark| mark.to_string());
+    let header = format!("logic-capture 1 unit={unit} rate=4 mark={mark} len={}\n", s.len());
+    [header.into_bytes(), plain::bytes(s, unit)].concat()
+}
+
+/// The answers as lines of text.
+fn text(answers: impl IntoIterator<Item = impl AsRef<[i64]>>) -> String {
+    let words = |numbers: &[i64]| numbers.iter().map(i64::to_string).collect::<Vec<_>>().join(" ");
+    answers.into_iter().map(|numbers| words(numbers.as_ref()) + "\n").collect()
+}
+
+/// Asks the tool, which must give these answers, or none with status 1.
+fn ask(folder: &Folder, line: &str, answers: &str) {
+    let run = folder.run(line);
+    if answers.is_empty() {
+        run.none();
+    } else {
+        assert_eq!(run.yes(), answers, "{line}");
+    }
+}
+
+#[test]
+fn answers_are_those_of_plain_scans_moved_and_cut() {
+    let folder = Folder::new("mill-random");
+    let mut rng = Rng(14);
+    for round in 0..30 {
+        let unit = 1 + round % 2;
+        let (len, calm) = (rng.pick(&[0, 1, 2, 40, 300, 5000]), rng.pick(&[1, 5, 60]));
+        let s = &rng.samples(len, unit, calm)[..];
+        let somewhere = rng.below(len.max(1));
+        let mark = rng.pick(&[None, Some(0), Some(somewhere)]).filter(|_| len > 0);
+        folder.write("a.cap", &file(unit, mark, s));
+        let (grant, seen) =
+            rng.pick(&[("0-15", 0xffff), ("all", 0xffff), ("0,4-6", 0x71), ("9,1", 0x202)]);
+        let asked = format!("--grant {grant} a.cap");
+        let origin = mark.unwrap_or(0);
+        let moved = |place: usize| place as i64 - origin as i64;
+        let (a, b) = (rng.below(len + 3), rng.below(len + 3));
+        let (from, to) = (moved(a), moved(b));
+        let number = |lines: u16| i64::from(lines & seen);
+
+        let next = plain::next_change(s, seen, a).map(|place| [moved(place)]);
+        ask(&folder, &format!("next --from {from} {asked}"), &text(next));
+        let prev = plain::prev_change(s, seen, a).map(|place| [moved(place)]);
+        ask(&folder, &format!("prev --from {from} {asked}"), &text(prev));
+        let last = plain::prev_change(s, seen, len).map(|place| [moved(place)]);
+        ask(&folder, &format!("prev {asked}"), &text(last));
+
+        let changes = (a.max(1)..b.min(len)).filter(|&i| (s[i] ^ s[i - 1]) & seen != 0);
+        let changes = changes.map(|i| [moved(i), number(s[i]), number(s[i] ^ s[i - 1])]);
+        let changes: Vec<_> = changes.collect();
+        ask(&folder, &format!("changes --from {from} --to {to} {asked}"), &text(&changes));
+        let total = folder.run(&format!("changes --from {from} --to {to} --total {asked}"));
+        assert_eq!(total.out, format!("{}\n", changes.len()));
+
+        let (gap, tolerance, budget) = (rng.below(50), rng.below(50), rng.below(5));
+        let burst = plain::burst_at(s, seen, a, gap, tolerance, budget).map(|burst| {
+            let jumps = [burst.jumps_at_end, burst.jumps_at_start].map(|jumps| jumps as i64);
+            [moved(burst.first), moved(burst.last), jumps[0], jumps[1]]
+        });
+        let how = format!("--at {from} --gap {gap} --tolerance {tolerance} --budget {budget}");
+        ask(&folder, &format!("burst {how} {asked}"), &text(burst));
+
+        let node = plain::summary(s, a, b);
+        let node = node.map(|node| [node.first, node.last, node.toggles].map(number));
+        ask(&folder, &format!("summary --from {from} --to {to} {asked}"), &text(node));
+
+        let samples = (a..b.min(len)).map(|i| [moved(i), number(s[i])]);
+        ask(&folder, &format!("samples --from {from} --to {to} {asked}"), &text(samples));
+
+        let view = View { start: from as f64 - 5.5, spp: rng.pick(&[0.3, 1.0, 7.7]) };
+        let pixels = plain::render_from(s, origin, view, 30);
+        let pixels = pixels.iter().map(|pixel| [pixel.first, pixel.toggles].map(number));
+        let how = format!("--start {} --spp {} --width 30", view.start, view.spp);
+        ask(&folder, &format!("render --pixels {how} {asked}"), &text(pixels));
+    }
+}
+
+/// Two files of equal mark and length, alike in lines 0 and 2; they differ in other lines and in unit.
+fn alike(test: &str) -> Folder {
+    let folder = Folder::new(test);
+    let one = [0, 1, 3, 5, 4, 0, 2, 1];
+    folder.write("one.cap", &file(1, Some(3), &one));
+    let others = [0x9d30u16, 0x7a, 0, 0xff0a, 0x8000, 0x10, 0xfa, 2];
+    let two: Vec<u16> = one.iter().zip(others).map(|(one, others)| one & 5 | others).collect();
+    assert!(two.iter().zip(one).all(|(two, one)| two & 5 == one & 5));
+    folder.write("two.cap", &file(2, Some(3), &two));
+    folder
+}
+
+#[test]
+fn files_alike_in_granted_lines_give_the_same() {
+    let folder = alike("mill-alike");
+    for line in [
+        "info",
+        "next",
+        "next --from -3 --lines 2",
+        "next --lines 1",
+        "next --from -4",
+        "prev",
+        "prev --from mark --lines 0",
+        "changes",
+        "changes --hex",
+        "changes --bits --from -1 --to end-1",
+        "changes --total",
+        "burst --at 0 --gap 3",
+        "burst --at mark-2 --gap 9 --lines 2,0",
+        "summary",
+        "summary --hex --from 0",
+        "summary --from -3 --to -4",
+        "samples",
+        "samples --bits --from 9",
+        "samples --lines 9",
+        "samples --lines 16",
+        "render",
+        "render --ascii --from -2 --to 2 --name 2=drive",
+        "render --svg -",
+        "render --pixels",
+        "render --pixels --start -9.5 --spp 0.5 --hex",
+        "render --pixels --start nan",
+        "check",
+    ] {
+        let [one, two] = ["one", "two"].map(|name| {
+            let run = folder.run(&format!("{line} --grant 0,2 {name}.cap"));
+            Run { err: run.err.replace(name, ""), ..run }
+        });
+        assert_eq!(one, two, "{line}");
+    }
+    // The service sees that they differ.
+    assert_ne!(folder.run("samples one.cap"), folder.run("samples two.cap"));
+}
+
+#[test]
+fn a_mill_and_what_it_is_shown() {
+    let folder = alike("mill-shown");
+    let info = "grant 0,2\nsamples 8\nfirst -3\nend 5\nmark 0\nrate 4\nseconds 2\nchanging 0,2\n";
+    assert_eq!(folder.run("info --grant 2,0 one.cap").yes(), info);
+    folder.write("raw", &[0, 1]);
+    let info = "grant 9\nsamples 2\nfirst 0\nend 2\nmark -\nrate -\nseconds -\nchanging -\n";
+    assert_eq!(folder.run("info --unit 1 --grant 9 raw").yes(), info);
+    assert_eq!(folder.run("next --grant 0 one.cap").yes(), "-2\n");
+    assert_eq!(folder.run("next --grant 0,2 --lines all --from mark one.cap").yes(), "1\n");
+    // Numbers are as wide as those of sixteen lines: a mill is not told the unit.
+    assert_eq!(folder.run("samples --grant 2 --from 0 --to 1 --hex one.cap").yes(), "0 0x0004\n");
+    folder.run("next --unit 1 --grant 9 raw").none();
+
+    let drawn = folder.run("render --grant 2,0 --ascii --width 8 one.cap").yes();
+    let rows = ["place -3", "mark     v 0", " 0    /--\\__/-", " 2    __/-\\___"];
+    assert_eq!(drawn.lines().collect::<Vec<_>>(), rows);
+    let picture = folder.run("render --grant 2 --svg - one.cap").yes();
+    assert!(picture.contains(">-3</text>") && picture.contains("mark 0</text>"), "{picture}");
+    assert_eq!(picture.matches("stroke-width").count(), 1);
+}
+
+#[test]
+fn what_a_mill_may_not_ask_is_refused() {
+    let folder = alike("mill-refused");
+    let beyond = "refused, 12: the mask has a line beyond the grant";
+    let before = "refused, 13: the place is before the first sample";
+    for (command, place) in [
+        ("next", "--from"),
+        ("prev", "--from"),
+        ("changes", "--from"),
+        ("changes", "--to"),
+        ("summary", "--from"),
+        ("summary", "--to"),
+        ("samples", "--from"),
+        ("samples", "--to"),
+        ("render", "--from"),
+        ("render", "--to"),
+        ("burst --gap 9", "--at"),
+    ] {
+        let name = command.split(' ').next().unwrap();
+        // 12 comes first.
+        let line = format!("{command} --grant 0,2 --lines 1,2 {place} -4 one.cap");
+        let said = folder.run(&line).bad();
+        assert_eq!(said, format!("logic-capture {name}: --lines 1,2: {beyond}"));
+        for place_text in ["-4", "mark-4", "end-9", "-9223372036854775809"] {
+            let said = folder.run(&format!("{command} --grant 0 {place} {place_text} one.cap"));
+            assert_eq!(said.bad(), format!("logic-capture {name}: {place} {place_text}: {before}"));
+        }
+    }
+    for (line, what) in [
+        (
+            "check --grant 0 one.cap",
+            " check: --grant: the check of summaries is not given to mills",
+        ),
+        (
+            "record --unit 1 --grant 0 -o x.cap one.cap",
+            " record: --grant: raw samples are not given to mills",
+        ),
+        ("demo --grant 0", " demo: there is no option '--grant'; see --help"),
+        ("next --grant 16 one.cap", " next: --grant 16: '16' is no line: lines are 0 to 15"),
+        ("next --grant 0 --grant 1 one.cap", " next: --grant is given twice"),
+        (
+            "next --grant 0 --from 9223372036854775808 one.cap",
+            " next: --from 9223372036854775808: too far",
+        ),
+        (
+            "next --from -1 one.cap",
+            " next: --from -1: a place is a number, mark or end, as in mark+10",
+        ),
+    ] {
+        assert_eq!(folder.run(line).bad(), format!("logic-capture{what}"), "{line}");
+    }
+    assert!(!folder.has("x.cap"));
+    // The view of --pixels may begin anywhere.
+    let blank = "0 0\n0 0\n";
+    let line = "render --pixels --grant 0 --start -99 --spp 1 --width 2 one.cap";
+    assert_eq!(folder.run(line).yes(), blank);
+    folder.run("next --grant 0 --from 9223372036854775807 one.cap").none();
+    folder.run("samples --grant 0 --from 9223372036854775807 one.cap").none();
+}
