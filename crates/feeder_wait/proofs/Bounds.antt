@@ -16,27 +16,38 @@ use Rattle.rules.proofs.Refusal.{neither, Ranged, ranged}
 use Rattle.feeder.proofs.Rows.{store-passed}
 use Rattle.feeder_wait.specs.Wait.{Waiting}
 
+-- a store with nothing in it
+abbrev empty : ℕ → ℕ → Store
+empty unit capacity = record { unit = unit; capacity = capacity; len = 0; mark = none }
+
+not-wrong : (unit capacity : ℕ) → unitWrong unit ≡ false → 0 < capacity → capacity ≤ mostSamples → storeWrong (empty unit capacity) ≡ false
+not-wrong unit capacity known some-slots most =
+    neither (unitWrong unit || eqb capacity 0 || ltb mostSamples capacity || ltb capacity 0) false .1 (
+      neither (unitWrong unit || eqb capacity 0 || ltb mostSamples capacity) (ltb capacity 0) .1 (
+        neither (unitWrong unit || eqb capacity 0) (ltb mostSamples capacity) .1 (
+          neither (unitWrong unit) (eqb capacity 0) .1 (known, ne-eqb capacity 0 (λ e. omega arith)),
+          le-ltb mostSamples capacity most,
+        ),
+        le-ltb capacity 0 (omega arith),
+      ),
+      refl,
+    )
+
+-- before its capacity is known to be above 0
+pub unit-two : (unit : ℕ) → unitWrong unit ≡ false → unit ≤ 2
+unit-two unit known = ranged (empty unit 1) (not-wrong unit 1 known (omega arith) (omega arith)) .unit-most
+
 module _ (r : List ℕ) where
   -- its store, with nothing in it
   abbrev pub emptyOf : Store
-  emptyOf = record { unit = getD r 0 0; capacity = getD r 1 0; len = 0; mark = none }
+  emptyOf = empty (getD r 0 0) (getD r 1 0)
 
   module _ (unit : unitWrong (getD r 0 0) ≡ false) (most : getD r 1 0 ≤ mostSamples) (pre-most : getD r 6 0 < getD r 1 0) where
-    not-wrong : storeWrong emptyOf ≡ false
-    not-wrong =
-        neither (unitWrong (getD r 0 0) || eqb (getD r 1 0) 0 || ltb mostSamples (getD r 1 0) || ltb (getD r 1 0) 0) false .1 (
-          neither (unitWrong (getD r 0 0) || eqb (getD r 1 0) 0 || ltb mostSamples (getD r 1 0)) (ltb (getD r 1 0) 0) .1 (
-            neither (unitWrong (getD r 0 0) || eqb (getD r 1 0) 0) (ltb mostSamples (getD r 1 0)) .1 (
-              neither (unitWrong (getD r 0 0)) (eqb (getD r 1 0) 0) .1 (unit, ne-eqb (getD r 1 0) 0 (λ e. omega arith)),
-              le-ltb mostSamples (getD r 1 0) most,
-            ),
-            le-ltb (getD r 1 0) 0 (omega arith),
-          ),
-          refl,
-        )
+    right : storeWrong emptyOf ≡ false
+    right = not-wrong (getD r 0 0) (getD r 1 0) unit (omega arith) most
 
-    pub in-range : Ranged emptyOf
-    in-range = ranged emptyOf not-wrong
+    in-range : Ranged emptyOf
+    in-range = ranged emptyOf right
 
     pub slots-fit : getD r 6 0 * getD r 0 0 < 2 ^ 64
     slots-fit =
@@ -50,7 +61,7 @@ module _ (r : List ℕ) where
         len = or-zero-left (getD r 2 0) (getD r 3 0) first;
         unmarked = or-zero-right (getD r 2 0) (getD r 3 0) first;
         mark = or-zero-right (bitOr (getD r 2 0) (getD r 3 0)) (getD r 4 0) zero;
-        store = store-passed emptyOf lent not-wrong enough .0;
+        store = store-passed emptyOf lent right enough .0;
         limit-most = limit;
         pre-most = pre-most;
         kept-most = kept;

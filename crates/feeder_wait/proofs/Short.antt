@@ -1,5 +1,5 @@
 -- A recorder that waits is refused by no row, and a push whose samples do not fire is a case of push.
-use mathlib.Core.Path.{_≡_, refl, sym, ap, ap₂, _∙_, subst}
+use mathlib.Core.Path.{_≡_, sym, ap, _∙_, subst}
 use mathlib.Core.Bool.{Bool, true, false}
 use mathlib.Core.List.{List, [], _∷_}
 use mathlib.Core.Option.{Option, none, some}
@@ -8,7 +8,7 @@ use native.Mathlib.Omega.{arith}
 use borrow.Author.Tests.{eq-eqb, le-ltb, ltb-false}
 use lib.Dec.{ltb}
 use lib.ListN.{length, getD, set}
-use lib.Seq.{sets, set-getD}
+use lib.Seq.{sets, set-getD, paste}
 use Rattle.rules.specs.Sample.{sampleOf, countOf, samplesOf}
 use Rattle.rules.specs.Trigger as rule
 use Rattle.rules.specs.Selection.{going-on}
@@ -17,28 +17,30 @@ use Rattle.rules.proofs.Refusal.{Sound, SoundRecorder}
 use Rattle.rules.proofs.Sample.{list-length}
 use Rattle.rules.proofs.Trigger.{fire-le}
 use Rattle.ring.specs.Ring.{placeAfter}
-use Rattle.ring.specs.Bytes.{units, ringBytes}
+use Rattle.ring.specs.Bytes.{units}
 use Rattle.ring.specs.Push.{Left, waitedFor, firingBytes, takenBytes, pushBytes}
+use Rattle.ring_write.proofs.Copy.{copy-end}
 use Rattle.ring_write.proofs.Place.{place-ahead}
+use Rattle.ring_write.proofs.Runs.{one-run, run-room}
 use Rattle.capture.specs.declared.Mark.{Mark}
 use Rattle.capture.specs.declared.Mark.the-variants.{Absent}
 use Rattle.capture.specs.Record.{markOf, storeOf}
-use Rattle.terms.specs.declared.Masks.{Masks}
-use Rattle.terms.specs.declared.Previous.{Previous}
 use Rattle.terms.specs.Terms.{asMasks, previousOf}
 use Rattle.scan.proofs.Last.{last-some}
 use Rattle.feeder.specs.Record.{armedAs, recorderOf, recorderRefusal}
 use Rattle.feeder.proofs.Rows.{sound-recorder}
 use Rattle.feeder_numbers.specs.Numbers.{markIn, armedIn, previousIn, feederFrom, markedNumber, markNumber, waitsNumber, pushedNumbers}
 use Rattle.feeder_push.specs.Push.{leftOf}
-use Rattle.feeder_wait.specs.Wait.{Waiting, masksOf, FewRoom, FewWent, Untouched, FewAfter, waitedOf, ShortWent, ShortAfter}
+use Rattle.feeder_wait.specs.Wait.{Waiting, masksOf, fireOf, CopyRoom, FewRoom, FewWent, Untouched, FewAfter, waitedOf, ShortWent, ShortAfter}
 
 -- the room of k samples at a unit v that is known
-pub few-room : (r : List ℕ) (lent : Lent) (g b : ℕ) → Waiting r lent g → getD r 15 0 < getD r 6 0 → (v k : ℕ) → getD r 0 0 ≡ v → k * v ≤ b → 1 ≤ k → k < getD r 6 0 - getD r 15 0 → FewRoom r g b v k
-few-room r lent g b w inside v k ev samples some-samples ahead = record {
+pub few-room : (r : List ℕ) (lent : Lent) (g b : ℕ) → Waiting r lent g → getD r 15 0 < getD r 6 0 → (v k : ℕ) → getD r 0 0 ≡ v → k * v ≤ b → 1 ≤ k → 2 ≤ k * v → b ≤ 7 → k < getD r 6 0 - getD r 15 0 → FewRoom r g b v k
+few-room r lent g b w inside v k ev samples some-samples two-bytes few ahead = record {
   low = omega (arith, w .store .unit-least);
   high = omega (arith, w .store .unit-most);
   some-samples = some-samples;
+  two-bytes = two-bytes;
+  few-bytes = omega arith;
   samples = samples;
   place-inside = inside;
   pre-most = omega (arith, w .pre-most, w .store .capacity-most);
@@ -47,21 +49,26 @@ few-room r lent g b w inside v k ev samples some-samples ahead = record {
   slots = subst (λ (x : ℕ). getD r 6 0 * x ≤ g) ev (w .slots);
 }
 
+-- the room of its bytes
+pub few-copy : (r : List ℕ) (g b u n : ℕ) → FewRoom r g b u n → CopyRoom (getD r 15 0 * u) (n * u) g b
+few-copy r g b u n room = record {
+  two-bytes = room .two-bytes;
+  few-bytes = room .few-bytes;
+  slots = run-room u (getD r 6 0) (getD r 15 0) n g b (record { low = room .low; high = room .high; place-in = omega (arith, room .place-inside); slots = room .slots; samples = room .samples }) (omega (arith, room .ahead));
+  held = room .samples;
+}
+
 -- the numbers that the code writes
-pub few-went : (r g b : List ℕ) (u n : ℕ) (masks : Masks) (previous : Previous) (last k : ℕ) (g′ : List ℕ) → masks ≡ masksOf r → previous ≡ previousIn (getD r 13 0) (getD r 14 0)
-    → ltb (rule.firstFire (asMasks masks) (previousOf previous) (units u n b)) n ≡ false → last ≡ sampleOf u b (n - 1) → getD r 16 0 ≤ getD r 6 0 → k ≡ min n (getD r 6 0 - getD r 16 0)
-    → g′ ≡ ringBytes u (getD r 6 0) g (getD r 15 0) n b → FewWent r g b u n (sets r 13 (1 ∷ last ∷ (getD r 15 0 + n) ∷ (getD r 16 0 + k) ∷ [])) g′
-few-went r g b u n masks previous last k g′ em ep quiet el most ek eg = record {
-  none-fires = ap₂ (λ (m : Masks) (p : Previous). rule.firstFire (asMasks m) (previousOf p) (units u n b)) (sym em) (sym ep) ∙ none;
+pub few-went : (r g b : List ℕ) (u n : ℕ) (last k : ℕ) (g′ : List ℕ) → FewRoom r (length g) (length b) u n → ltb (fireOf r b u n) n ≡ false → last ≡ sampleOf u b (n - 1) → k ≡ min n (getD r 6 0 - getD r 16 0)
+    → g′ ≡ paste g (getD r 15 0 * u) b (n * u) → FewWent r g b u n (sets r 13 (1 ∷ last ∷ (getD r 15 0 + n) ∷ (getD r 16 0 + k) ∷ [])) g′
+few-went r g b u n last k g′ room quiet el ek eg = record {
+  none-fires = omega (arith, fire-le (asMasks (masksOf r)) (previousOf (previousIn (getD r 13 0) (getD r 14 0))) (units u n b), list-length (sampleOf u b) 0 n, ltb-false _ n quiet);
   numbers-are = λ i. sets r 13 (1 ∷ el i ∷ (getD r 15 0 + n) ∷ kept i ∷ []);
-  ring-is = eg;
+  ring-is = eg ∙ copy-end g b (getD r 15 0 * u) 0 (n * u) (omega (arith, room .samples)) ∙ one-run u (getD r 6 0) n g (getD r 15 0) b (omega (arith, room .ahead)) (room .slots) (room .samples);
 }
   where
     kept : getD r 16 0 + k ≡ min (getD r 6 0) (getD r 16 0 + n)
-    kept = omega arith
-
-    none : rule.firstFire (asMasks masks) (previousOf previous) (units u n b) ≡ n
-    none = omega (arith, fire-le (asMasks masks) (previousOf previous) (units u n b), list-length (sampleOf u b) 0 n, ltb-false _ n quiet)
+    kept = omega (arith, room .kept-most)
 
 module _ (r : List ℕ) (lent : Lent) (g b : List ℕ) (w : Waiting r lent (length g)) (inside : getD r 15 0 < getD r 6 0) where
   abbrev c : Recorder

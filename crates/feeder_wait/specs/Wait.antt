@@ -35,18 +35,32 @@ pub record Waiting (numbers : List ℕ) (lent : Lent) (ring : ℕ) : Type 0 wher
 abbrev pub masksOf : List ℕ → Masks
 masksOf r = masksIn (getD r 8 0) (getD r 9 0) (getD r 10 0) (getD r 11 0) (getD r 12 0)
 
+-- the first of n samples that fires, n where none does
+abbrev pub fireOf : List ℕ → List ℕ → ℕ → ℕ → ℕ
+fireOf numbers bytes unit n = firstFire (asMasks (masksOf numbers)) (previousOf (previousIn (getD numbers 13 0) (getD numbers 14 0))) (units unit n bytes)
+
 -- the samples in len bytes
 pub record Count (unit len n : ℕ) : Type 0 where
   pub is : n ≡ len / unit
   pub held : n * unit ≤ len
   pub most : n ≤ len
   pub least : len ≤ n * 2 + 1
+  pub two-bytes : 2 ≤ len → 2 ≤ n * unit
 
--- there are some, the bytes hold them, and they do not reach the ring's end
+-- k bytes that are copied from either end, two or four of them: both memories hold them
+pub record CopyRoom (at k ring bytes : ℕ) : Type 0 where
+  pub two-bytes : 2 ≤ k
+  pub few-bytes : k ≤ 8
+  pub slots : at + k ≤ ring
+  pub held : k ≤ bytes
+
+-- there are some, in two to eight bytes, the bytes hold them, and they do not reach the ring's end
 pub record FewRoom (numbers : List ℕ) (ring bytes unit n : ℕ) : Type 0 where
   pub low : 1 ≤ unit
   pub high : unit ≤ 2
   pub some-samples : 1 ≤ n
+  pub two-bytes : 2 ≤ n * unit
+  pub few-bytes : n * unit ≤ 8
   pub samples : n * unit ≤ bytes
   pub place-inside : getD numbers 15 0 < getD numbers 6 0
   pub pre-most : getD numbers 6 0 ≤ mostSamples
@@ -56,7 +70,7 @@ pub record FewRoom (numbers : List ℕ) (ring bytes unit n : ℕ) : Type 0 where
 
 -- none fires; they went to the ring, and previous sample, place and kept count are theirs
 pub record FewWent (numbers ring bytes : List ℕ) (unit n : ℕ) (numbers′ ring′ : List ℕ) : Type 0 where
-  pub none-fires : firstFire (asMasks (masksOf numbers)) (previousOf (previousIn (getD numbers 13 0) (getD numbers 14 0))) (units unit n bytes) ≡ n
+  pub none-fires : fireOf numbers bytes unit n ≡ n
   pub numbers-are : numbers′ ≡ sets numbers 13 (1 ∷ sampleOf unit bytes (n - 1) ∷ (getD numbers 15 0 + n) ∷ min (getD numbers 6 0) (getD numbers 16 0 + n) ∷ [])
   pub ring-is : ring′ ≡ ringBytes unit (getD numbers 6 0) ring (getD numbers 15 0) n bytes
 

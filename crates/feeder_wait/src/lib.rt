@@ -6,19 +6,24 @@ use capture::unit_wrong;
 use feeder_numbers::masks_in;
 use feeder_numbers::previous_in;
 use lines::get;
-use ring_write::write_ahead;
-use scan::few_fire;
+use scan::any_level;
+use scan::fire_few;
 use store::lesser;
 ghost use mathlib.Core.Path.{_≡_};
 ghost use mathlib.Core.Bool.{true};
-ghost use Prim.Native.Nat.{_≤_};
+ghost use mathlib.Core.List.{[], _∷_};
+ghost use Prim.Native.Nat.{_+_, _≤_};
+ghost use lib.Dec.{ltb};
 ghost use lib.ListN.{length};
+ghost use lib.Seq.{sets, paste};
 ghost use Rattle.capture.specs.Record.{lentNumbers};
-ghost use Rattle.feeder_wait.specs.Wait.{Waiting, Count, FewRoom, FewAfter, ShortAfter};
+ghost use Rattle.scan.specs.Scan.{Holds};
+ghost use Rattle.feeder_wait.specs.Wait.{Waiting, fireOf, Count, CopyRoom, FewRoom, FewAfter, ShortAfter};
 
 const MOST_SAMPLES: usize = 67108864;
 
 // Whether it waits with nothing stored, as start and push leave its numbers, and neither row 1 nor row 2 holds.
+// The order is for speed: tests with no read between them are joined to a longer one, memory after more tests is a call, and numbers read early are kept in registers for the ordinary push.
 fn waits(
     numbers: &[usize; 17],
     samples: usize,
@@ -33,25 +38,12 @@ fn waits(
     if numbers[7] != 1 {
         return false;
     }
-    if numbers[2] | numbers[3] | numbers[4] != 0 {
-        return false;
-    }
     let unitsize = numbers[0];
-    let capacity = numbers[1];
-    let pre = numbers[6];
     if unit_wrong(unitsize) {
         return false;
     }
+    let capacity = numbers[1];
     if MOST_SAMPLES < capacity {
-        return false;
-    }
-    if capacity < numbers[5] {
-        return false;
-    }
-    if capacity <= pre {
-        return false;
-    }
-    if pre < numbers[16] {
         return false;
     }
     let capture = Capture {
@@ -63,7 +55,92 @@ fn waits(
     if memory_short(capture, samples, n1, n2, n3, n4) {
         return false;
     }
-    pre * unitsize <= ring
+    if capacity < numbers[5] {
+        return false;
+    }
+    let pre = numbers[6];
+    if capacity <= pre {
+        return false;
+    }
+    if pre < numbers[16] {
+        return false;
+    }
+    if ring < pre * unitsize {
+        return false;
+    }
+    numbers[2] | numbers[3] | numbers[4] == 0
+}
+
+// Whether one of n samples fires. Levels come first: most often none has them, and then neither the previous sample nor a pair is looked at.
+fn fires(numbers: &[usize; 17], bytes: &[u8], unitsize: usize, n: usize) -> bool
+    requires { ⌜ Holds unitsize n (length (now bytes)) × (1 ≤ n) ⌝ }
+    ensures { λ r. ⌜ r ≡ ltb (fireOf (now (numbers .entry)) (now (bytes .entry)) unitsize n) n ⌝ }
+{
+    let masks = masks_in(
+        numbers[8],
+        numbers[9],
+        numbers[10],
+        numbers[11],
+        numbers[12],
+    );
+    if any_level(masks, bytes, unitsize, n) {
+        let prev = previous_in(numbers[13], numbers[14]);
+        return fire_few(masks, prev, bytes, unitsize, n) < n;
+    }
+    false
+}
+
+// Two bytes from `at` on.
+fn put_two(ring: &mut [u8], at: usize, a: u8, b: u8)
+    requires { ⌜ at + 2 ≤ length (now ring) ⌝ }
+    ensures { λ _. ⌜ now (ring .exit) ≡ sets (now (ring .entry)) at (a ∷ b ∷ []) ⌝ }
+{
+    ring[at] = a;
+    ring[at + 1] = b;
+}
+
+// Four bytes from `at` on.
+fn put_four(ring: &mut [u8], at: usize, a: u8, b: u8, c: u8, d: u8)
+    requires { ⌜ at + 4 ≤ length (now ring) ⌝ }
+    ensures { λ _. ⌜ now (ring .exit) ≡ sets (now (ring .entry)) at (a ∷ b ∷ c ∷ d ∷ []) ⌝ }
+{
+    let second = at + 1;
+    let third = second + 1;
+    ring[at] = a;
+    ring[second] = b;
+    ring[third] = c;
+    ring[third + 1] = d;
+}
+
+// The first k bytes go to the ring's bytes from `at` on, as the two or four at either end, which may overlap: two moves without a loop.
+// All are read before one is written, and the arms begin and end with other bytes: else the compiler joins them and moves byte by byte.
+fn copy_few(ring: &mut [u8], at: usize, bytes: &[u8], k: usize)
+    requires { ⌜ CopyRoom at k (length (now ring)) (length (now bytes)) ⌝ }
+    ensures { λ _. ⌜ now (ring .exit) ≡ paste (now (ring .entry)) at (now (bytes .entry)) k ⌝ }
+{
+    if k < 4 {
+        let end = k - 2;
+        let y = bytes[end];
+        let z = bytes[end + 1];
+        let a = bytes[0];
+        let b = bytes[1];
+        put_two(ring, at + end, y, z);
+        put_two(ring, at, a, b);
+        return;
+    }
+    let a = bytes[0];
+    let b = bytes[1];
+    let c = bytes[2];
+    let d = bytes[3];
+    let end = k - 4;
+    let second = end + 1;
+    let third = second + 1;
+    let w = bytes[end];
+    let x = bytes[second];
+    let y = bytes[third];
+    let z = bytes[third + 1];
+    put_four(ring, at, a, b, c, d);
+    put_four(ring, at + end, w, x, y, z);
 }
 
 // n samples, fewer than there are slots up to the ring's end: true once they went there; false, and nothing is written, where one fires.
@@ -77,22 +154,14 @@ fn wait_few(
     requires { ⌜ FewRoom (now numbers) (length (now ring)) (length (now bytes)) unitsize n ⌝ }
     ensures { λ r. ⌜ FewAfter r (now (numbers .entry)) (now (ring .entry)) (now (bytes .entry)) unitsize n (now (numbers .exit)) (now (ring .exit)) ⌝ }
 {
-    let masks = masks_in(
-        numbers[8],
-        numbers[9],
-        numbers[10],
-        numbers[11],
-        numbers[12],
-    );
-    let prev = previous_in(numbers[13], numbers[14]);
-    if few_fire(masks, prev, bytes, unitsize, n) {
+    if fires(&*numbers, bytes, unitsize, n) {
         return false;
     }
     let pre = numbers[6];
     let place = numbers[15];
     let kept = numbers[16];
     let last = get(bytes, unitsize, n - 1);
-    write_ahead(ring, unitsize, pre, place, n, bytes);
+    copy_few(ring, place * unitsize, bytes, n * unitsize);
     numbers[13] = 1;
     numbers[14] = last as usize;
     numbers[15] = place + n;
@@ -128,16 +197,16 @@ pub fn wait_short(
     if !waiting {
         return false;
     }
+    let pre = numbers[6];
+    let place = numbers[15];
+    if pre <= place {
+        return false;
+    }
     let len = bytes.len();
     if SHORT <= len {
         return false;
     }
     if len < 2 {
-        return false;
-    }
-    let pre = numbers[6];
-    let place = numbers[15];
-    if pre <= place {
         return false;
     }
     if pre - place <= len {

@@ -59,14 +59,7 @@ fn write_around(ring: &mut [u8], unitsize: usize, pre: usize, place: usize, n: u
 }
 
 // The ring after the first n samples of the bytes, which fit in before its end.
-pub fn write_ahead(
-    ring: &mut [u8],
-    unitsize: usize,
-    pre: usize,
-    place: usize,
-    n: usize,
-    bytes: &[u8],
-)
+fn write_ahead(ring: &mut [u8], unitsize: usize, pre: usize, place: usize, n: usize, bytes: &[u8])
     requires { ⌜ RingRoom unitsize pre place n (length (now ring)) (length (now bytes)) × (n ≤ pre - place) ⌝ }
     ensures { λ _. ⌜ now (ring .exit) ≡ ringBytes unitsize pre (now (ring .entry)) place n (now (bytes .entry)) ⌝ }
 {

@@ -124,7 +124,7 @@ fn fire_in_blocks(w: Wanted, prev: Mask, bytes: &[u8], unitsize: usize, n: usize
 }
 
 // The first of some samples that fires, one after the other.
-fn fire_few(masks: Masks, prev: Previous, bytes: &[u8], unitsize: usize, n: usize) -> usize
+pub fn fire_few(masks: Masks, prev: Previous, bytes: &[u8], unitsize: usize, n: usize) -> usize
     requires { ⌜ Holds unitsize n (length (now bytes)) × (1 ≤ n) ⌝ }
     ensures { λ r. ⌜ r ≡ firstFire (asMasks masks) (previousOf prev) (units unitsize n (now (bytes .entry))) ⌝ }
 {
@@ -134,7 +134,7 @@ fn fire_few(masks: Masks, prev: Previous, bytes: &[u8], unitsize: usize, n: usiz
 }
 
 // Whether one of n samples has the levels that are asked for. Where none has, none fires, whatever sample came before.
-fn any_level(masks: Masks, bytes: &[u8], unitsize: usize, n: usize) -> bool
+pub fn any_level(masks: Masks, bytes: &[u8], unitsize: usize, n: usize) -> bool
     requires { ⌜ Holds unitsize n (length (now bytes)) ⌝ }
     ensures { λ r. ⌜ (r ≡ false → NoneFires (asMasks masks) (units unitsize n (now (bytes .entry)))) ⌝ }
 {
@@ -145,17 +145,6 @@ fn any_level(masks: Masks, bytes: &[u8], unitsize: usize, n: usize) -> bool
             return true;
         }
         i += 1;
-    }
-    false
-}
-
-// Whether one of a few samples fires. Levels come first: most often none has them, and then no pair is looked at.
-pub fn few_fire(masks: Masks, prev: Previous, bytes: &[u8], unitsize: usize, n: usize) -> bool
-    requires { ⌜ Holds unitsize n (length (now bytes)) × (1 ≤ n) ⌝ }
-    ensures { λ r. ⌜ r ≡ ltb (firstFire (asMasks masks) (previousOf prev) (units unitsize n (now (bytes .entry)))) n ⌝ }
-{
-    if any_level(masks, bytes, unitsize, n) {
-        return fire_few(masks, prev, bytes, unitsize, n) < n;
     }
     false
 }

@@ -14,23 +14,23 @@ waits-requires c κs = search needs
 returns : tie.Need-returns
 returns c = search needs
 
-returns-2 : tie.Need-returns-2
-returns-2 c = search needs
-
 element-copy-out-pre : tie.Need-element-copy-out-pre
 element-copy-out-pre c = search needs
 
 element-copy-out-place : tie.Need-element-copy-out-place
 element-copy-out-place c = search needs
 
+returns-2 : tie.Need-returns-2
+returns-2 c = search needs
+
 returns-3 : tie.Need-returns-3
 returns-3 c = search needs
 
-sub-if5 : tie.Need-sub-if5
-sub-if5 c = search needs
-
 returns-4 : tie.Need-returns-4
 returns-4 c = search needs
+
+sub-if5 : tie.Need-sub-if5
+sub-if5 c = search needs
 
 returns-5 : tie.Need-returns-5
 returns-5 c = search needs
@@ -50,7 +50,7 @@ wait-few-requires c κs =
     let t = k .before .before .before .before .before .before .before .before in
     let w = t .before .waits .ensures (not-false _ (t .if1 .left)) in
     let n = k .count-in .ensures in
-    few-room _ _ _ _ w (omega arith) _ _ refl (n .held) (omega (arith, n .least)) (omega (arith, n .most))
+    few-room _ _ _ _ w (omega arith) _ _ refl (n .held) (omega (arith, n .least)) (n .two-bytes (omega arith)) (omega arith) (omega (arith, n .most))
 
 same-length : tie.Need-same-length
 same-length c = search needs
@@ -70,10 +70,10 @@ wait-short-spec =
     (tie.spec
     waits-requires
     returns
-    returns-2
-    returns-3
     element-copy-out-pre
     element-copy-out-place
+    returns-2
+    returns-3
     returns-4
     sub-if5
     returns-5

@@ -3,10 +3,10 @@ use Prim.Native.Nat.{ℕ}
 use mathlib.Core.Path.{_≡_, sym, _∙_}
 use native.Mathlib.Omega.{arith}
 use borrow.Author.Needs.{needs}
-use borrow.Author.Tests.{leb-true}
+use borrow.Author.Tests.{eqb-true}
 use denote.Ref.{now}
 use Rattle.capture.specs.Record.{lentNumbers}
-use Rattle.feeder_wait.proofs.Bounds.{in-range, slots-fit, waiting-is}
+use Rattle.feeder_wait.proofs.Bounds.{unit-two, slots-fit, waiting-is}
 use Rattle.feeder_wait.proofs.waits.Statement.{statement}
 use Rattle.feeder_wait.proofs.waits.Tie as tie
 
@@ -16,32 +16,23 @@ element-copy-out-if1 c = search needs
 returns : tie.Need-returns
 returns c e = absurd (let z : _≡_ {A = ℕ} 0 1 = cc in omega arith)
 
-element-copy-out-if2 : tie.Need-element-copy-out-if2
-element-copy-out-if2 c = search needs
-
-element-copy-out-if2-2 : tie.Need-element-copy-out-if2-2
-element-copy-out-if2-2 c = search needs
-
-element-copy-out-if2-3 : tie.Need-element-copy-out-if2-3
-element-copy-out-if2-3 c = search needs
-
-returns-2 : tie.Need-returns-2
-returns-2 c e = absurd (let z : _≡_ {A = ℕ} 0 1 = cc in omega arith)
-
 element-copy-out-unitsize : tie.Need-element-copy-out-unitsize
 element-copy-out-unitsize c = search needs
-
-element-copy-out-capacity : tie.Need-element-copy-out-capacity
-element-copy-out-capacity c = search needs
-
-element-copy-out-pre : tie.Need-element-copy-out-pre
-element-copy-out-pre c = search needs
 
 unit-wrong-requires : tie.Need-unit-wrong-requires
 unit-wrong-requires c κs = search needs
 
+returns-2 : tie.Need-returns-2
+returns-2 c e = absurd (let z : _≡_ {A = ℕ} 0 1 = cc in omega arith)
+
+element-copy-out-capacity : tie.Need-element-copy-out-capacity
+element-copy-out-capacity c = search needs
+
 returns-3 : tie.Need-returns-3
 returns-3 c e = absurd (let z : _≡_ {A = ℕ} 0 1 = cc in omega arith)
+
+memory-short-requires : tie.Need-memory-short-requires
+memory-short-requires c κs = let k = c .before .before in record { unit = unit-two _ (sym (k .before .unit-wrong .ensures) ∙ k .if2 .left); capacity = c .if3 .left }
 
 returns-4 : tie.Need-returns-4
 returns-4 c e = absurd (let z : _≡_ {A = ℕ} 0 1 = cc in omega arith)
@@ -52,6 +43,9 @@ element-copy-out-if5 c = search needs
 returns-5 : tie.Need-returns-5
 returns-5 c e = absurd (let z : _≡_ {A = ℕ} 0 1 = cc in omega arith)
 
+element-copy-out-pre : tie.Need-element-copy-out-pre
+element-copy-out-pre c = search needs
+
 returns-6 : tie.Need-returns-6
 returns-6 c e = absurd (let z : _≡_ {A = ℕ} 0 1 = cc in omega arith)
 
@@ -61,21 +55,31 @@ element-copy-out-if7 c = search needs
 returns-7 : tie.Need-returns-7
 returns-7 c e = absurd (let z : _≡_ {A = ℕ} 0 1 = cc in omega arith)
 
-memory-short-requires : tie.Need-memory-short-requires
-memory-short-requires c κs =
-    let r = in-range (now (c .before .before .before .before .before .before .before .before .before .before .before .before .before .before .before .before .before .args .numbers)) (sym (c .before .before .before .before .before .before .before .unit-wrong .ensures) ∙ c .before .before .before .before .before .before .if3 .left) (c .before .before .before .before .before .if4 .left) (c .before .before .if6 .left) in
-    record { unit = r .unit-most; capacity = r .capacity-most }
+mul-if8 : tie.Need-mul-if8
+mul-if8 c =
+    let k = c .before .before .before .before .before .before .before .before .before .before in
+    record { fits = slots-fit (now (c .before .before .before .before .before .before .before .before .before .before .before .before .before .before .before .args .numbers)) (sym (k .before .unit-wrong .ensures) ∙ k .if2 .left) (c .before .before .before .before .before .before .before .before .if3 .left) (c .before .before .if6 .left) }
 
 returns-8 : tie.Need-returns-8
 returns-8 c e = absurd (let z : _≡_ {A = ℕ} 0 1 = cc in omega arith)
 
-mul-result : tie.Need-mul-result
-mul-result c = record { fits = slots-fit (now (c .before .before .before .before .before .before .before .before .before .before .before .before .before .before .before .before .before .before .before .args .numbers)) (sym (c .before .before .before .before .before .before .before .before .before .unit-wrong .ensures) ∙ c .before .before .before .before .before .before .before .before .if3 .left) (c .before .before .before .before .before .before .before .if4 .left) (c .before .before .before .before .if6 .left) }
+element-copy-out-result : tie.Need-element-copy-out-result
+element-copy-out-result c = search needs
+
+element-copy-out-result-2 : tie.Need-element-copy-out-result-2
+element-copy-out-result-2 c = search needs
+
+element-copy-out-result-3 : tie.Need-element-copy-out-result-3
+element-copy-out-result-3 c = search needs
 
 returns-9 : tie.Need-returns-9
 returns-9 c e =
+    let l = c .before .before .before in
+    let m = l .before .before .before .before .before .before .before in
+    let k = m .before .before .before .before in
     let a = c .before .before .before .before .before .before .before .before .before .before .before .before .before .before .before .before .before .before .before .args in
-    waiting-is (now (a .numbers)) (sym (c .before .before .before .before .before .before .before .before .before .unit-wrong .ensures) ∙ c .before .before .before .before .before .before .before .before .if3 .left) (c .before .before .before .before .before .before .before .if4 .left) (c .before .before .before .before .if6 .left) (lentNumbers (a .samples) (a .n1) (a .n2) (a .n3) (a .n4)) (a .ring) (c .before .before .before .before .before .before .before .before .before .before .before .before .before .before .before .before .before .if1 .left) (c .before .before .before .before .before .before .before .before .before .before .before .before .before .if2 .left) (c .before .before .before .before .before .if5 .left) (c .before .before .if7 .left) (sym (c .before .memory-short .ensures) ∙ c .if8 .left) (leb-true _ _ e)
+    waiting-is (now (a .numbers)) (sym (k .before .unit-wrong .ensures) ∙ k .if2 .left) (m .before .before .if3 .left) (l .before .before .before .if6 .left) (lentNumbers (a .samples) (a .n1) (a .n2) (a .n3) (a .n4)) (a .ring)
+    (k .before .before .before .if1 .left) (eqb-true _ 0 e) (l .before .before .before .before .before .if5 .left) (l .before .if7 .left) (sym (m .before .memory-short .ensures) ∙ m .if4 .left) (l .if8 .left)
 
 pub waits-spec : {M : Type 1} → statement M
 waits-spec =
@@ -83,22 +87,22 @@ waits-spec =
     (tie.spec
     element-copy-out-if1
     returns
-    element-copy-out-if2
-    element-copy-out-if2-2
-    element-copy-out-if2-3
-    returns-2
     element-copy-out-unitsize
-    element-copy-out-capacity
-    element-copy-out-pre
     unit-wrong-requires
+    returns-2
+    element-copy-out-capacity
     returns-3
+    memory-short-requires
     returns-4
     element-copy-out-if5
     returns-5
+    element-copy-out-pre
     returns-6
     element-copy-out-if7
     returns-7
-    memory-short-requires
+    mul-if8
     returns-8
-    mul-result
+    element-copy-out-result
+    element-copy-out-result-2
+    element-copy-out-result-3
     returns-9)
