@@ -3,7 +3,6 @@ use Prim.Native.Nat.{ℕ}
 use mathlib.Core.Path.{_≡_, _∙_}
 use mathlib.Core.List.{List}
 use mathlib.Core.Option.{Option}
-use native.Mathlib.Omega.{arith}
 use lib.ListN.{length}
 use Rattle.rules.specs.Answer.{refused, given}
 use Rattle.rules.specs.Burst.{Burst, burstBy}
@@ -12,15 +11,11 @@ use Rattle.node.specs.Memory.{levelOf}
 use Rattle.capture.specs.declared.Capture.{Capture}
 use Rattle.capture.specs.Record.{storeOf, lentNumbers}
 use Rattle.capture.proofs.Answer.{refused-is, given-is, rows-are}
-use Rattle.search.proofs.Asked.{asked-stored}
-use Rattle.burst.specs.Answer.{back, fore, Filled, burstOf}
+use Rattle.burst.specs.Answer.{back, fore, burstOf}
 
 module _ (c : Capture) (samples l1 l2 l3 l4 : List ℕ) (number : ℕ) (is : number ≡ storeRefusal (storeOf c) (lentNumbers (length samples) (length l1) (length l2) (length l3) (length l4))) where
   abbrev levels : ℕ → List ℕ
   levels = levelOf l1 l2 l3 l4
-
-  pub filled : number ≡ 0 → (c .len ≡ 0 → ⊥) → Filled (c .unitsize) (c .len) samples levels
-  filled z h = record { stored = asked-stored c samples l1 l2 l3 l4 number is z; some-stored = omega arith }
 
   module _ (mask sample gap tolerance budget : ℕ) where
     abbrev burst-in : Option Burst

@@ -2,7 +2,7 @@
 use mathlib.Core.Bool.{Bool, true, false, cond}
 use mathlib.Core.List.{List}
 use mathlib.Core.Option.{Option, none, some}
-use Prim.Native.Nat.{ℕ, _-_, _<_}
+use Prim.Native.Nat.{ℕ, _-_}
 use lib.Dec.{ltb}
 use Rattle.rules.specs.Answer.{Answer, refused, given, unless}
 use Rattle.rules.specs.Burst as rule
@@ -11,7 +11,6 @@ use Rattle.rules.specs.Walk.{nextWalk, previousWalk, allLevels}
 use Rattle.node.specs.Memory.{readerOf}
 use Rattle.capture.specs.declared.Capture.{Capture}
 use Rattle.capture.specs.Record.{storeOf, lentOf}
-use Rattle.search.specs.Part.{Stored}
 use Rattle.burst.specs.declared.Burst.{Burst}
 use Rattle.burst.specs.declared.Bursts.{Bursts}
 use Rattle.burst.specs.declared.Bursts.the-variants as bursts
@@ -67,11 +66,6 @@ between gap (some p) (some n) = rule.sideIf (ltb (n - p) gap) (record { distance
 abbrev pub sideOf : (ℕ → Option ℕ) → (ℕ → Option ℕ) → Bool → ℕ → ℕ → ℕ → Option ℕ → Option rule.Side
 sideOf back fore true = rule.leftOf back fore
 sideOf back fore false = rule.rightOf back fore
-
--- a capture of at least one sample lies in memory
-pub record Filled (unit len : ℕ) (samples : List ℕ) (levels : ℕ → List ℕ) : Type 0 where
-  pub stored : Stored unit len samples levels
-  pub some-stored : 0 < len
 
 unfoldable pub burstOf : Capture → List ℕ → (ℕ → List ℕ) → ℕ → ℕ → ℕ → ℕ → ℕ → Answer (Option rule.Burst)
 burstOf c samples levels mask sample gap tolerance budget =

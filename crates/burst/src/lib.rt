@@ -2,16 +2,17 @@
 use capture::Capture;
 use lines::Mask;
 use search::Found;
-use search::next_from;
-use search::prev_from;
+use search::next_in;
+use search::prev_in;
 ghost use mathlib.Core.Path.{_≡_};
 ghost use mathlib.Core.Bool.{cond};
 ghost use Prim.Native.Nat.{_-_, _≤_, min};
 ghost use lib.Dec.{ltb};
 ghost use Rattle.rules.specs.Burst.{sum, jump, sideIf, nearer, pairOf};
 ghost use Rattle.node.specs.Memory.{levelOf};
+ghost use Rattle.search.specs.Part.{Stored};
 ghost use Rattle.search.specs.Answer.{foundOf};
-ghost use Rattle.burst.specs.Answer.{burstAs, burstOf, placeOf, changeAs, endAs, sideAs, back, fore, reachOf, furtherOf, between, sideOf, Filled};
+ghost use Rattle.burst.specs.Answer.{burstAs, burstOf, placeOf, changeAs, endAs, sideAs, back, fore, reachOf, furtherOf, between, sideOf};
 
 // The first and last change of a burst, and the jumps made at its end and at its start.
 pub struct Burst {
@@ -99,11 +100,10 @@ fn previous<'a>(
     mask: Mask,
     from: usize,
 ) -> Change
-    requires { ⌜ Filled unitsize len (now samples) (levelOf (now l1) (now l2) (now l3) (now l4)) ⌝ }
+    requires { ⌜ Stored unitsize len (now samples) (levelOf (now l1) (now l2) (now l3) (now l4)) ⌝ }
     ensures { λ r. ⌜ changeAs r ≡ back unitsize len (now (samples .entry)) (levelOf (now (l1 .entry)) (now (l2 .entry)) (now (l3 .entry)) (now (l4 .entry))) mask from ⌝ }
 {
-    let start = least(from, len - 1);
-    change_of(prev_from(samples, l1, l2, l3, l4, unitsize, len, mask, start))
+    change_of(prev_in(samples, l1, l2, l3, l4, unitsize, len, mask, from))
 }
 
 // The next change.
@@ -118,13 +118,10 @@ fn next<'a>(
     mask: Mask,
     from: usize,
 ) -> Change
-    requires { ⌜ Filled unitsize len (now samples) (levelOf (now l1) (now l2) (now l3) (now l4)) ⌝ }
+    requires { ⌜ Stored unitsize len (now samples) (levelOf (now l1) (now l2) (now l3) (now l4)) ⌝ }
     ensures { λ r. ⌜ changeAs r ≡ fore unitsize len (now (samples .entry)) (levelOf (now (l1 .entry)) (now (l2 .entry)) (now (l3 .entry)) (now (l4 .entry))) mask from ⌝ }
 {
-    if len - 1 <= from {
-        return Change::Nothing;
-    }
-    change_of(next_from(samples, l1, l2, l3, l4, unitsize, len, mask, from))
+    change_of(next_in(samples, l1, l2, l3, l4, unitsize, len, mask, from))
 }
 
 // The next change or the previous one.
@@ -140,7 +137,7 @@ fn seek<'a>(
     forward: bool,
     from: usize,
 ) -> Change
-    requires { ⌜ Filled unitsize len (now samples) (levelOf (now l1) (now l2) (now l3) (now l4)) ⌝ }
+    requires { ⌜ Stored unitsize len (now samples) (levelOf (now l1) (now l2) (now l3) (now l4)) ⌝ }
     ensures { λ r. ⌜ changeAs r ≡ cond forward (fore unitsize len (now (samples .entry)) (levelOf (now (l1 .entry)) (now (l2 .entry)) (now (l3 .entry)) (now (l4 .entry))) mask) (back unitsize len (now (samples .entry)) (levelOf (now (l1 .entry)) (now (l2 .entry)) (now (l3 .entry)) (now (l4 .entry))) mask) from ⌝ }
 {
     if forward {
@@ -183,7 +180,7 @@ fn end_of<'a>(
     start: bool,
     from: usize,
 ) -> End
-    requires { ⌜ Filled unitsize len (now samples) (levelOf (now l1) (now l2) (now l3) (now l4)) × (2 ≤ gap) ⌝ }
+    requires { ⌜ Stored unitsize len (now samples) (levelOf (now l1) (now l2) (now l3) (now l4)) × (2 ≤ gap) ⌝ }
     ensures { λ r. ⌜ endAs r ≡ jump (reachOf (back unitsize len (now (samples .entry)) (levelOf (now (l1 .entry)) (now (l2 .entry)) (now (l3 .entry)) (now (l4 .entry))) mask) (fore unitsize len (now (samples .entry)) (levelOf (now (l1 .entry)) (now (l2 .entry)) (now (l3 .entry)) (now (l4 .entry))) mask) gap start) (furtherOf start) budget from 0 ⌝ }
 {
     let mut place = from;
@@ -242,7 +239,7 @@ fn one_side<'a>(
     sample: usize,
     found: Change,
 ) -> Side
-    requires { ⌜ Filled unitsize len (now samples) (levelOf (now l1) (now l2) (now l3) (now l4)) ⌝ }
+    requires { ⌜ Stored unitsize len (now samples) (levelOf (now l1) (now l2) (now l3) (now l4)) ⌝ }
     ensures { λ r. ⌜ sideAs r ≡ sideOf (back unitsize len (now (samples .entry)) (levelOf (now (l1 .entry)) (now (l2 .entry)) (now (l3 .entry)) (now (l4 .entry))) mask) (fore unitsize len (now (samples .entry)) (levelOf (now (l1 .entry)) (now (l2 .entry)) (now (l3 .entry)) (now (l4 .entry))) mask) start gap tolerance sample (changeAs found) ⌝ }
 {
     let Change::At(p) = found else {
@@ -292,7 +289,7 @@ fn pair_of<'a>(
     tolerance: usize,
     sample: usize,
 ) -> Side
-    requires { ⌜ Filled unitsize len (now samples) (levelOf (now l1) (now l2) (now l3) (now l4)) ⌝ }
+    requires { ⌜ Stored unitsize len (now samples) (levelOf (now l1) (now l2) (now l3) (now l4)) ⌝ }
     ensures { λ r. ⌜ sideAs r ≡ pairOf (back unitsize len (now (samples .entry)) (levelOf (now (l1 .entry)) (now (l2 .entry)) (now (l3 .entry)) (now (l4 .entry))) mask) (fore unitsize len (now (samples .entry)) (levelOf (now (l1 .entry)) (now (l2 .entry)) (now (l3 .entry)) (now (l4 .entry))) mask) gap tolerance sample ((back unitsize len (now (samples .entry)) (levelOf (now (l1 .entry)) (now (l2 .entry)) (now (l3 .entry)) (now (l4 .entry))) mask) sample) ((fore unitsize len (now (samples .entry)) (levelOf (now (l1 .entry)) (now (l2 .entry)) (now (l3 .entry)) (now (l4 .entry))) mask) sample) ⌝ }
 {
     let before = previous(samples, l1, l2, l3, l4, unitsize, len, mask, sample);

@@ -131,7 +131,7 @@ fn chunks_fwd<'a>(
 }
 
 // The next change after from. Where changes are dense it is one of the next few samples.
-pub fn next_from<'a>(
+fn next_from<'a>(
     samples: &[u8],
     l1: &'a [Mask],
     l2: &'a [Mask],
@@ -196,7 +196,7 @@ fn chunks_back<'a>(
 }
 
 // The last change up to start. Where changes are dense it is one of the few samples before it.
-pub fn prev_from<'a>(
+fn prev_from<'a>(
     samples: &[u8],
     l1: &'a [Mask],
     l2: &'a [Mask],

@@ -7,9 +7,11 @@ use denote.Ref.{now}
 use Rattle.rules.specs.Answer.{given}
 use Rattle.rules.specs.Burst.{Side, End, Burst, pairOf, ends, grown, burstBy}
 use Rattle.node.specs.Memory.{levelOf}
-use Rattle.burst.specs.Answer.{back, fore, sideAs, Filled, burstOf}
+use Rattle.search.specs.Part.{Stored}
+use Rattle.search.proofs.Asked.{asked-stored}
+use Rattle.burst.specs.Answer.{back, fore, sideAs, burstOf}
 use Rattle.burst.proofs.Grown.{burst-empty, burst-narrow, burst-grown}
-use Rattle.burst.proofs.Rows.{filled, burst-refused, burst-given}
+use Rattle.burst.proofs.Rows.{burst-refused, burst-given}
 use Rattle.burst.proofs.burst_at.Statement.{statement}
 use Rattle.burst.proofs.burst_at.Tie as tie
 
@@ -27,12 +29,12 @@ told k b e =
     let s = k .before .before .before .before .before .before .before in
     burst-given (s .args .c) (now (s .args .samples)) (now (s .args .l1)) (now (s .args .l2)) (now (s .args .l3)) (now (s .args .l4)) (k .before .refusal .result) (k .before .refusal .ensures) (s .args .mask) (s .args .sample) (s .args .max-gap) (s .args .tolerance) (s .args .budget) (k .if1 .left) b e
 
--- past the empty capture
-stored : (h : tie.Else2) → let s = h .before .before .before .before .before .before .before .before in Filled (s .args .c .unitsize) (s .args .c .len) (now (s .args .samples)) (levelOf (now (s .args .l1)) (now (s .args .l2)) (now (s .args .l3)) (now (s .args .l4)))
+-- and the capture lies in memory
+stored : (h : tie.Else2) → let s = h .before .before .before .before .before .before .before .before in Stored (s .args .c .unitsize) (s .args .c .len) (now (s .args .samples)) (levelOf (now (s .args .l1)) (now (s .args .l2)) (now (s .args .l3)) (now (s .args .l4)))
 stored h =
     let k = h .before in
     let s = k .before .before .before .before .before .before .before in
-    filled (s .args .c) (now (s .args .samples)) (now (s .args .l1)) (now (s .args .l2)) (now (s .args .l3)) (now (s .args .l4)) (k .before .refusal .result) (k .before .refusal .ensures) (k .if1 .left) (h .if2 .left)
+    asked-stored (s .args .c) (now (s .args .samples)) (now (s .args .l1)) (now (s .args .l2)) (now (s .args .l3)) (now (s .args .l4)) (k .before .refusal .result) (k .before .refusal .ensures) (k .if1 .left)
 
 -- the pair, by the clamped tolerance
 paired : (p : tie.After-pair-of) (side : Option Side) → side ≡ sideAs (p .pair-of .result)
