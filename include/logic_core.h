@@ -143,13 +143,13 @@ uint32_t lc_render(const size_t record[5],
  * Refusals come in the order 1, 2, 12, 13, and then the call's own. A place at or past the end is refused by lc_mill_get
  * alone; any place may be given, up to both ends of int64_t. */
 
-/* Which places there are: first becomes that of the first sample, end the one behind the last, and marked whether there is
- * a mark, which is at 0 then. Without samples both are 0. It takes no grant. Refuses with 1 and 2. */
+/* Which places there are: first becomes that of the first sample, end the one behind the last, and marked 1 where there is a
+ * mark, which is at 0 then, else 0. Without samples both places are 0. It takes no grant. Refuses with 1 and 2. */
 uint32_t lc_mill_extent(const size_t record[5],
                         const uint8_t *samples, size_t samples_len,
                         const uint16_t *l1, size_t l1_len, const uint16_t *l2, size_t l2_len,
                         const uint16_t *l3, size_t l3_len, const uint16_t *l4, size_t l4_len,
-                        int64_t *first, int64_t *end, bool *marked);
+                        int64_t *first, int64_t *end, size_t *marked);
 
 /* As lc_get: the sample at a place. Refuses with 1, 2, 13, and 9 where the place is at or past the end. */
 uint32_t lc_mill_get(const size_t record[5],

@@ -135,9 +135,9 @@ int main(void) {
 
     /* A mill that is granted the encoder's lines: its places count from the mark, and it sees no other line. */
     int64_t run_first, run_end, step;
-    bool marked;
+    size_t marked;
     must(lc_mill_extent(record, LENT(&m), &run_first, &run_end, &marked) == 0, "extent");
-    must(marked && run_first == -(int64_t)mark && run_end == (int64_t)(len - mark), "the mill's places");
+    must(marked == 1 && run_first == -(int64_t)mark && run_end == (int64_t)(len - mark), "the mill's places");
     must(lc_mill_next_change(record, LENT(&m), ENCODER, ENCODER, run_first, &step) == 0, "a mill's next change");
     must(step == (int64_t)first - (int64_t)mark, "the step from the mark");
     uint16_t after[4];

@@ -80,7 +80,7 @@ questions! {
         burst: *mut [usize; 4]
     ) -> u32;
     lc_render(start: f64, spp: f64, width: usize, output: *mut u16, output_len: usize) -> u32;
-    lc_mill_extent(first: *mut i64, end: *mut i64, marked: *mut bool) -> u32;
+    lc_mill_extent(first: *mut i64, end: *mut i64, marked: *mut usize) -> u32;
     lc_mill_get(grant: u16, place: i64, value: *mut u16) -> u32;
     lc_mill_samples(
         grant: u16, start: i64, count: usize, output: *mut u16, output_len: usize,

@@ -8,7 +8,7 @@ pub fn extent(
     lent: Lent,
     first: &mut i64,
     end: &mut i64,
-    marked: &mut bool,
+    marked: &mut usize,
 ) -> u32 {
     lent!(lc_mill_extent, (record), lent, as_ptr, (first, end, marked))
 }

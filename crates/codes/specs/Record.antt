@@ -1,5 +1,5 @@
 -- The numbers of a capture's record: unit, capacity, len, whether there is a mark (not 0), the mark. And how answers are written as numbers.
-use mathlib.Core.Bool.{cond}
+use mathlib.Core.Bool.{Bool, cond}
 use mathlib.Core.List.{List, [], _∷_}
 use mathlib.Core.Option.{Option, none, some}
 use Prim.Native.Nat.{ℕ}
@@ -41,6 +41,10 @@ burstNumbers b old = sets old 0 (b .first ∷ b .last ∷ b .jumps-end ∷ b .ju
 -- a number behind a pointer of its own
 abbrev pub number : ℕ → ℕ → ℕ
 number v old = v
+
+-- yes or no as a number
+abbrev pub flagNumber : Bool → ℕ
+flagNumber b = cond b 1 0
 
 abbrev pub placeLevel : Place → ℕ → ℕ
 placeLevel p old = p .level

@@ -14,6 +14,7 @@ use search::Found;
 use summary::Summed;
 use whole::Checked;
 ghost use mathlib.Core.Path.{_≡_};
+ghost use mathlib.Core.Bool.{Bool};
 ghost use Rattle.capture.specs.Record.{storeOf};
 ghost use Rattle.capture.specs.Calls.{neededOf, startedOf, gotOf, copiedOf};
 ghost use Rattle.append.specs.Append.{numberOf, recordOf};
@@ -22,7 +23,7 @@ ghost use Rattle.whole.specs.Wrong.{checkedOf};
 ghost use Rattle.search.specs.Answer.{foundOf};
 ghost use Rattle.burst.specs.Answer.{burstAs};
 ghost use Rattle.render.specs.Render.{drawnOf};
-ghost use Rattle.codes.specs.Record.{captureIn, storeNumbers, lenNumber, lentNumbers, nodeNumbers, burstNumbers, number, placeLevel, placeNumber};
+ghost use Rattle.codes.specs.Record.{captureIn, storeNumbers, lenNumber, lentNumbers, nodeNumbers, burstNumbers, number, flagNumber, placeLevel, placeNumber};
 ghost use Rattle.codes.specs.Code.{wrote, plain, perhaps, fault, Out};
 
 pub const NONE: u32 = 100;
@@ -32,6 +33,13 @@ pub fn code(n: u8) -> u32
     ensures { λ r. ⌜ r ≡ n ⌝ }
 {
     n as u32
+}
+
+// Yes or no as a number.
+pub fn flag(b: bool) -> usize
+    ensures { λ r. ⌜ r ≡ flagNumber b ⌝ }
+{
+    if b { 1 } else { 0 }
 }
 
 // The record of a capture from its numbers.

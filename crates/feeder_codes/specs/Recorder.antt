@@ -10,9 +10,7 @@ use Rattle.feeder.specs.declared.Pretrigger.the-variants.{Fraction, Seconds}
 use Rattle.feeder.specs.Start.{Begun}
 use Rattle.feeder_numbers.specs.Numbers.{recorderNumbers, pushedNumbers}
 use Rattle.codes.specs.Code.{noneCode}
-
-abbrev pub flagNumber : Bool → ℕ
-flagNumber b = cond b 1 0
+use Rattle.codes.specs.Record.{flagNumber}
 
 abbrev pub wishIn : Bool → Float → Pretrigger
 wishIn seconds x = cond seconds (Seconds x) (Fraction x)

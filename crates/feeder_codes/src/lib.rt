@@ -1,6 +1,7 @@
 // What the C boundary says of the recorder's answers: a code as `codes` has it, and its record as 17 numbers.
 use codes::NONE;
 use codes::code;
+use codes::flag;
 use feeder::Pretrigger;
 use feeder::Started;
 use feeder_push::Pushed;
@@ -10,14 +11,7 @@ ghost use Rattle.feeder.specs.Record.{recorderOf};
 ghost use Rattle.feeder.specs.Start.{startedOf};
 ghost use Rattle.feeder_push.specs.Push.{replyAs, feederIn};
 ghost use Rattle.codes.specs.Code.{plain, Out};
-ghost use Rattle.feeder_codes.specs.Recorder.{flagNumber, wishIn, begunNumbers, cutNumber, replyCode, numbersAfter};
-
-// Yes or no as a number.
-fn flag(b: bool) -> usize
-    ensures { λ r. ⌜ r ≡ flagNumber b ⌝ }
-{
-    if b { 1 } else { 0 }
-}
+ghost use Rattle.feeder_codes.specs.Recorder.{wishIn, begunNumbers, cutNumber, replyCode, numbersAfter};
 
 // What is asked for from before the trigger: seconds, or else a fraction of the limit.
 pub fn wish_in(seconds: bool, wish: f64) -> Pretrigger

@@ -3,13 +3,12 @@ use codes::capture_in;
 use lines::Mask;
 use pixel::View;
 ghost use mathlib.Core.Path.{_≡_};
-ghost use mathlib.Core.Bool.{Bool};
 ghost use lib.IntN.{ℤ};
 ghost use Rattle.node.specs.Memory.{levelOf};
 ghost use Rattle.mill_search.specs.Answer.{nextOf, previousOf, burstOf};
 ghost use Rattle.codes.specs.Record.{captureIn, nodeNumbers, number};
 ghost use Rattle.codes.specs.Code.{plain, perhaps, Out};
-ghost use Rattle.mill_codes.specs.Written.{firstPlace, endPlace, markedFlag, place, burstFirst, burstLast, jumpNumbers};
+ghost use Rattle.mill_codes.specs.Written.{firstPlace, endPlace, markedNumber, place, burstFirst, burstLast, jumpNumbers};
 ghost use Rattle.logic_core.specs.Mill.{boundedFor, gotFor, summedFor, CopiesOut, DrawsOut};
 
 // The places that the run has, from first on and below end, and whether place 0 is a mark. Refuses with 1 and 2.
@@ -23,9 +22,9 @@ pub extern "C" fn lc_mill_extent<'a>(
     l4: &'a [Mask],
     first: &mut i64,
     end: &mut i64,
-    marked: &mut bool,
+    marked: &mut usize,
 ) -> u32
-    ensures { λ r. ⌜ Out firstPlace (plain (boundedFor (captureIn (now (numbers .entry))) (now (samples .entry)) (levelOf (now (l1 .entry)) (now (l2 .entry)) (now (l3 .entry)) (now (l4 .entry))))) r (now (first .entry)) (now (first .exit)) × Out endPlace (plain (boundedFor (captureIn (now (numbers .entry))) (now (samples .entry)) (levelOf (now (l1 .entry)) (now (l2 .entry)) (now (l3 .entry)) (now (l4 .entry))))) r (now (end .entry)) (now (end .exit)) × Out markedFlag (plain (boundedFor (captureIn (now (numbers .entry))) (now (samples .entry)) (levelOf (now (l1 .entry)) (now (l2 .entry)) (now (l3 .entry)) (now (l4 .entry))))) r (now (marked .entry)) (now (marked .exit)) ⌝ }
+    ensures { λ r. ⌜ Out firstPlace (plain (boundedFor (captureIn (now (numbers .entry))) (now (samples .entry)) (levelOf (now (l1 .entry)) (now (l2 .entry)) (now (l3 .entry)) (now (l4 .entry))))) r (now (first .entry)) (now (first .exit)) × Out endPlace (plain (boundedFor (captureIn (now (numbers .entry))) (now (samples .entry)) (levelOf (now (l1 .entry)) (now (l2 .entry)) (now (l3 .entry)) (now (l4 .entry))))) r (now (end .entry)) (now (end .exit)) × Out markedNumber (plain (boundedFor (captureIn (now (numbers .entry))) (now (samples .entry)) (levelOf (now (l1 .entry)) (now (l2 .entry)) (now (l3 .entry)) (now (l4 .entry))))) r (now (marked .entry)) (now (marked .exit)) ⌝ }
 {
     let answer = mill_read::extent(capture_in(numbers), samples, l1, l2, l3, l4);
     mill_codes::bounded_code(answer, first, end, marked)

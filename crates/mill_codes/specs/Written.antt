@@ -1,10 +1,10 @@
 -- How a mill's answers are written behind pointers.
-use mathlib.Core.Bool.{Bool}
 use mathlib.Core.List.{List, [], _∷_}
 use Prim.Native.Nat.{ℕ}
 use lib.IntN.{ℤ}
 use lib.Seq.{sets}
 use Rattle.rules.specs.Mill.{MillBurst}
+use Rattle.codes.specs.Record.{flagNumber}
 use Rattle.mill_read.specs.Read.{Extent}
 
 -- a place behind a pointer of its own
@@ -17,8 +17,8 @@ firstPlace e old = e .first
 abbrev pub endPlace : Extent → ℤ → ℤ
 endPlace e old = e .end
 
-abbrev pub markedFlag : Extent → Bool → Bool
-markedFlag e old = e .marked
+abbrev pub markedNumber : Extent → ℕ → ℕ
+markedNumber e old = flagNumber (e .marked)
 
 abbrev pub burstFirst : MillBurst → ℤ → ℤ
 burstFirst b old = b .first

@@ -1,19 +1,19 @@
 // What the C boundary says of a mill's answers: a code, and numbers behind out pointers, as `codes` says of the service's. 02: CR 1.
 use codes::NONE;
 use codes::code;
+use codes::flag;
 use mill_read::Bounded;
 use mill_search::Bursts;
 use mill_search::Found;
 ghost use mathlib.Core.Path.{_≡_};
-ghost use mathlib.Core.Bool.{Bool};
 ghost use lib.IntN.{ℤ};
 ghost use Rattle.codes.specs.Code.{plain, perhaps, Out};
 ghost use Rattle.mill_read.specs.Read.{boundedOf};
 ghost use Rattle.mill_search.specs.Answer.{foundOf, burstAs};
-ghost use Rattle.mill_codes.specs.Written.{firstPlace, endPlace, markedFlag, place, burstFirst, burstLast, jumpNumbers};
+ghost use Rattle.mill_codes.specs.Written.{firstPlace, endPlace, markedNumber, place, burstFirst, burstLast, jumpNumbers};
 
-pub fn bounded_code(answer: Bounded, first: &mut i64, end: &mut i64, marked: &mut bool) -> u32
-    ensures { λ r. ⌜ Out firstPlace (plain (boundedOf answer)) r (now (first .entry)) (now (first .exit)) × Out endPlace (plain (boundedOf answer)) r (now (end .entry)) (now (end .exit)) × Out markedFlag (plain (boundedOf answer)) r (now (marked .entry)) (now (marked .exit)) ⌝ }
+pub fn bounded_code(answer: Bounded, first: &mut i64, end: &mut i64, marked: &mut usize) -> u32
+    ensures { λ r. ⌜ Out firstPlace (plain (boundedOf answer)) r (now (first .entry)) (now (first .exit)) × Out endPlace (plain (boundedOf answer)) r (now (end .entry)) (now (end .exit)) × Out markedNumber (plain (boundedOf answer)) r (now (marked .entry)) (now (marked .exit)) ⌝ }
 {
     match answer {
         Bounded::Refused(n) => code(n),
@@ -22,7 +22,7 @@ pub fn bounded_code(answer: Bounded, first: &mut i64, end: &mut i64, marked: &mu
             let past = b.end;
             *first = lowest;
             *end = past;
-            *marked = b.marked;
+            *marked = flag(b.marked);
             0
         }
     }

@@ -56,7 +56,7 @@ declare! {
         start: f64, spp: f64, width: usize, output: *mut u16, output_len: usize
     ) -> u32;
     fn lc_mill_extent(
-        record: *const usize; *const u8, *const u16; first: *mut i64, end: *mut i64, marked: *mut bool
+        record: *const usize; *const u8, *const u16; first: *mut i64, end: *mut i64, marked: *mut usize
     ) -> u32;
     fn lc_mill_get(record: *const usize; *const u8, *const u16; grant: u16, place: i64, value: *mut u16) -> u32;
     fn lc_mill_samples(
@@ -272,14 +272,14 @@ pub fn render(
 }
 
 pub fn mill_extent(record: &Record, memory: &Memory) -> Result<Extent, Refusal> {
-    let (mut first, mut end, mut marked) = (0, 0, false);
+    let (mut first, mut end, mut marked) = (0, 0, 0);
     let code = call!(
         lc_mill_extent,
         (record.as_ptr()),
         memory.as_ptr,
         (&mut first, &mut end, &mut marked)
     );
-    answered(code).map(|_| Extent { first, end, marked })
+    answered(code).map(|_| Extent { first, end, marked: marked != 0 })
 }
 
 pub fn mill_get(

@@ -11,7 +11,7 @@ impl Port {
     pub fn mill(&mut self, Mill { grant, ask }: Mill) -> Answer {
         match ask {
             Ask::Extent => {
-                let before = (-71, -72, true);
+                let before = (-71, -72, 73);
                 let (mut first, mut end, mut marked) = before;
                 let (record, lent) = (&self.record, self.lent());
                 let code = port::mill::extent(record, lent, &mut first, &mut end, &mut marked);

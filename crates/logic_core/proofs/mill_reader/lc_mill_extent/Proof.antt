@@ -5,7 +5,7 @@ use Rattle.node.specs.Memory.{levelOf}
 use Rattle.capture.specs.declared.Capture.{Capture}
 use Rattle.mill_read.specs.Read.{boundedOf}
 use Rattle.codes.specs.Code.{plain}
-use Rattle.mill_codes.specs.Written.{firstPlace, endPlace, markedFlag}
+use Rattle.mill_codes.specs.Written.{firstPlace, endPlace, markedNumber}
 use Rattle.logic_core.specs.Mill.{boundedFor}
 use Rattle.logic_core.proofs.Codes.{told-by}
 use Rattle.logic_core.proofs.mill_reader.lc_mill_extent.Statement.{statement}
@@ -25,7 +25,7 @@ returns c =
     let a = c .before .before .before .before .before .before .before .before .before .before .before .args in (
       told-by firstPlace plain boundedOf (λ (x : Capture). boundedFor x (now (a .samples)) (levelOf (now (a .l1)) (now (a .l2)) (now (a .l3)) (now (a .l4)))) (c .before .before .before .before .extent .result) _ _ _ (c .before .before .before .before .before .capture-in .ensures) (c .before .before .before .before .extent .ensures) (c .bounded-code .ensures .0),
       told-by endPlace plain boundedOf (λ (x : Capture). boundedFor x (now (a .samples)) (levelOf (now (a .l1)) (now (a .l2)) (now (a .l3)) (now (a .l4)))) (c .before .before .before .before .extent .result) _ _ _ (c .before .before .before .before .before .capture-in .ensures) (c .before .before .before .before .extent .ensures) (c .bounded-code .ensures .1),
-      told-by markedFlag plain boundedOf (λ (x : Capture). boundedFor x (now (a .samples)) (levelOf (now (a .l1)) (now (a .l2)) (now (a .l3)) (now (a .l4)))) (c .before .before .before .before .extent .result) _ _ _ (c .before .before .before .before .before .capture-in .ensures) (c .before .before .before .before .extent .ensures) (c .bounded-code .ensures .2),
+      told-by markedNumber plain boundedOf (λ (x : Capture). boundedFor x (now (a .samples)) (levelOf (now (a .l1)) (now (a .l2)) (now (a .l3)) (now (a .l4)))) (c .before .before .before .before .extent .result) _ _ _ (c .before .before .before .before .before .capture-in .ensures) (c .before .before .before .before .extent .ensures) (c .bounded-code .ensures .2),
     )
 
 pub lc-mill-extent-spec : {M : Type 1} → statement M
