@@ -50,7 +50,7 @@ impl Wave {
         }
         let count = to - from;
         let width = count.min(width as Place) as usize;
-        let view = View { start: from as f64, spp: count as f64 / width as f64 };
+        let view = view(from, to, width);
         let pixels = reader.render(view, width + 1)?;
         // Past the capture's end there is no next pixel: the last sample is what is left.
         let last =
@@ -98,6 +98,17 @@ impl Wave {
     }
 }
 
+/// The view of these places in so many columns. The last column ends at `to` exactly: where the quotient is rounded down, the
+/// edge would fall just short of it, and a change there be left out.
+fn view(from: Place, to: Place, width: usize) -> View {
+    let (start, end) = (from as f64, to as f64);
+    let mut spp = (end - start) / width as f64;
+    while (start + width as f64 * spp).floor() < end {
+        spp = spp.next_up();
+    }
+    View { start, spp }
+}
+
 #[cfg(test)]
 mod tests {
     use super::*;
@@ -126,6 +137,20 @@ mod tests {
         assert_eq!(steps(&samples, 0, 16, 4), [Pulse, Rise, Dip, Fall]);
         // The change into the next column counts for the column that it leaves.
         assert_eq!(steps(&samples, 0, 12, 2), [Rise, Dip]);
+    }
+
+    #[test]
+    fn the_last_column_ends_at_the_place_asked() {
+        for width in 1..120 {
+            for count in width..1_000 {
+                let view = view(7, 7 + count as Place, width);
+                assert_eq!((view.start + width as f64 * view.spp).floor() as usize, 7 + count);
+            }
+        }
+        // 49 × (54 / 49) is rounded to less than 54.
+        let mut samples = [0; 60];
+        samples[54..].fill(1);
+        assert_eq!(steps(&samples, 0, 54, 49).last(), Some(&Rise));
     }
 
     #[test]
