@@ -10,6 +10,7 @@ use crate::op::Op;
 use crate::port::Port;
 use crate::shapes::{mask, Size, CHUNK};
 use crate::side::Side;
+use crate::unfinished::Unfinished;
 use crate::write::{file_name, path};
 use rng::Rng;
 use std::time::{Duration, Instant};
@@ -88,6 +89,7 @@ fn random(seconds: u64, seed: u64) -> bool {
     let mut list = List::with_port();
     let mut rng = Rng::new(seed);
     let mut mills = Mills::default();
+    let mut unfinished = Unfinished::default();
     let mut longs = 0;
     while begun.elapsed() < Duration::from_secs(seconds) {
         let group = &GROUPS[rng.below(GROUPS.len() as u64) as usize];
@@ -101,6 +103,7 @@ fn random(seconds: u64, seed: u64) -> bool {
             _ => (group.random)(&mut list, &mut rng, Size::Short),
         }
         mills.ask(&mut list, &mut rng);
+        unfinished.ask(&mut list, &mut rng);
         list.text();
     }
     let asker = list.asker();
@@ -120,6 +123,7 @@ fn random(seconds: u64, seed: u64) -> bool {
         by_rust + refused + alone,
         mills.twice,
     );
+    println!("beside these, {} appends and pushes over memory that no call made", unfinished.made);
     asker.differences.is_empty()
 }
 

@@ -17,6 +17,7 @@ mod port;
 mod rust;
 mod shapes;
 mod side;
+mod unfinished;
 mod write;
 
 use std::process::ExitCode;

@@ -51,8 +51,8 @@ module _ (f : Feeder) (s : List ℕ) (lv : ℕ → List ℕ) (g b : List ℕ) wh
   n = countOf u b
 
   -- no sample went to the store: no level changed
-  levels-stay : (s′ : List ℕ) (l : ℕ) → lv l ≡ levelAfter (firstNodes u s′ (f .capture .len)) lv (f .capture .len) (f .capture .len - f .capture .len) l
-  levels-stay s′ l = sym (after-none (firstNodes u s′ (f .capture .len)) lv (f .capture .len) (f .capture .len - f .capture .len) l (sub-self (f .capture .len)))
+  levels-stay : (s′ : List ℕ) (l : ℕ) → lv l ≡ levelAfter (firstNodes u s′ (lv 1) (f .capture .len) (f .capture .len)) lv (f .capture .len) (f .capture .len - f .capture .len) l
+  levels-stay s′ l = sym (after-none (firstNodes u s′ (lv 1) (f .capture .len) (f .capture .len)) lv (f .capture .len) (f .capture .len - f .capture .len) l (sub-self (f .capture .len)))
 
   pub pushed-refused : (k : ℕ) → k ≡ recorderRefusal c lent (length g) → (k ≡ 0 → ⊥) → Pushes f b s lv g (Refused k f) s lv g
   unfolding leftOf
@@ -122,5 +122,5 @@ module _ (f : Feeder) (s : List ℕ) (lv : ℕ → List ℕ) (g b : List ℕ) wh
       pub pushed-waited : n ≤ i → (w : Feeder) (g′ : List ℕ) → Waits c n b g w g′ → Pushes f b s lv g (GoingOn w) s lv g′
       pushed-waited h w g′ d = record {
         left-is = (λ j. record { reply = going-on; recorder = d .recorder-is j; samples = s; ring = d .ring-is j }) ∙ sym (pushed-is ∙ armed-is ∙ rw (le-ltb i n h));
-        levels-are = λ l p q. levels-stay s l ∙ ap (λ (k : ℕ). levelAfter (firstNodes u s k) lv (f .capture .len) (k - f .capture .len) l) (sym (ap (λ (x : Recorder). x .store .len) (d .recorder-is)));
+        levels-are = λ l p q. levels-stay s l ∙ ap (λ (k : ℕ). levelAfter (firstNodes u s (lv 1) (f .capture .len) k) lv (f .capture .len) (k - f .capture .len) l) (sym (ap (λ (x : Recorder). x .store .len) (d .recorder-is)));
       }

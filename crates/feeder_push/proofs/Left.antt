@@ -66,7 +66,7 @@ module _ (back c : Recorder) (n : ℕ) (x s : List ℕ) (lv : ℕ → List ℕ) 
   unfolding storeBytes
   stores-none d a = record {
     left-is = λ g. rw (not-some (leb (c .store .len + storable c n) (c .store .capacity)) (storable c n) (d .taken-is)) (λ i. record { reply = a .reply-is i; recorder = a .recorder-is i; samples = none-samples (d .memory) refl i; ring = g });
-    levels-are = λ l p q. none-levels (d .memory) refl l p q ∙ sym (after-none (firstNodes (c .store .unit) s′ (feederIn r .capture .len)) lv (c .store .len) (feederIn r .capture .len - c .store .len) l none-more);
+    levels-are = λ l p q. none-levels (d .memory) refl l p q ∙ sym (after-none (firstNodes (c .store .unit) s′ (lv 1) (c .store .len) (feederIn r .capture .len)) lv (c .store .len) (feederIn r .capture .len - c .store .len) l none-more);
   }
     where
       len-left : feederIn r .capture .len ≡ c .store .len
@@ -79,7 +79,7 @@ module _ (back c : Recorder) (n : ℕ) (x s : List ℕ) (lv : ℕ → List ℕ) 
   unfolding storeBytes
   stores-some k d a = record {
     left-is = λ g. rw (which .0, which .1) (λ i. record { reply = reply-left i; recorder = a .recorder-is i; samples = samples-left i; ring = g });
-    levels-are = λ l p q. d .memory .levels-are l p q ∙ ap₂ (λ (end m : ℕ). levelAfter (firstNodes (c .store .unit) s′ end) lv (c .store .len) m l) (sym len-left) more;
+    levels-are = λ l p q. d .memory .levels-are l p q ∙ ap₂ (λ (end m : ℕ). levelAfter (firstNodes (c .store .unit) s′ (lv 1) (c .store .len) end) lv (c .store .len) m l) (sym len-left) more;
   }
     where
       which : (leb (c .store .len + storable c n) (c .store .capacity) ≡ true) × (storable c n ≡ k)

@@ -1,3 +1,4 @@
 pub mod Left
 pub mod Fires
 pub mod Answered
+pub mod Written

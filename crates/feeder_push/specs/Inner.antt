@@ -44,7 +44,7 @@ pub record Stores (back c : Recorder) (n : ℕ) (x samples : List ℕ) (levels :
   pub levels-are :
       (l : ℕ) → 1 ≤ l → l ≤ topLevel →
       levels′ l
-      ≡ levelAfter (firstNodes (c .store .unit) samples′ (feederIn answer .capture .len)) levels (c .store .len) (feederIn answer .capture .len - c .store .len) l
+      ≡ levelAfter (firstNodes (c .store .unit) samples′ (levels 1) (c .store .len) (feederIn answer .capture .len)) levels (c .store .len) (feederIn answer .capture .len - c .store .len) l
 
 -- ---- a push
 -- no row refuses the recorder and its memory, and n samples are in the bytes

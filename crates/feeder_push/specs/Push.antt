@@ -36,7 +36,7 @@ leftOf c lent samples ring bytes =
     (pushBytes c samples ring bytes)
     (record { reply = refused (recorderRefusal c lent (length ring)); recorder = c; samples = samples; ring = ring })
 
--- a push of bytes, over any memory: its answer, and what it leaves. A node that covers a new sample is made anew
+-- a push of bytes, over any memory: its answer, and what it leaves. Each node that covers a new sample is made: 01, Store, and 02, CR 2
 pub record Pushes (f : Feeder) (bytes samples : List ℕ) (levels : ℕ → List ℕ) (ring : List ℕ) (answer : Pushed) (samples′ : List ℕ) (levels′ : ℕ → List ℕ) (ring′ : List ℕ) : Type 0 where
   pub left-is :
       record { reply = replyAs answer; recorder = recorderOf (feederIn answer); samples = samples′; ring = ring′ }
@@ -44,4 +44,4 @@ pub record Pushes (f : Feeder) (bytes samples : List ℕ) (levels : ℕ → List
   pub levels-are :
       (l : ℕ) → 1 ≤ l → l ≤ topLevel →
       levels′ l
-      ≡ levelAfter (firstNodes (f .capture .unitsize) samples′ (feederIn answer .capture .len)) levels (f .capture .len) (feederIn answer .capture .len - f .capture .len) l
+      ≡ levelAfter (firstNodes (f .capture .unitsize) samples′ (levels 1) (f .capture .len) (feederIn answer .capture .len)) levels (f .capture .len) (feederIn answer .capture .len - f .capture .len) l

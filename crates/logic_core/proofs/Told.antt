@@ -53,7 +53,7 @@ short-told numbers bytes samples levels ring numbers′ ring′ d = record {
     left = sym (d .left-is samples)
 
     same : (l : ℕ) → levels l ≡ levelFor (getD numbers 0 0) samples levels (getD numbers 2 0) (getD numbers 2 0) l
-    same l = sym (after-none (firstNodes (getD numbers 0 0) samples (getD numbers 2 0)) levels (getD numbers 2 0) (getD numbers 2 0 - getD numbers 2 0) l (sub-self (getD numbers 2 0)))
+    same l = sym (after-none (firstNodes (getD numbers 0 0) samples (levels 1) (getD numbers 2 0) (getD numbers 2 0)) levels (getD numbers 2 0) (getD numbers 2 0 - getD numbers 2 0) l (sub-self (getD numbers 2 0)))
 
 -- the two answers of a short push, t
 module _ (bytes samples l1 l2 l3 l4 : List ℕ) (numbers ring numbers₁ ring₁ : List ℕ) (t : Bool) (d : ShortAfter t numbers (lentNumbers (length samples) (length l1) (length l2) (length l3) (length l4)) ring bytes numbers₁ ring₁) where

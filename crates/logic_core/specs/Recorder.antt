@@ -25,7 +25,7 @@ begunFor channels capacity limit terms seconds wish rate samples levels ring =
 -- ---- push
 -- level l once the samples are those from len up to end
 abbrev pub levelFor : ℕ → List ℕ → (ℕ → List ℕ) → ℕ → ℕ → ℕ → List ℕ
-levelFor unit samples levels len end l = levelAfter (firstNodes unit samples end) levels len (end - len) l
+levelFor unit samples levels len end l = levelAfter (firstNodes unit samples (levels 1) len end) levels len (end - len) l
 
 -- what push leaves
 abbrev pub leftFor : Feeder → List ℕ → List ℕ → (ℕ → List ℕ) → List ℕ → Left

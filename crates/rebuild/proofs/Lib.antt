@@ -1,4 +1,5 @@
 pub mod Nodes
 pub mod Packed
 pub mod Raw
+pub mod Running
 pub mod Right

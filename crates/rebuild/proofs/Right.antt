@@ -15,9 +15,10 @@ use Rattle.rules.specs.Refusal.{nodeSize}
 use Rattle.rules.proofs.Node.{node-join, node-same}
 use Rattle.rules.proofs.Walk.{span-pos}
 use Rattle.node.specs.Memory.{nodeIn, Right, RightAt}
-use Rattle.rebuild.specs.Rebuild.{putNodes, joinOver, madeOver, touched, built, levelAfter}
+use Rattle.rebuild.specs.Rebuild.{putNodes, joinOver, madeOver, runningNodes, touched, built, levelAfter}
 use Rattle.rebuild.specs.Room.{Roomy}
 use Rattle.rebuild.proofs.Nodes.{length-puts, puts-rest, puts-other, puts-at}
+use Rattle.rebuild.proofs.Running.{running-right}
 
 -- nodes of w samples, of which the first len are stored, partial last ones too
 abbrev True : (ℕ → ℕ) → ℕ → ℕ → (ℕ → Node) → Type 0
@@ -168,16 +169,24 @@ module _ (first : ℕ → Node) (levels : ℕ → List ℕ) (len n l : ℕ) wher
       pick false = built-puts first levels len (len + n - 1) l (λ x. getD x k 0 ≡ getD (levels l) k 0) refl
           (λ f. puts-rest f (touched len (len + n - 1) l) (levels l) (len / span l) k (apart (len / span l) ((len + n - 1) / span l) h))
 
+-- ---- what is written
+-- each touched node of level 1 is what `first` makes
+pub first-after : (first : ℕ → Node) (levels : ℕ → List ℕ) (len n j : ℕ) → (n ≡ 0 → ⊥) → Roomy (len + n) levels → len / 32 ≤ j → j * 32 < len + n → nodeIn (levelAfter first levels len n 1) j ≡ first j
+unfolding built
+first-after first levels len n j some room low high =
+    ap (λ (x : List ℕ). nodeIn x j) (after-some first levels len n 1 some)
+    ∙ puts-at first (touched len (len + n - 1) 1) (levels 1) (len / 32) j (omega (arith, room 1 ((len + n - 1) / 32) (omega arith) (omega arith) (omega arith))) low (omega arith)
+
 -- ---- right levels, before and after
 -- levels that are right for samples are right for others that agree with them
 pub right-same : (s t : ℕ → ℕ) (levels : ℕ → List ℕ) (len : ℕ) → ((i : ℕ) → i < len → s i ≡ t i) → Right s len levels → Right t len levels
 right-same s t levels len agree right l p q j h =
     right l p q j h ∙ node-same s t (j * span l) (min (suc j * span l) len) (omega (arith, span-pos l)) (λ i a b. agree i (omega arith))
 
--- once n samples have joined len, and the nodes of level 1 are made from them
+-- once n samples have joined len: the unfinished node of level 1 from what it was, the others from the samples
 module _ (s t : ℕ → ℕ) (levels : ℕ → List ℕ) (len n : ℕ) (room : (n ≡ 0 → ⊥) → Roomy (len + n) levels) (agree : (i : ℕ) → i < len → s i ≡ t i) (right : Right s len levels) where
   abbrev first-of : ℕ → Node
-  first-of = levelNode t (len + n) 1
+  first-of = runningNodes t (levels 1) len (len + n)
 
   none-right : n ≡ 0 → Right t (len + n) (λ l. levelAfter first-of levels len n l)
   none-right e l p q =
@@ -198,7 +207,7 @@ module _ (s t : ℕ → ℕ) (levels : ℕ → List ℕ) (len n : ℕ) (room : (
       made-right : Right t (suc (len + n - 1)) (built first-of levels len (len + n - 1))
       made-right =
           built-right s t levels len (len + n - 1) (omega (arith, end)) (λ k j a c h. room e k j a c (omega (arith, end))) agree right first-of
-          (λ j _ _. ap (λ (k : ℕ). levelNode t k 1 j) (sym end))
+          (λ j a h. running-right s t (levels 1) len (len + n) j a (omega (arith, end)) (omega arith) (right 1 (omega arith) (omega arith) j) agree ∙ ap (λ (k : ℕ). levelNode t k 1 j) (sym end))
 
   pub after-right : Right t (len + n) (λ l. levelAfter first-of levels len n l)
   after-right = pick (ℕ-discrete n 0)

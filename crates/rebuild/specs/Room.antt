@@ -21,6 +21,16 @@ pub record FirstRoom (unit base first top part level : ℕ) : Type 0 where
   pub samples : top * unit + unit ≤ base * unit + part
   pub nodes : top / 32 * nodeSize + nodeSize ≤ level
 
+-- the same where the samples from place len on are new; the part may start at any place up to len
+pub record JoinRoom (unit base len top part level : ℕ) : Type 0 where
+  pub low : 1 ≤ unit
+  pub high : unit ≤ 2
+  pub fits : top < mostSamples
+  pub some : len ≤ top
+  pub from : base ≤ len
+  pub samples : top * unit + unit ≤ base * unit + part
+  pub nodes : top / 32 * nodeSize + nodeSize ≤ level
+
 -- the level below has the nodes up to top, and the level has theirs
 pub record LevelRoom (top below level : ℕ) : Type 0 where
   pub nodes-below : top * nodeSize + nodeSize ≤ below

@@ -1,4 +1,5 @@
-// Nodes made anew: level 1 from the samples of a chunk's part, and each higher level from the one below.
+// Nodes made: level 1 from the samples of a chunk's part, the unfinished one from what it is and the new samples alone;
+// each higher level anew from the one below.
 mod word;
 
 use level::span;
@@ -18,8 +19,8 @@ ghost use Rattle.rules.specs.Node.{nodeOf};
 ghost use Rattle.rules.specs.Refusal.{nodeSize};
 ghost use Rattle.rules.specs.Sample.{sampleOf};
 ghost use Rattle.node.specs.Memory.{asNode, nodeIn};
-ghost use Rattle.rebuild.specs.Rebuild.{putNodes, joinOver, joinOn, madeOver, firstRaised, raised};
-ghost use Rattle.rebuild.specs.Room.{RangeIn, FirstRoom, LevelRoom, RaiseRoom};
+ghost use Rattle.rebuild.specs.Rebuild.{putNodes, joinOver, joinOn, madeOver, firstRaised, firstJoined, partSample, runningNodes, raised, Joined};
+ghost use Rattle.rebuild.specs.Room.{RangeIn, FirstRoom, JoinRoom, LevelRoom, RaiseRoom};
 
 // Nodes of a level that make one of the next.
 const FAN: usize = 32;
@@ -101,25 +102,51 @@ fn end_of(a: usize, top: usize) -> usize
     if top - a < FAN { top + 1 } else { a + FAN }
 }
 
-// The nodes of level 1 from number first on, from the samples of a part that starts at place base, up to place top.
+// The nodes of level 1 that cover one of the places len to top, from the samples of a part that starts at place base.
 // In unit 1 whole nodes are made by a loop of their own, which is what long pushes spend their time on.
 pub fn rebuild_first(
     part: &[u8],
     level: &mut [Mask],
     unitsize: usize,
     base: usize,
-    first: usize,
+    len: usize,
     top: usize,
 )
-    requires { ⌜ FirstRoom unitsize base first top (length (now part)) (length (now level)) ⌝ }
-    ensures { λ _. ⌜ now (level .exit) ≡ firstRaised unitsize (now (part .entry)) base top (now (level .entry)) first ⌝ }
+    requires { ⌜ JoinRoom unitsize base len top (length (now part)) (length (now level)) ⌝ }
+    ensures { λ _. ⌜ now (level .exit) ≡ firstJoined unitsize (now (part .entry)) base len top (now (level .entry)) ⌝ }
 {
+    let first = join_unfinished(part, level, unitsize, base, len, top);
     if unitsize == 1 {
         let rest = rebuild_whole(part, level, base, first, top);
         rebuild_each(part, level, 1, base, rest, top);
     } else {
         rebuild_each(part, level, unitsize, base, first, top);
     }
+}
+
+// The node of level 1 that the samples before len left unfinished, if there is one: the new samples join it, and those before are not read.
+// The answer is the number of the first node that starts with a new sample.
+fn join_unfinished(
+    part: &[u8],
+    level: &mut [Mask],
+    unitsize: usize,
+    base: usize,
+    len: usize,
+    top: usize,
+) -> usize
+    requires { ⌜ JoinRoom unitsize base len top (length (now part)) (length (now level)) ⌝ }
+    ensures { λ r. ⌜ Joined (runningNodes (partSample unitsize (now (part .entry)) base) (now (level .entry)) len (top + 1)) len (now (level .entry)) (now (level .exit)) r ⌝ }
+{
+    let j = len / FAN;
+    let a = j * FAN;
+    if a == len {
+        return j;
+    }
+    let b = end_of(a, top);
+    let kept = node_in(&level[..], j);
+    let new = raw_node(part, unitsize, len - base, b - base);
+    put_node(level, j, kept.join(new));
+    j + 1
 }
 
 // The whole ones of these nodes, in unit 1. The others are left to make, from the number answered on.

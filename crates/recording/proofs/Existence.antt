@@ -84,7 +84,7 @@ module _ (f : Feeder) (m : Memory) (bytes : List ℕ) where
   answer = told .0
 
   abbrev level : ℕ → List ℕ
-  level l = levelAfter (firstNodes (f .capture .unitsize) (left .samples) (feederIn answer .capture .len)) (levels m) (f .capture .len) (feederIn answer .capture .len - f .capture .len) l
+  level l = levelAfter (firstNodes (f .capture .unitsize) (left .samples) (levels m 1) (f .capture .len) (feederIn answer .capture .len)) (levels m) (f .capture .len) (feederIn answer .capture .len - f .capture .len) l
 
   abbrev after : Memory
   after = record { samples = left .samples; l1 = level 1; l2 = level 2; l3 = level 3; l4 = level 4; ring = left .ring }

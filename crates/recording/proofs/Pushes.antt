@@ -1,30 +1,22 @@
 -- A list of pushes, by push's contract alone: each leaves what one push over the record and its memory leaves, finds it within bounds, and keeps the levels right.
-use mathlib.Core.Path.{_≡_, refl, sym, ap, ap₂, _∙_, subst, subst⁻¹}
-use mathlib.Core.Bool.{Bool, cond}
+use mathlib.Core.Path.{_≡_, refl, sym, ap, ap₂, _∙_, subst⁻¹}
 use mathlib.Core.List.{List, [], _∷_}
-use Prim.Native.Nat.{ℕ, _+_, _-_, _≤_}
+use Prim.Native.Nat.{ℕ, _≤_}
 use native.Mathlib.Omega.{arith}
 use lib.ListN.{length}
-use borrow.Author.Tests.{eq-eqb}
 use Rattle.rules.specs.Sample.{sampleOf}
 use Rattle.rules.specs.Node.{topLevel}
-use Rattle.rules.specs.Selection.{Reply, refused}
+use Rattle.rules.specs.Selection.{Reply}
 use Rattle.rules.specs.Refusal.{Store, Lent, Recorder}
 use Rattle.rules.proofs.Refusal.{Sound, SoundRecorder}
 use Rattle.ring.specs.Push.{Left, pushBytes, pushOn, pushesBytes, repliesBytes}
-use Rattle.ring.proofs.Push.{sound-ready}
-use Rattle.ring.proofs.Grows.{Grows, push-grows}
-use Rattle.node.specs.Memory.{Right, RightAt}
-use Rattle.rebuild.specs.Rebuild.{levelAfter}
-use Rattle.rebuild.proofs.Right.{length-after, after-right}
-use Rattle.store.specs.Stored.{firstNodes}
-use Rattle.store.proofs.Fits.{sound-room}
-use Rattle.capture.specs.Record.{storeOf, lentOf}
+use Rattle.node.specs.Memory.{Right}
+use Rattle.capture.specs.Record.{lentOf}
 use Rattle.feeder.specs.declared.Feeder.{Feeder}
-use Rattle.feeder.specs.Record.{recorderOf, recorderRefusal}
-use Rattle.feeder.proofs.Rows.{sound-recorder}
+use Rattle.feeder.specs.Record.{recorderOf}
 use Rattle.feeder_push.specs.declared.Pushed.{Pushed}
-use Rattle.feeder_push.specs.Push.{replyAs, feederIn, leftOf, Pushes}
+use Rattle.feeder_push.specs.Push.{replyAs, feederIn, Pushes}
+use Rattle.feeder_push.proofs.Written.{one-push, level-lengths, right-stays}
 use Rattle.recording.specs.Claim.{Memory, levels, MayPush, Pushing}
 use Rattle.recording.specs.Claim.Pushing.{stop, step}
 
@@ -56,61 +48,6 @@ recorder-lent c a b size h e d = record {
   len-limit = h .len-limit;
   ring = h .ring;
 }
-
--- ---- one push on a record within its bounds
-module _ (f : Feeder) (m : Memory) (bytes : List ℕ) (v : Pushed) (m′ : Memory) (call : MayPush f m bytes v m′)
-    (sound : SoundRecorder (recorderOf f) (lentOf (m .samples) (levels m)) (length (m .ring))) where
-  fit : Pushes f bytes (m .samples) (levels m) (m .ring) v (m′ .samples) (levels m′) (m′ .ring)
-  fit = equations f m bytes v m′ call
-
-  abbrev after : Left
-  after = record { reply = replyAs v; recorder = recorderOf (feederIn v); samples = m′ .samples; ring = m′ .ring }
-
-  -- rows 1 and 2 do not refuse
-  pub one-push : after ≡ pushBytes (recorderOf f) (m .samples) (m .ring) bytes
-  unfolding leftOf
-  one-push =
-      fit .left-is
-      ∙ ap (λ (b : Bool). cond b (pushBytes (recorderOf f) (m .samples) (m .ring) bytes) (record { reply = refused number; recorder = recorderOf f; samples = m .samples; ring = m .ring }))
-      (eq-eqb number 0 (sound-recorder (recorderOf f) (lentOf (m .samples) (levels m)) (length (m .ring)) sound))
-    where
-      number : ℕ
-      number = recorderRefusal (recorderOf f) (lentOf (m .samples) (levels m)) (length (m .ring))
-
-  pub level-lengths : (l : ℕ) → 1 ≤ l → l ≤ topLevel → length (levels m′ l) ≡ length (levels m l)
-  level-lengths l p q = ap length (fit .levels-are l p q) ∙ length-after (firstNodes (f .capture .unitsize) (m′ .samples) (feederIn v .capture .len)) (levels m) (f .capture .len) (feederIn v .capture .len - f .capture .len) l
-
-  grows : Grows (recorderOf f) (recorderOf (feederIn v)) (m .samples) (m′ .samples)
-  grows = subst⁻¹ (λ (x : Left). Grows (recorderOf f) (x .recorder) (m .samples) (x .samples)) one-push
-      (push-grows (recorderOf f) (m .samples) (m .ring) bytes (sound-ready (recorderOf f) (lentOf (m .samples) (levels m)) (m .samples) (m .ring) refl sound))
-
-  -- what the levels are made for
-  next-right : Right (sampleOf (f .capture .unitsize) (m .samples)) (f .capture .len) (levels m) → Right (sampleOf (feederIn v .capture .unitsize) (m′ .samples)) (feederIn v .capture .len) (levels m′)
-  next-right right l p q =
-      subst⁻¹ (λ (x : List ℕ). RightAt (sampleOf (feederIn v .capture .unitsize) (m′ .samples)) len′ (λ _. x) l) (fit .levels-are l p q)
-      (subst⁻¹ (λ (u : ℕ). RightAt (sampleOf u (m′ .samples)) len′ (λ k. levelAfter (firstNodes (f .capture .unitsize) (m′ .samples) len′) (levels m) len n k) l) (grows .unit)
-      (subst (λ (k : ℕ). RightAt t k (λ j. levelAfter (firstNodes (f .capture .unitsize) (m′ .samples) k) (levels m) len n j) l) end made))
-    where
-      len : ℕ
-      len = f .capture .len
-
-      len′ : ℕ
-      len′ = feederIn v .capture .len
-
-      n : ℕ
-      n = len′ - len
-
-      t : ℕ → ℕ
-      t = sampleOf (f .capture .unitsize) (m′ .samples)
-
-      end : len + n ≡ len′
-      end = omega (arith, grows .len)
-
-      made : RightAt t (len + n) (λ k. levelAfter (firstNodes (f .capture .unitsize) (m′ .samples) (len + n)) (levels m) len n k) l
-      made =
-          after-right (sampleOf (f .capture .unitsize) (m .samples)) t (levels m) len n
-          (λ _. sound-room (storeOf (f .capture)) (m .samples) (levels m) n (sound .store) (omega (arith, end, grows .room)) .nodes)
-          (λ i h. sym (grows .old i h)) right l p q
 
 -- ---- the list
 -- memory of the lengths lent at the start, in which what l goes on to stays within bounds
@@ -147,17 +84,20 @@ module _ (lent : Lent) where
       recorder-is = ap (λ (x : Left). x .recorder) left;
       samples-are = ap (λ (x : Left). x .samples) left;
       ring-is = ap (λ (x : Left). x .ring) left;
-      lengths = λ j p q. level-lengths f m bytes v m′ call sound j p q ∙ k .lengths j p q;
-      right = next-right f m bytes v m′ call sound (k .right);
+      lengths = λ j p q. level-lengths fit j p q ∙ k .lengths j p q;
+      right = right-stays fit sound (k .right);
     },
     ap (λ (x : Left). x .reply) left,
   )
     where
+      fit : Pushes f bytes (m .samples) (levels m) (m .ring) v (m′ .samples) (levels m′) (m′ .ring)
+      fit = equations f m bytes v m′ call
+
       sound : SoundRecorder (recorderOf f) (lentOf (m .samples) (levels m)) (length (m .ring))
       sound = kept-sound l f m (g .sound []) (g .size []) k
 
-      left : after f m bytes v m′ call sound ≡ pushOn l bytes
-      left = one-push f m bytes v m′ call sound ∙ (λ i. pushBytes (k .recorder-is i) (k .samples-are i) (k .ring-is i) bytes)
+      left : record { reply = replyAs v; recorder = recorderOf (feederIn v); samples = m′ .samples; ring = m′ .ring } ≡ pushOn l bytes
+      left = one-push fit sound ∙ (λ i. pushBytes (k .recorder-is i) (k .samples-are i) (k .ring-is i) bytes)
 
   pub all-kept : (l : Left) {pushes : List (List ℕ)} {f : Feeder} {m : Memory} {replies : List Reply} {f″ : Feeder} {m″ : Memory} → Going l → Kept l f m → Pushing f m pushes replies f″ m″
       → Kept (pushesBytes l pushes) f″ m″ × (replies ≡ repliesBytes l pushes)

@@ -1,19 +1,21 @@
 -- Laws of the chunk loop: each turn makes the nodes of level 1 that all samples together are to leave.
 use Prim.Native.Nat.{ℕ, suc, _+_, _-_, _*_, _/_, _%_, _≤_, _<_, min}
-use mathlib.Core.Path.{_≡_, ap, _∙_, subst}
+use mathlib.Core.Path.{_≡_, refl, sym, ap, ap₂, _∙_, subst}
 use mathlib.Core.List.{List}
 use mathlib.Core.Logic.{_⊎_, inl, inr}
 use native.Mathlib.Nat.{mul-le-mul-right}
 use native.Mathlib.Decide.{decLe}
 use native.Mathlib.Omega.{arith}
 use lib.ListN.{length, take, drop, length-take, length-drop}
-use Rattle.rules.specs.Node.{nodeOf, levelNode, chunk}
+use Rattle.rules.specs.Node.{join, nodeOf, chunk}
 use Rattle.rules.specs.Sample.{sampleOf}
 use Rattle.rules.proofs.Node.{node-same}
 use Rattle.rules.proofs.Sample.{sample-part}
-use Rattle.rebuild.specs.Rebuild.{putNodes, partSample}
-use Rattle.rebuild.specs.Room.{FirstRoom}
+use Rattle.node.specs.Memory.{nodeIn}
+use Rattle.rebuild.specs.Rebuild.{putNodes, partSample, runningNodes}
+use Rattle.rebuild.specs.Room.{JoinRoom}
 use Rattle.rebuild.proofs.Nodes.{puts-same, Putting, putting-starts, putting-run, putting-end}
+use Rattle.rebuild.proofs.Running.{running-new, running-joins}
 use Rattle.store.specs.Stored.{firstNodes}
 use Rattle.store.specs.Room.{ChunksRoom}
 
@@ -38,28 +40,30 @@ pub record Turn (unit p end s base stop : ℕ) : Type 0 where
   pub start : base * unit ≤ stop * unit
   pub part : stop * unit ≤ s
 
--- the nodes of level 1 are made up to place p, and l is the level then
+-- the nodes of level 1 are made up to place p, and l is the level then. Only the first turn may begin inside a node
 pub record Making (unit len end : ℕ) (s l1 l : List ℕ) (p : ℕ) : Type 0 where
   pub from : len ≤ p
+  pub begins : p < end → ((p ≡ len) × (l ≡ l1)) ⊎ (p % 32 ≡ 0)
   pub below : p ≤ end
   pub next : ℕ
   pub more : p < end → next ≡ p / 32
   pub done : end ≤ p → (end - 1) / 32 < next
-  pub nodes : Putting (firstNodes unit s end) l1 (len / 32) ((end - 1) / 32) l next
+  pub nodes : Putting (firstNodes unit s l1 len end) l1 (len / 32) ((end - 1) / 32) l next
 
 module _ (u len end : ℕ) (s l1 : List ℕ) (room : ChunksRoom u len end (length s) (length l1)) where
   pub making-starts : Making u len end s l1 l1 len
   making-starts = record {
     from = omega arith;
+    begins = λ _. inl (refl, refl);
     below = omega (arith, room .some);
     next = len / 32;
     more = λ _. omega arith;
     done = λ h. absurd (omega (arith, room .some));
-    nodes = putting-starts (firstNodes u s end) l1 (len / 32) ((end - 1) / 32);
+    nodes = putting-starts (firstNodes u s l1 len end) l1 (len / 32) ((end - 1) / 32);
   }
 
-  pub making-end : (l : List ℕ) (p : ℕ) → Making u len end s l1 l p → end ≤ p → l ≡ putNodes (firstNodes u s end) l1 (len / 32) ((end - 1) / 32 + 1 - len / 32)
-  making-end l p g h = putting-end (firstNodes u s end) l1 (len / 32) ((end - 1) / 32) l (g .next) (g .nodes) (g .done h)
+  pub making-end : (l : List ℕ) (p : ℕ) → Making u len end s l1 l p → end ≤ p → l ≡ putNodes (firstNodes u s l1 len end) l1 (len / 32) ((end - 1) / 32 + 1 - len / 32)
+  making-end l p g h = putting-end (firstNodes u s l1 len end) l1 (len / 32) ((end - 1) / 32) l (g .next) (g .nodes) (g .done h)
 
   -- a turn
   module _ (l : List ℕ) (p : ℕ) (g : Making u len end s l1 l p) (h : p < end) (base stop : ℕ) (eb : base ≡ p - p % chunk) (es : stop ≡ min (base + chunk) end) where
@@ -89,12 +93,13 @@ module _ (u len end : ℕ) (s l1 : List ℕ) (room : ChunksRoom u len end (lengt
     abbrev partOf : List ℕ
     partOf = take (stop * u - base * u) (drop (base * u) s)
 
-    pub first-room : (n k : ℕ) → n ≡ length partOf → k ≡ length l → FirstRoom u base (p / 32) (stop - 1) n k
+    pub first-room : (n k : ℕ) → n ≡ length partOf → k ≡ length l → JoinRoom u base p (stop - 1) n k
     first-room n k en ek = record {
       low = room .low;
       high = room .high;
       fits = omega (arith, room .fits, turn);
-      from = omega (arith, turn);
+      some = omega (arith, turn);
+      from = turn .base-low;
       samples = omega (arith, en, sized, turn .start, ap (λ (x : ℕ). x * u) whole);
       nodes = omega (arith, room .nodes, ek, g .nodes .kept, turn);
     }
@@ -118,36 +123,59 @@ module _ (u len end : ℕ) (s l1 : List ℕ) (room : ChunksRoom u len end (lengt
         back : base + (i - base) ≡ i
         back = omega arith
 
-    -- and so are its nodes
-    part-node : (j : ℕ) → p / 32 ≤ j → j ≤ (stop - 1) / 32 → levelNode (partSample u partOf base) (stop - 1 + 1) 1 j ≡ firstNodes u s end j
-    part-node j a b =
-        ap (λ (x : ℕ). levelNode (partSample u partOf base) x 1 j) whole
-        ∙ node-same (partSample u partOf base) (sampleOf u s) (j * 32) (min (suc j * 32) stop) (omega (arith, begins)) (λ i c d. part-sample i (omega (arith, starts)) (omega arith))
-        ∙ ap (nodeOf (sampleOf u s) (j * 32)) (same-end stop end j (turn .stop-high) stops begins)
-      where
-        whole : stop - 1 + 1 ≡ stop
-        whole = omega (arith, turn .further)
+    -- and so are its nodes: whole ones,
+    module _ (j : ℕ) (a : p / 32 ≤ j) (b : j ≤ (stop - 1) / 32) where
+      begun : j * 32 < stop
+      begun = omega (arith, turn .further)
 
-        starts : base ≤ j * 32
-        starts = omega (arith, turn .base-low, turn .aligned)
+      node-from : (q : ℕ) → base ≤ q → q < min (suc j * 32) stop → nodeOf (partSample u partOf base) q (min (suc j * 32) stop) ≡ nodeOf (sampleOf u s) q (min (suc j * 32) end)
+      node-from q c d =
+          node-same (partSample u partOf base) (sampleOf u s) q (min (suc j * 32) stop) d (λ i x y. part-sample i (omega arith) (omega arith))
+          ∙ ap (nodeOf (sampleOf u s) q) (same-end stop end j (turn .stop-high) stops begun)
 
-        begins : j * 32 < stop
-        begins = omega (arith, turn .further)
+      new-node : len ≤ j * 32 → p ≤ j * 32 → runningNodes (partSample u partOf base) l p stop j ≡ firstNodes u s l1 len end j
+      new-node c d =
+          running-new (partSample u partOf base) l p stop j d
+          ∙ node-from (j * 32) (omega (arith, turn .base-low)) (omega (arith, begun))
+          ∙ sym (running-new (sampleOf u s) l1 len end j c)
 
-    pub making-on : (l′ : List ℕ) → l′ ≡ putNodes (levelNode (partSample u partOf base) (stop - 1 + 1) 1) l (p / 32) ((stop - 1) / 32 + 1 - p / 32) → Making u len end s l1 l′ stop
+      -- and the unfinished one
+      kept-node : p ≡ len → l ≡ l1 → j * 32 < p → runningNodes (partSample u partOf base) l p stop j ≡ firstNodes u s l1 len end j
+      kept-node ep el c =
+          running-joins (partSample u partOf base) l p stop j c
+          ∙ ap₂ join (ap (λ (x : List ℕ). nodeIn x j) el) (node-from p (turn .base-low) (omega (arith, turn .further)) ∙ ap (λ (x : ℕ). nodeOf (sampleOf u s) x (min (suc j * 32) end)) ep)
+          ∙ sym (running-joins (sampleOf u s) l1 len end j (omega arith))
+
+      part-node : runningNodes (partSample u partOf base) l p (stop - 1 + 1) j ≡ firstNodes u s l1 len end j
+      part-node = ap (λ (x : ℕ). runningNodes (partSample u partOf base) l p x j) whole ∙ pick (decLe p (j * 32)) (g .begins h)
+        where
+          whole : stop - 1 + 1 ≡ stop
+          whole = omega (arith, turn .further)
+
+          pick : Dec (p ≤ j * 32) → ((p ≡ len) × (l ≡ l1)) ⊎ (p % 32 ≡ 0) → runningNodes (partSample u partOf base) l p stop j ≡ firstNodes u s l1 len end j
+          pick (yes c) _ = new-node (omega (arith, g .from)) c
+          pick (no c) (inl e) = kept-node (e .0) (e .1) (omega arith)
+          pick (no c) (inr e) = absurd (omega arith)
+
+    pub making-on : (l′ : List ℕ) → l′ ≡ putNodes (runningNodes (partSample u partOf base) l p (stop - 1 + 1)) l (p / 32) ((stop - 1) / 32 + 1 - p / 32) → Making u len end s l1 l′ stop
     making-on l′ e = record {
       from = omega (arith, g .from, turn .further);
+      begins = λ q. inr (at-node q stops);
       below = turn .stop-high;
       next = p / 32 + ((stop - 1) / 32 + 1 - p / 32);
       more = λ q. again q stops;
       done = λ q. past-last p stop end (turn .further) (omega (arith, turn .stop-high));
       nodes =
-          putting-run (firstNodes u s end) l1 (len / 32) ((end - 1) / 32) l (p / 32)
-          (subst (Putting (firstNodes u s end) l1 (len / 32) ((end - 1) / 32) l) (g .more h) (g .nodes)) l′ ((stop - 1) / 32 + 1 - p / 32)
+          putting-run (firstNodes u s l1 len end) l1 (len / 32) ((end - 1) / 32) l (p / 32)
+          (subst (Putting (firstNodes u s l1 len end) l1 (len / 32) ((end - 1) / 32) l) (g .more h) (g .nodes)) l′ ((stop - 1) / 32 + 1 - p / 32)
           (not-past p stop end (turn .further) (turn .stop-high))
-          (e ∙ puts-same (levelNode (partSample u partOf base) (stop - 1 + 1) 1) (firstNodes u s end) ((stop - 1) / 32 + 1 - p / 32) l (p / 32) (λ j a b. part-node j a (omega arith)));
+          (e ∙ puts-same (runningNodes (partSample u partOf base) l p (stop - 1 + 1)) (firstNodes u s l1 len end) ((stop - 1) / 32 + 1 - p / 32) l (p / 32) (λ j a b. part-node j a (omega arith)));
     }
       where
+        at-node : stop < end → (stop ≡ end) ⊎ (stop % 32 ≡ 0) → stop % 32 ≡ 0
+        at-node q (inl f) = absurd (omega arith)
+        at-node q (inr f) = f
+
         again : stop < end → (stop ≡ end) ⊎ (stop % 32 ≡ 0) → p / 32 + ((stop - 1) / 32 + 1 - p / 32) ≡ stop / 32
         again q (inl f) = absurd (omega arith)
         again q (inr f) = omega (arith, turn .further)

@@ -34,10 +34,10 @@ module _ (u len n s : ℕ) (lv : ℕ → List ℕ) (r : StoreRoom u len n s lv) 
 
 -- ---- the levels one by one
 module _ (u len n : ℕ) (s l1 l2 l3 l4 k1 k2 k3 k4 : List ℕ) (some : n ≡ 0 → ⊥)
-    (e1 : k1 ≡ putNodes (firstNodes u s (len + n)) l1 (len / span 1) (touched len (len + n - 1) 1))
+    (e1 : k1 ≡ putNodes (firstNodes u s l1 len (len + n)) l1 (len / span 1) (touched len (len + n - 1) 1))
     (e2 : k2 ≡ raised k1 l2 1 len (len + n - 1)) (e3 : k3 ≡ raised k2 l3 2 len (len + n - 1)) (e4 : k4 ≡ raised k3 l4 3 len (len + n - 1)) where
   abbrev made : ℕ → List ℕ
-  made = built (firstNodes u s (len + n)) (levelOf l1 l2 l3 l4) len (len + n - 1)
+  made = built (firstNodes u s l1 len (len + n)) (levelOf l1 l2 l3 l4) len (len + n - 1)
 
   first-is : k1 ≡ made 1
   unfolding built levelOf
@@ -65,7 +65,8 @@ module _ (u len n : ℕ) (s l1 l2 l3 l4 k1 k2 k3 k4 : List ℕ) (some : n ≡ 0 
   levels-made (suc (suc (suc (suc (suc l))))) p q = absurd (omega arith)
 
   pub levels-some : LevelsAfter u len n s (levelOf l1 l2 l3 l4) (levelOf k1 k2 k3 k4)
-  levels-some l p q = levels-made l p q ∙ sym (after-some (firstNodes u s (len + n)) (levelOf l1 l2 l3 l4) len n l some)
+  unfolding levelOf
+  levels-some l p q = levels-made l p q ∙ sym (after-some (firstNodes u s l1 len (len + n)) (levelOf l1 l2 l3 l4) len n l some)
 
 pub levels-none : (u len n : ℕ) (s : List ℕ) (lv : ℕ → List ℕ) → n ≡ 0 → LevelsAfter u len n s lv lv
-levels-none u len n s lv e l _ _ = sym (after-none (firstNodes u s (len + n)) lv len n l e)
+levels-none u len n s lv e l _ _ = sym (after-none (firstNodes u s (lv 1) len (len + n)) lv len n l e)

@@ -3,3 +3,4 @@ pub mod Chunks
 pub mod Levels
 pub mod Fits
 pub mod Stored
+pub mod Written

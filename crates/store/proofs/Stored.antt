@@ -44,20 +44,24 @@ stored-none u len n b s lv e = record {
 abbrev pub RoomOrNone : ℕ → ℕ → ℕ → List ℕ → (ℕ → List ℕ) → List ℕ → Type 0
 RoomOrNone u len n s lv b = (n ≡ 0) ⊎ AppendRoom u len n (length s) lv (length b)
 
+pub has-room : (u len n : ℕ) (s : List ℕ) (lv : ℕ → List ℕ) (b : List ℕ) → RoomOrNone u len n s lv b → (n ≡ 0 → ⊥) → Roomy (len + n) lv
+has-room u len n s lv b (inl e) z = absurd (z e)
+has-room u len n s lv b (inr k) z = k .room .nodes
+
 module _ {u len n : ℕ} {b s : List ℕ} {lv : ℕ → List ℕ} {s′ : List ℕ} {lv′ : ℕ → List ℕ} (d : Stored u len n b s lv s′ lv′) where
   -- ---- no samples
   pub none-samples : n ≡ 0 → s′ ≡ s
   none-samples e = d .samples-are ∙ ap (λ (x : ℕ). paste s (len * u) b (x * u)) e ∙ ap (paste s (len * u) b) (zero-mul u) ∙ sym (paste-zero s (len * u) b)
 
   pub none-levels : n ≡ 0 → (l : ℕ) → 1 ≤ l → l ≤ topLevel → lv′ l ≡ lv l
-  none-levels e l p q = d .levels-are l p q ∙ after-none (firstNodes u s′ (len + n)) lv len n l e
+  none-levels e l p q = d .levels-are l p q ∙ after-none (firstNodes u s′ (lv 1) len (len + n)) lv len n l e
 
   -- ---- levels, whatever memory holds
   pub level-length : (l : ℕ) → 1 ≤ l → l ≤ topLevel → length (lv′ l) ≡ length (lv l)
-  level-length l p q = ap length (d .levels-are l p q) ∙ length-after (firstNodes u s′ (len + n)) lv len n l
+  level-length l p q = ap length (d .levels-are l p q) ∙ length-after (firstNodes u s′ (lv 1) len (len + n)) lv len n l
 
   pub level-rest : (l k : ℕ) → 1 ≤ l → l ≤ topLevel → (k < len / span l * nodeSize) ⊎ (((len + n - 1) / span l + 1) * nodeSize ≤ k) → getD (lv′ l) k 0 ≡ getD (lv l) k 0
-  level-rest l k p q h = ap (λ (x : List ℕ). getD x k 0) (d .levels-are l p q) ∙ rest-stays (firstNodes u s′ (len + n)) lv len n l k h
+  level-rest l k p q h = ap (λ (x : List ℕ). getD x k 0) (d .levels-are l p q) ∙ rest-stays (firstNodes u s′ (lv 1) len (len + n)) lv len n l k h
 
   -- ---- samples
   pub samples-length : RoomOrNone u len n s lv b → length s′ ≡ length s
@@ -92,8 +96,4 @@ module _ {u len n : ℕ} {b s : List ℕ} {lv : ℕ → List ℕ} {s′ : List �
   pub stored-right : RoomOrNone u len n s lv b → Right (sampleOf u s) len lv → Right (sampleOf u s′) (len + n) lv′
   stored-right w r l p q =
       subst⁻¹ (λ (x : List ℕ). RightAt (sampleOf u s′) (len + n) (λ _. x) l) (d .levels-are l p q)
-      (after-right (sampleOf u s) (sampleOf u s′) lv len n (room w) (λ i h. sym (old-samples w i h)) r l p q)
-    where
-      room : RoomOrNone u len n s lv b → (n ≡ 0 → ⊥) → Roomy (len + n) lv
-      room (inl e) z = absurd (z e)
-      room (inr k) z = k .room .nodes
+      (after-right (sampleOf u s) (sampleOf u s′) lv len n (has-room u len n s lv b w) (λ i h. sym (old-samples w i h)) r l p q)

@@ -1,4 +1,4 @@
-// Samples join the stored ones in lent memory, and the nodes above them are made anew. The calls that store are above.
+// Samples join the stored ones in lent memory, and the nodes above them are made. The calls that store are above.
 use lines::Mask;
 use rebuild::rebuild_above;
 use rebuild::rebuild_first;
@@ -15,7 +15,7 @@ ghost use Rattle.store.specs.Room.{ChunksRoom, StoreRoom, AppendRoom, Pa
 
 const CHUNK: usize = 1048576;
 
-// n samples of the bytes join the len stored ones, and every level is made anew above them.
+// n samples of the bytes join the len stored ones, and the nodes of every level above them are made.
 pub fn append_samples(
     samples: &mut [u8],
     l1: &mut [Mask],
@@ -73,7 +73,7 @@ fn copy_at(dst: &mut [u8], at: usize, src: &[u8])
     }
 }
 
-// n samples stand behind the first len: every node that covers one of them is made anew, each level from the one below.
+// n samples stand behind the first len: every node that covers one of them is made, level 1 from them and its unfinished node, each level above anew from the one below.
 fn rebuild_levels(
     samples: &[u8],
     l1: &mut [Mask],
@@ -100,7 +100,7 @@ fn rebuild_levels(
 // The nodes of level 1 that cover one of the places len to end, end not among them, each chunk's from its part of the samples.
 fn rebuild_chunks(samples: &[u8], l1: &mut [Mask], unitsize: usize, len: usize, end: usize)
     requires { ⌜ ChunksRoom unitsize len end (length (now samples)) (length (now l1)) ⌝ }
-    ensures { λ _. ⌜ now (l1 .exit) ≡ putNodes (firstNodes unitsize (now (samples .entry)) end) (now (l1 .entry)) (len / span 1) (touched len (end - 1) 1) ⌝ }
+    ensures { λ _. ⌜ now (l1 .exit) ≡ putNodes (firstNodes unitsize (now (samples .entry)) (now (l1 .entry)) len end) (now (l1 .entry)) (len / span 1) (touched len (end - 1) 1) ⌝ }
 {
     let mut p = len;
     while p < end {
@@ -108,7 +108,7 @@ fn rebuild_chunks(samples: &[u8], l1: &mut [Mask], unitsize: usize, len: usize, 
         let stop = lesser(base + CHUNK, end);
         let a = base * unitsize;
         let e = stop * unitsize;
-        rebuild_first(&samples[a..e], l1, unitsize, base, p / 32, stop - 1);
+        rebuild_first(&samples[a..e], l1, unitsize, base, p, stop - 1);
         p = stop;
     }
 }

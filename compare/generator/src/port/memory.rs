@@ -1,4 +1,4 @@
-//! Lent memory, filled with a pattern, and what document 01 says that append leaves in it.
+//! Lent memory, filled with a pattern, and what documents 01 and 02 say that append leaves in it.
 
 use crate::op::Lent;
 use port::LentMut;
@@ -40,7 +40,8 @@ impl Memory {
         (LentMut { samples, levels }, &mut self.ring[..lent.ring as usize])
     }
 
-    /// Document 01's append, node by node from the level below.
+    /// Document 01's append, node by node from the level below; by document 02's CR 2 a node of level 1
+    /// that begins before the new samples is kept, and they join it.
     pub fn append(&mut self, unit: usize, len: usize, bytes: &[u8]) {
         let end = len + bytes.len() / unit;
         self.samples[len * unit..end * unit].copy_from_slice(&bytes[..(end - len) * unit]);
@@ -52,8 +53,12 @@ impl Memory {
             let below = (end - 1) / span + 1;
             span *= 32;
             for node in len / span..=(end - 1) / span {
-                let parts = node * 32..below.min(node * 32 + 32);
-                let made = parts.map(|part| self.node(unit, level, part)).reduce(join);
+                let first = node * 32;
+                let kept = (level == 0 && first < len).then(|| self.node(unit, 1, node));
+                let from = if kept.is_some() { len } else { first };
+                let parts = from..below.min(first + 32);
+                let parts = parts.map(|part| self.node(unit, level, part));
+                let made = kept.into_iter().chain(parts).reduce(join);
                 let made = made.expect("a touched node covers a sample");
                 self.levels[level][3 * node..3 * node + 3].copy_from_slice(&made);
             }

@@ -64,6 +64,15 @@ impl Port {
         said(code, || vec![feeder[0] as u64, feeder[6] as u64, cut as u64])
     }
 
+    /// The record says that memory, whatever it holds, has this many samples; to a recorder they are its run so far.
+    pub fn hold(&mut self, len: usize) {
+        self.record[2] = len;
+        if let Some(recording) = &mut self.recording {
+            let unit = self.record[0];
+            recording.accepted = rules::samples(&self.memory.samples[..len * unit], unit as u64);
+        }
+    }
+
     pub fn push(&mut self, bytes: &[u8]) -> Answer {
         let before = self.feeder();
         let mut feeder = before;

@@ -1,0 +1,42 @@
+//! Appends and pushes over memory that no list of calls made. By document 02's CR 2 the nodes of level 1 that they write
+//! depend on len, the unfinished node and the new samples; what is stored before is noise here.
+
+use crate::document::{refusals::need, rules};
+use crate::feed::Feed;
+use crate::list::List;
+use crate::op::{Op, Settings, Wish};
+use crate::port::Port;
+use crate::side::Side;
+use rng::Rng;
+
+#[derive(Default)]
+pub struct Unfinished {
+    port: Port,
+    /// Appends and pushes made.
+    pub made: u64,
+}
+
+impl Unfinished {
+    pub fn ask(&mut self, list: &mut List, rng: &mut Rng) {
+        let (channels, capacity) = (rng.pick(&[8, 16]), 1 + rng.below(2_500));
+        let unit = rules::unit(channels);
+        self.port.take(&Op::Lend(need(unit, capacity)));
+        let recorder = rng.once_in(2);
+        let wish = Wish::Seconds(0.0);
+        let settings = Settings { channels, capacity, limit: 0, wish, rate: 0, terms: Vec::new() };
+        self.port.take(&match recorder {
+            true => Op::Start(settings),
+            false => Op::Capture { channels, capacity },
+        });
+        self.port.hold(rng.below(capacity + 1) as usize);
+        for _ in 0..4 {
+            let count = rng.pick(&[3, 3, 1, 31, 32, 33, 100]) * unit + rng.below(2);
+            let bytes = Feed::Bytes((0..count).map(|_| rng.number() as u8).collect());
+            self.port.take(&if recorder { Op::Push(bytes) } else { Op::Append(bytes) });
+            self.made += 1;
+        }
+        for fault in self.port.faults() {
+            list.asker().differs(&format!("memory that no call made: {fault}"));
+        }
+    }
+}
