@@ -1,71 +1,26 @@
 -- Levels made anew: right levels stay right, and what covers none of the new places stays.
 use Prim.Native.Nat.{ℕ, zero, suc, _+_, _-_, _*_, _/_, _≤_, _<_, min}
-use mathlib.Core.Path.{_≡_, refl, sym, ap, ap₂, _∙_, subst}
+use mathlib.Core.Path.{_≡_, refl, sym, ap, _∙_, subst}
 use mathlib.Core.Bool.{Bool, true, false, cond}
 use mathlib.Core.Logic.{_⊎_, inl, inr}
 use mathlib.Core.List.{List}
-use native.Mathlib.Nat.{add-zero, pow-suc, mul-le-mul-right, lt-of-mul-lt-mul-right, div-add-mod', mod-lt}
-use native.Mathlib.Decide.{decLe, decLt, ℕ-discrete}
+use native.Mathlib.Nat.{mul-le-mul-right, lt-of-mul-lt-mul-right, div-add-mod', mod-lt}
+use native.Mathlib.Decide.{decLt, ℕ-discrete}
 use native.Mathlib.Omega.{arith}
 use borrow.Author.Tests.{eq-eqb, ne-eqb}
 use lib.Dec.{eqb}
 use lib.ListN.{length, getD}
-use Rattle.rules.specs.Node.{Node, join, nodeOf, span, topLevel, levelNode}
+use Rattle.rules.specs.Node.{Node, nodeOf, span, topLevel, levelNode}
 use Rattle.rules.specs.Refusal.{nodeSize}
-use Rattle.rules.proofs.Node.{node-join, node-same}
+use Rattle.rules.proofs.Node.{node-same}
 use Rattle.rules.proofs.Walk.{span-pos}
 use Rattle.node.specs.Memory.{nodeIn, Right, RightAt}
-use Rattle.rebuild.specs.Rebuild.{putNodes, joinOver, madeOver, runningNodes, touched, built, levelAfter}
+use Rattle.range.specs.Join.{madeOver}
+use Rattle.range.proofs.Right.{True, made-true}
+use Rattle.rebuild.specs.Rebuild.{putNodes, runningNodes, touched, built, levelAfter}
 use Rattle.rebuild.specs.Room.{Roomy}
 use Rattle.rebuild.proofs.Nodes.{length-puts, puts-rest, puts-other, puts-at}
 use Rattle.rebuild.proofs.Running.{running-right}
-
--- nodes of w samples, of which the first len are stored, partial last ones too
-abbrev True : (ℕ → ℕ) → ℕ → ℕ → (ℕ → Node) → Type 0
-True s len w nodes = (j : ℕ) → j * w < len → nodes j ≡ nodeOf s (j * w) (min (suc j * w) len)
-
--- ---- one level up
-module _ (s : ℕ → ℕ) (len w top : ℕ) (nodes : ℕ → Node) (hw : 1 ≤ w) (low : top * w < len) (high : len ≤ suc top * w) (r : True s len w nodes) where
-  join-right : (a n : ℕ) → a + n ≤ top → joinOver nodes a n ≡ nodeOf s (a * w) (min (suc (a + n) * w) len)
-  unfolding joinOver
-  join-right a zero h = r a (omega (arith, mul-le-mul-right w h)) ∙ ap (λ (k : ℕ). nodeOf s (a * w) (min (suc k * w) len)) (sym (add-zero a))
-  join-right a (suc n) h =
-      ap₂ join (join-right a n (omega arith) ∙ ap (nodeOf s (a * w)) whole) (r (a + suc n) under)
-      ∙ node-join s (a * w) ((a + suc n) * w) (min (suc (a + suc n) * w) len) (omega (arith, hw)) (omega (arith, under, hw))
-    where
-      under : (a + suc n) * w < len
-      under = omega (arith, mul-le-mul-right w h)
-
-      whole : min (suc (a + n) * w) len ≡ (a + suc n) * w
-      whole = omega (arith, under)
-
-  level-up : True s len (w * 32) (madeOver nodes top)
-  level-up j h = join-right (j * 32) (min 31 (top - j * 32)) (omega (arith, starts)) ∙ ap₂ (nodeOf s) from (to (decLe 31 (top - j * 32)))
-    where
-      starts : j * 32 < suc top
-      starts = lt-of-mul-lt-mul-right w {m = j * 32} {n = suc top} (omega arith)
-
-      from : j * 32 * w ≡ j * (w * 32)
-      from = omega arith
-
-      to : Dec (31 ≤ top - j * 32) → min (suc (j * 32 + min 31 (top - j * 32)) * w) len ≡ min (suc j * (w * 32)) len
-      to (yes d) = ap (λ (k : ℕ). min (suc k * w) len) run ∙ ap (λ (k : ℕ). min k len) all
-        where
-          run : j * 32 + min 31 (top - j * 32) ≡ j * 32 + 31
-          run = omega arith
-
-          all : suc (j * 32 + 31) * w ≡ suc j * (w * 32)
-          all = omega arith
-      to (no d) = ap (λ (k : ℕ). min (suc k * w) len) run ∙ ends
-        where
-          run : j * 32 + min 31 (top - j * 32) ≡ top
-          run = omega (arith, starts)
-
-          beyond : suc top * w ≤ suc j * 32 * w
-          beyond = mul-le-mul-right w (omega arith)
-
-          ends : min (suc top * w) len ≡ min (suc j * (w * 32)) len
-          ends = omega (arith, beyond, high)
 
 -- ---- the last node of a level
 module _ (top w : ℕ) (hw : 1 ≤ w) where
@@ -115,8 +70,7 @@ module _ (s t : ℕ → ℕ) (levels : ℕ → List ℕ) (len top : ℕ) (more :
 
   -- nodes made from a right level are right
   made : (l : ℕ) (nodes : ℕ → Node) → True t (suc top) (span l) nodes → True t (suc top) (span (suc l)) (madeOver nodes (top / span l))
-  made l nodes b = subst (λ (x : ℕ). True t (suc top) x (madeOver nodes (top / span l))) (sym (pow-suc 32 l))
-      (level-up t (suc top) (span l) (top / span l) nodes (span-pos l) (omega (arith, last-low top (span l) (span-pos l))) (omega (arith, last-high top (span l) (span-pos l))) b)
+  made l nodes b = made-true t (suc top) l (top / span l) nodes b (omega (arith, last-low top (span l) (span-pos l))) (omega (arith, last-high top (span l) (span-pos l)))
 
   -- right levels stay right, where `first` makes the touched nodes of level 1 right
   module _ (first : ℕ → Node) (f : (j : ℕ) → len / span 1 ≤ j → j * span 1 < suc top → first j ≡ levelNode t (suc top) 1 j) where

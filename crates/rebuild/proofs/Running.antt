@@ -2,7 +2,6 @@
 use Prim.Native.Nat.{ℕ, suc, _+_, _-_, _*_, _/_, _≤_, _<_, min}
 use mathlib.Core.Path.{_≡_, sym, ap, ap₂, _∙_}
 use mathlib.Core.List.{List}
-use native.Mathlib.Nat.{mul-le-mul-right}
 use native.Mathlib.Decide.{decLe}
 use native.Mathlib.Omega.{arith}
 use borrow.Author.Tests.{le-ltb, lt-ltb}
@@ -11,11 +10,11 @@ use Rattle.rules.specs.Node.{Node, join, nodeOf, levelNode}
 use Rattle.rules.specs.Sample.{sampleOf}
 use Rattle.rules.proofs.Node.{node-join, node-same}
 use Rattle.node.specs.Memory.{nodeIn, putNode}
-use Rattle.node.proofs.Memory.{length-put}
-use Rattle.rebuild.specs.Rebuild.{putNodes, partSample, firstRaised, runningNodes, firstJoined, Joined}
-use Rattle.rebuild.specs.Room.{RangeIn, FirstRoom, JoinRoom}
+use Rattle.range.specs.Part.{RangeIn, partSample}
+use Rattle.range.proofs.Part.{shift-node, range-in}
+use Rattle.rebuild.specs.Rebuild.{putNodes, firstRaised, runningNodes, firstJoined, Joined}
+use Rattle.rebuild.specs.Room.{FirstRoom, JoinRoom}
 use Rattle.rebuild.proofs.Nodes.{length-puts, puts-add, puts-same}
-use Rattle.rebuild.proofs.Raw.{shift-node}
 
 -- ---- the two kinds of nodes
 module _ (s : ℕ → ℕ) (level : List ℕ) (len end j : ℕ) where
@@ -71,18 +70,7 @@ joined-none f len l e = record { low = omega arith; high = omega arith; whole = 
 
 -- the new samples of the unfinished node lie in the part
 pub join-room : (unit base len top part level b : ℕ) → JoinRoom unit base len top part level → b ≡ min (len / 32 * 32 + 32) (top + 1) → RangeIn unit (len - base) (b - base) part
-join-room unit base len top part level b r eb = record {
-  low = r .low;
-  high = r .high;
-  some = omega (arith, r .from, r .some);
-  room = omega (arith, r .samples, split, mul-le-mul-right {m = b} {n = top + 1} unit (omega arith));
-}
-  where
-    split : (base + (b - base)) * unit ≡ b * unit
-    split = ap (λ (x : ℕ). x * unit) (rejoin (omega (arith, r .from, r .some)))
-      where
-        rejoin : base ≤ b → base + (b - base) ≡ b
-        rejoin x = omega arith
+join-room unit base len top part level b r eb = range-in unit base (top + 1) part len b (r .low) (r .high) (omega (arith, r .samples)) (r .from) (omega (arith, r .some)) (omega arith)
 
 -- they join it
 pub joined-some : (unit : ℕ) (part l l′ : List ℕ) (base len top b : ℕ) (kept raw n : Node) → base ≤ len → len ≤ top → (len / 32 * 32 ≡ len → ⊥) → b ≡ min (len / 32 * 32 + 32) (top + 1)
@@ -137,3 +125,17 @@ joined-all unit part base len top r l m l′ some d e =
 
     all : (p q : ℕ) → p ≤ r → r ≤ p + 1 → p ≤ q → r - p + (q + 1 - r) ≡ q + 1 - p
     all p q x y z = omega arith
+
+-- ---- the nodes behind it
+-- what a turn puts is the node of level 1
+pub part-node : (unit : ℕ) (part : List ℕ) (base top j a b : ℕ) (n : Node) → base ≤ a → a ≤ top → a ≡ j * 32 → b ≡ min (a + 32) (top + 1)
+    → n ≡ nodeOf (sampleOf unit part) (a - base) (b - base) → n ≡ levelNode (partSample unit part base) (top + 1) 1 j
+part-node unit part base top j a b n h k ea eb en = en ∙ shift-node (sampleOf unit part) base a b h (omega arith) ∙ ap₂ (nodeOf (partSample unit part base)) ea ends
+  where
+    ends : b ≡ min (suc j * 32) (top + 1)
+    ends = omega arith
+
+-- its samples lie in the part
+pub part-room : (unit base first top part level j a b : ℕ) → FirstRoom unit base first top part level → first ≤ j → j ≤ top / 32 → a ≡ j * 32 → b ≡ min (a + 32) (top + 1)
+    → RangeIn unit (a - base) (b - base) part
+part-room unit base first top part level j a b r h k ea eb = range-in unit base (top + 1) part a b (r .low) (r .high) (omega (arith, r .samples)) (omega (arith, r .from)) (omega arith) (omega arith)

@@ -2,34 +2,17 @@
 use mathlib.Core.Path.{_≡_}
 use mathlib.Core.Bool.{cond}
 use mathlib.Core.List.{List}
-use Prim.Native.Nat.{ℕ, zero, suc, _+_, _-_, _*_, _/_, _≤_, min}
+use Prim.Native.Nat.{ℕ, zero, suc, _+_, _-_, _*_, _/_, _≤_}
 use lib.Dec.{eqb, ltb}
 use Rattle.rules.specs.Node.{Node, join, nodeOf, span, nodeStart, nodeEnd, levelNode}
-use Rattle.rules.specs.Sample.{sampleOf}
 use Rattle.node.specs.Memory.{nodeIn, putNode}
+use Rattle.range.specs.Join.{madeOver}
+use Rattle.range.specs.Part.{partSample}
 
 -- the level with n nodes from number j on as f has them
 unfoldable pub putNodes : (ℕ → Node) → List ℕ → ℕ → ℕ → List ℕ
 putNodes f level j zero = level
 putNodes f level j (suc n) = putNodes f (putNode level j (f j)) (j + 1) n
-
--- the nodes numbered a to a + n, joined
-unfoldable pub joinOver : (ℕ → Node) → ℕ → ℕ → Node
-joinOver nodes a zero = nodes a
-joinOver nodes a (suc n) = join (joinOver nodes a n) (nodes (a + suc n))
-
--- n, and the k nodes from number i on, joined to it one by one
-unfoldable pub joinOn : Node → (ℕ → Node) → ℕ → ℕ → Node
-joinOn n nodes i zero = n
-joinOn n nodes i (suc k) = joinOn (join n (nodes i)) nodes (i + 1) k
-
--- node j of a level from its up to 32 nodes of the level below, of which `top` is the last
-abbrev pub madeOver : (ℕ → Node) → ℕ → ℕ → Node
-madeOver nodes top j = joinOver nodes (j * 32) (min 31 (top - j * 32))
-
--- the samples of a part of memory that starts at place base
-abbrev pub partSample : ℕ → List ℕ → ℕ → ℕ → ℕ
-partSample unit part base i = sampleOf unit part (i - base)
 
 -- level 1 with its nodes from number j on up to place top made from a part that starts at place base
 abbrev pub firstRaised : ℕ → List ℕ → ℕ → ℕ → List ℕ → ℕ → List ℕ

@@ -5,13 +5,6 @@ use lib.ListN.{length}
 use Rattle.rules.specs.Node.{span, topLevel}
 use Rattle.rules.specs.Refusal.{mostSamples, nodeSize}
 
--- the samples a to b, b not among them, of a unit lie within n bytes
-pub record RangeIn (unit a b n : ℕ) : Type 0 where
-  pub low : 1 ≤ unit
-  pub high : unit ≤ 2
-  pub some : a < b
-  pub room : b * unit ≤ n
-
 -- a part that starts at place base has the samples from node `first` on up to place top, and level 1 has their nodes
 pub record FirstRoom (unit base first top part level : ℕ) : Type 0 where
   pub low : 1 ≤ unit

@@ -10,9 +10,10 @@ use lib.ListN.{length, take, drop, length-take, length-drop}
 use Rattle.rules.specs.Node.{join, nodeOf, chunk}
 use Rattle.rules.specs.Sample.{sampleOf}
 use Rattle.rules.proofs.Node.{node-same}
-use Rattle.rules.proofs.Sample.{sample-part}
 use Rattle.node.specs.Memory.{nodeIn}
-use Rattle.rebuild.specs.Rebuild.{putNodes, partSample, runningNodes}
+use Rattle.range.specs.Part.{partSample}
+use Rattle.range.proofs.Part.{part-sample}
+use Rattle.rebuild.specs.Rebuild.{putNodes, runningNodes}
 use Rattle.rebuild.specs.Room.{JoinRoom}
 use Rattle.rebuild.proofs.Nodes.{puts-same, Putting, putting-starts, putting-run, putting-end}
 use Rattle.rebuild.proofs.Running.{running-new, running-joins}
@@ -110,27 +111,14 @@ module _ (u len end : ℕ) (s l1 : List ℕ) (room : ChunksRoom u len end (lengt
         whole : suc (stop - 1) ≡ stop
         whole = omega (arith, turn .further)
 
-    -- the part's samples are those of memory
-    part-sample : (i : ℕ) → base ≤ i → i < stop → partSample u partOf base i ≡ sampleOf u s i
-    part-sample i a b = sample-part u s base (stop * u - base * u) (i - base) (omega (arith, ends)) ∙ ap (sampleOf u s) back
-      where
-        ends : (suc (i - base) + base) * u ≤ stop * u
-        ends = mul-le-mul-right u inside
-          where
-            inside : suc (i - base) + base ≤ stop
-            inside = omega arith
-
-        back : base + (i - base) ≡ i
-        back = omega arith
-
-    -- and so are its nodes: whole ones,
+    -- the part's nodes are those of memory: whole ones,
     module _ (j : ℕ) (a : p / 32 ≤ j) (b : j ≤ (stop - 1) / 32) where
       begun : j * 32 < stop
       begun = omega (arith, turn .further)
 
       node-from : (q : ℕ) → base ≤ q → q < min (suc j * 32) stop → nodeOf (partSample u partOf base) q (min (suc j * 32) stop) ≡ nodeOf (sampleOf u s) q (min (suc j * 32) end)
       node-from q c d =
-          node-same (partSample u partOf base) (sampleOf u s) q (min (suc j * 32) stop) d (λ i x y. part-sample i (omega arith) (omega arith))
+          node-same (partSample u partOf base) (sampleOf u s) q (min (suc j * 32) stop) d (λ i x y. part-sample u s base stop i (omega arith) (omega arith))
           ∙ ap (nodeOf (sampleOf u s) q) (same-end stop end j (turn .stop-high) stops begun)
 
       new-node : len ≤ j * 32 → p ≤ j * 32 → runningNodes (partSample u partOf base) l p stop j ≡ firstNodes u s l1 len end j

@@ -46,26 +46,26 @@ module _ (node : ℕ → ℕ → Node) (past : ℕ → ℕ → ℕ) where
   pub gather-ends : (b : ℕ) (whole acc : Node) (p : ℕ) → Gathering b whole acc p → b ≤ p → acc ≡ whole
   gather-ends b whole acc p g h = sym (gather-done (g .fuel) acc p b h) ∙ g .is
 
-  -- ---- true parts: `at` says which place of the samples a part's place is
-  pub record Step (s at : ℕ → ℕ) (p b : ℕ) : Type 0 where
+  -- ---- true parts
+  pub record Step (s : ℕ → ℕ) (p b : ℕ) : Type 0 where
     pub more : p < past p b
     pub upto : past p b ≤ b
-    pub is : node p b ≡ nodeOf s (at p) (at (past p b))
+    pub is : node p b ≡ nodeOf s p (past p b)
 
-  module _ (s at : ℕ → ℕ) (hi : ℕ) (rising : (x y : ℕ) → x < y → y ≤ hi → at x < at y) (step : (p b : ℕ) → p < b → b ≤ hi → Step s at p b) where
-    gather-node : (f : ℕ) (acc : Node) (a p b : ℕ) → a < p → p ≤ b → b ≤ hi → b - p ≤ f → acc ≡ nodeOf s (at a) (at p) → gather node past f acc p b ≡ nodeOf s (at a) (at b)
-    gather-node zero acc a p b h k l m e = gather-done 0 acc p b (omega arith) ∙ e ∙ ap (λ (x : ℕ). nodeOf s (at a) (at x)) (omega arith)
+  module _ (s : ℕ → ℕ) (hi : ℕ) (step : (p b : ℕ) → p < b → b ≤ hi → Step s p b) where
+    gather-node : (f : ℕ) (acc : Node) (a p b : ℕ) → a < p → p ≤ b → b ≤ hi → b - p ≤ f → acc ≡ nodeOf s a p → gather node past f acc p b ≡ nodeOf s a b
+    gather-node zero acc a p b h k l m e = gather-done 0 acc p b (omega arith) ∙ e ∙ ap (nodeOf s a) (omega arith)
     gather-node (suc f) acc a p b h k l m e = go (gather-node f) (decLt p b)
       where
-        go : ((acc : Node) (a p b : ℕ) → a < p → p ≤ b → b ≤ hi → b - p ≤ f → acc ≡ nodeOf s (at a) (at p) → gather node past f acc p b ≡ nodeOf s (at a) (at b)) → Dec (p < b) → gather node past (suc f) acc p b ≡ nodeOf s (at a) (at b)
+        go : ((acc : Node) (a p b : ℕ) → a < p → p ≤ b → b ≤ hi → b - p ≤ f → acc ≡ nodeOf s a p → gather node past f acc p b ≡ nodeOf s a b) → Dec (p < b) → gather node past (suc f) acc p b ≡ nodeOf s a b
         go ih (yes d) =
             let t = step p b d l in
             gather-more f acc p b d
             ∙ ih (join acc (node p b)) a (past p b) b (omega (arith, t .more)) (t .upto) l (omega (arith, t .more))
-            (ap₂ join e (t .is) ∙ node-join s (at a) (at p) (at (past p b)) (rising a p h (omega arith)) (rising p (past p b) (t .more) (omega (arith, t .upto))))
-        go ih (no d) = gather-done (suc f) acc p b (omega arith) ∙ e ∙ ap (λ (x : ℕ). nodeOf s (at a) (at x)) (omega arith)
+            (ap₂ join e (t .is) ∙ node-join s a p (past p b) h (t .more))
+        go ih (no d) = gather-done (suc f) acc p b (omega arith) ∙ e ∙ ap (nodeOf s a) (omega arith)
 
-    pub joined-node : (a b : ℕ) → a < b → b ≤ hi → joined node past a b ≡ nodeOf s (at a) (at b)
+    pub joined-node : (a b : ℕ) → a < b → b ≤ hi → joined node past a b ≡ nodeOf s a b
     unfolding joined
     joined-node a b h l = let t = step a b h l in gather-node (b - a) (node a b) a (past a b) b (t .more) (t .upto) l (omega (arith, t .more)) (t .is)
 

@@ -5,7 +5,7 @@ use mathlib.Core.Bool.{Bool, true, cond}
 use mathlib.Core.List.{List}
 use mathlib.Core.Logic.{_⊎_, inl, inr}
 use mathlib.Core.Option.{none, some}
-use native.Mathlib.Nat.{le-refl, mul-le-mul-right, le-div-iff-mul-le, lt-of-mul-lt-mul-right, lt-div-mul-add, div-add-mod', mul-div-cancel}
+use native.Mathlib.Nat.{mul-le-mul-right, le-div-iff-mul-le, lt-of-mul-lt-mul-right, lt-div-mul-add, div-add-mod', mul-div-cancel}
 use native.Mathlib.Decide.{decLt}
 use native.Mathlib.Omega.{arith}
 use lib.Dec.{ltb}
@@ -21,13 +21,14 @@ use Rattle.rules.proofs.Refusal.{Sound}
 use Rattle.node.specs.Memory.{nodeIn, Right}
 use Rattle.level.specs.Best.{fitsAt, Best}
 use Rattle.level.proofs.Best.{Fits, fits-sample, fitting}
+use Rattle.range.specs.Part.{partSample}
+use Rattle.range.specs.Join.{joinOver}
+use Rattle.range.proofs.Part.{part-sample}
+use Rattle.range.proofs.Right.{join-true}
 use Rattle.capture.specs.Record.{lentOf}
 use Rattle.capture.specs.Calls.{partOf}
 use Rattle.capture.proofs.Calls.{stored}
-use Rattle.summary.specs.Scan.{Run}
-use Rattle.summary.specs.Gather.{joinNodes}
-use Rattle.summary.specs.Summary.{levelAt, runEnd, partNode, stepNode, stepEnd, chunkNode, Part, cutAt, summed, summaryOf, shifted, ChunkRoom}
-use Rattle.summary.proofs.Toggles.{part-sample}
+use Rattle.summary.specs.Summary.{levelAt, runEnd, partNode, stepNode, stepEnd, chunkNode, Part, cutAt, summed, summaryOf, ChunkRoom}
 use Rattle.summary.proofs.Gather.{Step, joined-node, joined-same}
 
 -- ---- a run of nodes of w samples from p on
@@ -114,29 +115,30 @@ module _ (p b l w end : ℕ) (h : p < b) (t : Best p (b - p) topLevel l) (ew : w
     unfolding partNode
     part-run z e = part-of (e ∙ ap (λ (k : ℕ). partNode levels s k p end) (sym z))
 
-    pub part-level : (l ≡ 0 → ⊥) → (level : List ℕ) → level ≡ levels l → n ≡ joinNodes level (p / w) (end / w) → Part levels s p b n end
+    pub part-level : (l ≡ 0 → ⊥) → (level : List ℕ) → level ≡ levels l → n ≡ joinOver (nodeIn level) (p / w) (end / w - 1 - p / w) → Part levels s p b n end
     unfolding partNode
-    part-level z level el e = part-of (go l z (e ∙ ap₂ (λ (x : List ℕ) (y : ℕ). joinNodes x (p / y) (end / y)) el ew))
+    part-level z level el e = part-of (go l z (e ∙ ap₂ (λ (x : List ℕ) (y : ℕ). joinOver (nodeIn x) (p / y) (end / y - 1 - p / y)) el ew))
       where
-        go : (l : ℕ) → (l ≡ 0 → ⊥) → n ≡ joinNodes (levels l) (p / span l) (end / span l) → n ≡ partNode levels s l p end
+        go : (l : ℕ) → (l ≡ 0 → ⊥) → n ≡ joinOver (nodeIn (levels l)) (p / span l) (end / span l - 1 - p / span l) → n ≡ partNode levels s l p end
         go zero z e = absurd (z refl)
         go (suc l) z e = e
 
 -- ---- true nodes
 module _ (levels : ℕ → List ℕ) (s : ℕ → ℕ) (len : ℕ) (right : Right s len levels) where
-  -- a whole node
-  true-at : (l j : ℕ) → 1 ≤ l → l ≤ topLevel → (j + 1) * span l ≤ len → nodeIn (levels l) j ≡ nodeOf s (j * span l) ((j + 1) * span l)
-  true-at l j a k h = right l a k j (omega (arith, span-pos l)) ∙ ap (nodeOf s (j * span l)) (omega arith)
-
   -- whole nodes a to b, joined
-  run-node : (l a b : ℕ) → 1 ≤ l → l ≤ topLevel → a < b → b * span l ≤ len → joinNodes (levels l) a b ≡ nodeOf s (a * span l) (b * span l)
-  run-node l a b x k h e =
-      joined-node (λ p e. nodeIn (levels l) p) (λ p e. p + 1) s (λ i. i * span l) b
-      (λ u v g q. omega (arith, span-pos l, mul-le-mul-right {m = u + 1} {n = v} (span l) (omega arith)))
-      (λ p c g q. record { more = omega arith; upto = omega arith; is = true-at l p x k (omega (arith, mul-le-mul-right {m = p + 1} {n = b} (span l) (omega arith))) })
-      a b h (le-refl b)
+  run-node : (l a b : ℕ) → 1 ≤ l → l ≤ topLevel → a < b → b * span l ≤ len → joinOver (nodeIn (levels l)) a (b - 1 - a) ≡ nodeOf s (a * span l) (b * span l)
+  run-node l a b x k h e = join-true s len (span l) (nodeIn (levels l)) (span-pos l) (right l x k) a (b - 1 - a) inside ∙ ap (nodeOf s (a * span l)) ends
+    where
+      upto : suc (a + (b - 1 - a)) ≡ b
+      upto = omega arith
 
-  step-at : (p b : ℕ) → p < b → b ≤ len → Step (stepNode levels s) stepEnd s (λ i. i) p b
+      ends : min (suc (a + (b - 1 - a)) * span l) len ≡ b * span l
+      ends = ap (λ (n : ℕ). min (n * span l) len) upto ∙ omega (arith, e)
+
+      inside : (a + (b - 1 - a)) * span l < len
+      inside = omega (arith, e, span-pos l, ap (λ (n : ℕ). n * span l) upto)
+
+  step-at : (p b : ℕ) → p < b → b ≤ len → Step (stepNode levels s) stepEnd s p b
   unfolding partNode
   step-at p b h k = record { more = end-more p b h; upto = end-upto p b h; is = go (levelAt p b) refl (level-fits p b h) }
     where
@@ -151,15 +153,15 @@ module _ (levels : ℕ → List ℕ) (s : ℕ → ℕ) (len : ℕ) (right : Righ
 
   chunk-node : (a b : ℕ) → a < b → b ≤ len → chunkNode levels s a b ≡ nodeOf s a b
   unfolding chunkNode
-  chunk-node = joined-node (stepNode levels s) stepEnd s (λ i. i) len (λ x y h k. h) step-at
+  chunk-node = joined-node (stepNode levels s) stepEnd s len step-at
 
-  cut-step : (p b : ℕ) → p < b → b ≤ len → Step (λ p e. chunkNode levels s p (cutAt p e)) cutAt s (λ i. i) p b
+  cut-step : (p b : ℕ) → p < b → b ≤ len → Step (λ p e. chunkNode levels s p (cutAt p e)) cutAt s p b
   cut-step p b h k = record { more = omega arith; upto = omega arith; is = chunk-node p (cutAt p b) (omega arith) (omega arith) }
 
   -- on right levels the summary of a range is its node
   pub summed-right : (a b : ℕ) → a < b → b ≤ len → summed levels s a b ≡ nodeOf s a b
   unfolding summed
-  summed-right = joined-node (λ p e. chunkNode levels s p (cutAt p e)) cutAt s (λ i. i) len (λ x y h k. h) cut-step
+  summed-right = joined-node (λ p e. chunkNode levels s p (cutAt p e)) cutAt s len cut-step
 
   pub summary-is : (a b : ℕ) → summaryOf levels s len a b ≡ summary s len a b
   summary-is a b = go (decLt a (min b len))
@@ -171,14 +173,6 @@ module _ (levels : ℕ → List ℕ) (s : ℕ → ℕ) (len : ℕ) (right : Righ
           ∙ sym (ap (λ (t : Bool). cond t (some (nodeOf s a (min b len))) none) (le-ltb a (min b len) (omega arith)))
 
 -- ---- room
-pub run-room : (unit base b part : ℕ) (levels : ℕ → List ℕ) → ChunkRoom unit base b part levels → (p e : ℕ) → base ≤ p → p < e → e ≤ b → Run unit (p - base) (e - 1 - base) part
-run-room unit base b part levels r p e h k l = record {
-  low = r .low;
-  high = r .high;
-  order = omega arith;
-  room = omega (arith, r .samples, mul-le-mul-right {m = base + (e - 1 - base) + 1} {n = b} unit (omega arith));
-}
-
 -- a node that covers stored samples lies in its level
 pub node-room : (st : Store) (lent : Lent) → Sound st lent → (l j : ℕ) → 1 ≤ l → l ≤ topLevel → j * span l < st .len → j * nodeSize + nodeSize ≤ lent .level l
 node-room st lent h l j a k p = omega (arith, h .level l a k, le-div-iff-mul-le {k = span l} {x = j + 1} {y = st .capacity + (span l - 1)} (span-pos l) .1 (omega (arith, h .len-most, span-pos l)))
@@ -197,23 +191,16 @@ module _ (st : Store) (samples : List ℕ) (levels : ℕ → List ℕ) (h : Soun
     level = λ l j a k p. node-room st (lentOf samples levels) h l j a k (omega arith);
   }
 
-  -- a part's samples are those of the whole memory
-  part-same : (i : ℕ) → base ≤ i → i < end → shifted (st .unit) (partOf (st .unit) samples base end) base i ≡ sampleOf (st .unit) samples i
-  part-same i a k = part-sample (st .unit) samples base end (i - base) (omega arith) ∙ ap (sampleOf (st .unit) samples) back
-    where
-      back : base + (i - base) ≡ i
-      back = omega arith
-
-  pub chunk-part : chunkNode levels (shifted (st .unit) (partOf (st .unit) samples base end) base) pos end ≡ chunkNode levels (sampleOf (st .unit) samples) pos end
-  unfolding chunkNode partNode
+  pub chunk-part : chunkNode levels (partSample (st .unit) (partOf (st .unit) samples base end) base) pos end ≡ chunkNode levels (sampleOf (st .unit) samples) pos end
+  unfolding chunkNode partNode partOf
   chunk-part = joined-same (stepNode levels part) (stepNode levels all) stepEnd pos end (λ p k. omega (arith, end-more p end k)) (λ p a k. go p a k (levelAt p end) (stepEnd p end) (end-more p end k) (end-upto p end k)) hp
     where
       part : ℕ → ℕ
-      part = shifted (st .unit) (partOf (st .unit) samples base end) base
+      part = partSample (st .unit) (partOf (st .unit) samples base end) base
 
       all : ℕ → ℕ
       all = sampleOf (st .unit) samples
 
       go : (p : ℕ) → pos ≤ p → p < end → (l e : ℕ) → p < e → e ≤ end → partNode levels part l p e ≡ partNode levels all l p e
-      go p a k zero e x y = node-same part all p e x (λ i u v. part-same i (omega arith) (omega arith))
+      go p a k zero e x y = node-same part all p e x (λ i u v. part-sample (st .unit) samples base end i (omega arith) (omega arith))
       go p a k (suc l) e x y = refl

@@ -1,4 +1,3 @@
-pub mod Toggles
 pub mod Gather
 pub mod Laws
 pub mod Answers

@@ -1,10 +1,8 @@
 -- A range taken part by part: the parts' nodes, joined.
 use mathlib.Core.Bool.{cond}
-use mathlib.Core.List.{List}
-use Prim.Native.Nat.{ℕ, zero, suc, _+_, _-_}
+use Prim.Native.Nat.{ℕ, zero, suc, _-_}
 use lib.Dec.{ltb}
 use Rattle.rules.specs.Node.{Node, join}
-use Rattle.node.specs.Memory.{nodeIn}
 
 -- the parts of [p, b), at most `fuel` of them, joined to acc: `node p b` is the first part's node, `past p b` where it ends
 unfoldable pub gather : (ℕ → ℕ → Node) → (ℕ → ℕ → ℕ) → ℕ → Node → ℕ → ℕ → Node
@@ -14,7 +12,3 @@ gather node past (suc fuel) acc p b = cond (ltb p b) (gather node past fuel (joi
 -- the parts of [a, b), a < b, each of which has a place
 unfoldable pub joined : (ℕ → ℕ → Node) → (ℕ → ℕ → ℕ) → ℕ → ℕ → Node
 joined node past a b = gather node past (b - a) (node a b) (past a b) b
-
--- the nodes a to b of a level, b left out, joined
-abbrev pub joinNodes : List ℕ → ℕ → ℕ → Node
-joinNodes level a b = joined (λ p e. nodeIn level p) (λ p e. p + 1) a b

@@ -6,15 +6,15 @@ use mathlib.Core.Option.{Option, none, some}
 use Prim.Native.Nat.{ℕ, zero, suc, _+_, _-_, _*_, _/_, _≤_, _<_, min}
 use lib.Dec.{ltb}
 use lib.ListN.{length}
-use Rattle.rules.specs.Sample.{sampleOf}
 use Rattle.rules.specs.Node.{Node, nodeOf, span, chunk, topLevel}
 use Rattle.rules.specs.Walk.{best}
 use Rattle.rules.specs.Answer.{Answer, refused, given}
 use Rattle.rules.specs.Refusal.{Store, Lent, nodeSize, mostSamples}
 use Rattle.rules.proofs.Refusal.{Sound}
-use Rattle.node.specs.Memory.{asNode}
+use Rattle.node.specs.Memory.{asNode, nodeIn}
 use Rattle.level.specs.Best.{fitsAt}
-use Rattle.summary.specs.Gather.{joined, joinNodes}
+use Rattle.range.specs.Join.{joinOver}
+use Rattle.summary.specs.Gather.{joined}
 use Rattle.summary.specs.declared.Summed.{Summed}
 use Rattle.summary.specs.declared.Summed.the-variants as summed-as
 
@@ -33,7 +33,7 @@ stepEnd p b = runEnd (span (levelAt p b)) p b
 -- the part of [p, b) that starts at p: a run of samples, or of nodes of a level
 unfoldable pub partNode : (ℕ → List ℕ) → (ℕ → ℕ) → ℕ → ℕ → ℕ → Node
 partNode levels s zero p end = nodeOf s p end
-partNode levels s (suc l) p end = joinNodes (levels (suc l)) (p / span (suc l)) (end / span (suc l))
+partNode levels s (suc l) p end = joinOver (nodeIn (levels (suc l))) (p / span (suc l)) (end / span (suc l) - 1 - p / span (suc l))
 
 module _ (levels : ℕ → List ℕ) (s : ℕ → ℕ) where
   abbrev pub stepNode : ℕ → ℕ → Node
@@ -68,10 +68,6 @@ summedOf (summed-as.Node n) = given (some (asNode n))
 summedOf summed-as.Nothing = given none
 
 -- ---- memory
--- the samples of a part that starts at place base
-abbrev pub shifted : ℕ → List ℕ → ℕ → ℕ → ℕ
-shifted unit part base i = sampleOf unit part (i - base)
-
 -- the samples of [base, b) lie in the part, and nodes that start before b in the levels
 pub record ChunkRoom (unit base b part : ℕ) (levels : ℕ → List ℕ) : Type 0 where
   pub low : 1 ≤ unit

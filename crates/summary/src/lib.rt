@@ -7,20 +7,20 @@ use level::span;
 use lines::Mask;
 use node::Node;
 use node::level_of;
-use node::node_in;
+use range::join_nodes;
+use range::raw_node;
 ghost use mathlib.Core.Path.{_≡_};
-ghost use Prim.Native.Nat.{_+_, _-_, _*_, _≤_, _<_, min};
+ghost use Prim.Native.Nat.{_≤_, _<_, min};
 ghost use lib.ListN.{length};
 ghost use Rattle.rules.specs.Sample.{sampleOf};
-ghost use Rattle.rules.specs.Node.{nodeOf, chunk};
+ghost use Rattle.rules.specs.Node.{chunk};
 ghost use Rattle.rules.specs.Answer.{given, unless};
-ghost use Rattle.rules.specs.Refusal.{storeRefusal, nodeSize, mostSamples};
+ghost use Rattle.rules.specs.Refusal.{storeRefusal, mostSamples};
 ghost use Rattle.rules.proofs.Refusal.{Sound};
 ghost use Rattle.node.specs.Memory.{asNode, levelOf};
+ghost use Rattle.range.specs.Part.{partSample};
 ghost use Rattle.capture.specs.Record.{storeOf, lentOf};
-ghost use Rattle.summary.specs.Scan.{Run, fromFirst};
-ghost use Rattle.summary.specs.Gather.{joinNodes};
-ghost use Rattle.summary.specs.Summary.{runEnd, cutAt, shifted, Part, ChunkRoom, chunkNode, Within, summed, summedOf, summaryOf};
+ghost use Rattle.summary.specs.Summary.{runEnd, cutAt, Part, ChunkRoom, chunkNode, Within, summed, summedOf, summaryOf};
 
 // The smaller of two numbers.
 pub fn smaller(a: usize, b: usize) -> usize
@@ -30,48 +30,6 @@ pub fn smaller(a: usize, b: usize) -> usize
         return a;
     }
     b
-}
-
-// The lines on which a sample of a to b, b too, differs from `first`.
-fn differing(bytes: &[u8], unitsize: usize, a: usize, b: usize, first: Mask) -> Mask
-    requires { ⌜ Run unitsize a b (length (now bytes)) ⌝ }
-    ensures { λ r. ⌜ r ≡ fromFirst (sampleOf unitsize (now (bytes .entry))) first a (b + 1 - a) ⌝ }
-{
-    let mut mask: Mask = 0;
-    let mut i = a;
-    let end = b + 1;
-    while i < end {
-        mask = mask | (lines::get(bytes, unitsize, i) ^ first);
-        i += 1;
-    }
-    mask
-}
-
-// The node of the samples a to b, b too. Its toggles are the lines that differ from the first sample anywhere.
-pub fn scan(bytes: &[u8], unitsize: usize, a: usize, b: usize) -> Node
-    requires { ⌜ Run unitsize a b (length (now bytes)) ⌝ }
-    ensures { λ r. ⌜ asNode r ≡ nodeOf (sampleOf unitsize (now (bytes .entry))) a (b + 1) ⌝ }
-{
-    let first = lines::get(bytes, unitsize, a);
-    Node {
-        first,
-        last: lines::get(bytes, unitsize, b),
-        mask: differing(bytes, unitsize, a, b, first),
-    }
-}
-
-// The nodes a to b of a level, b left out, joined.
-pub fn join_nodes(level: &[Mask], a: usize, b: usize) -> Node
-    requires { ⌜ (a < b) × (b * nodeSize ≤ length (now level)) ⌝ }
-    ensures { λ r. ⌜ asNode r ≡ joinNodes (now (level .entry)) a b ⌝ }
-{
-    let mut acc = node_in(level, a);
-    let mut i = a + 1;
-    while i < b {
-        acc = acc.join(node_in(level, i));
-        i += 1;
-    }
-    acc
 }
 
 // Nodes of s samples go on from pos to the next border of the level above, or to the last that ends by b.
@@ -103,14 +61,14 @@ fn first_piece<'a>(
     b: usize,
 ) -> Piece
     requires { ⌜ ChunkRoom unitsize base b (length (now part)) (levelOf (now l1) (now l2) (now l3) (now l4)) × (base ≤ pos) × (pos < b) ⌝ }
-    ensures { λ r. ⌜ Part (levelOf (now (l1 .entry)) (now (l2 .entry)) (now (l3 .entry)) (now (l4 .entry))) (shifted unitsize (now (part .entry)) base) pos b (asNode (r .node)) (r .end) ⌝ }
+    ensures { λ r. ⌜ Part (levelOf (now (l1 .entry)) (now (l2 .entry)) (now (l3 .entry)) (now (l4 .entry))) (partSample unitsize (now (part .entry)) base) pos b (asNode (r .node)) (r .end) ⌝ }
 {
     let l = best_level(pos, b - pos, LEVELS);
     let s = span(l);
     let end = run_end(pos, b, s);
     if l == 0 {
         return Piece {
-            node: scan(part, unitsize, pos - base, end - 1 - base),
+            node: raw_node(part, unitsize, pos - base, end - base),
             end,
         };
     }
@@ -134,7 +92,7 @@ fn chunk_summary<'a>(
     b: usize,
 ) -> Node
     requires { ⌜ ChunkRoom unitsize base b (length (now part)) (levelOf (now l1) (now l2) (now l3) (now l4)) × (base ≤ a) × (a < b) ⌝ }
-    ensures { λ r. ⌜ asNode r ≡ chunkNode (levelOf (now (l1 .entry)) (now (l2 .entry)) (now (l3 .entry)) (now (l4 .entry))) (shifted unitsize (now (part .entry)) base) a b ⌝ }
+    ensures { λ r. ⌜ asNode r ≡ chunkNode (levelOf (now (l1 .entry)) (now (l2 .entry)) (now (l3 .entry)) (now (l4 .entry))) (partSample unitsize (now (part .entry)) base) a b ⌝ }
 {
     let p = first_piece(part, l1, l2, l3, l4, unitsize, base, a, b);
     let mut acc = p.node;

@@ -1,11 +1,11 @@
 -- Laws of the check: what a loop over levels knows, that a node made from a right level below is the node of its range, and that no node is wrong exactly when the levels are right.
-use Prim.Native.Nat.{ℕ, zero, suc, _+_, _-_, _*_, _≤_, _<_, min}
+use Prim.Native.Nat.{ℕ, zero, suc, _+_, _-_, _*_, _/_, _≤_, _<_, min}
 use mathlib.Core.Path.{_≡_, refl, sym, ap, ap₂, _∙_, subst}
 use mathlib.Core.Bool.{Bool, true, false, not, _&&_}
 use mathlib.Core.List.{List}
 use mathlib.Core.Logic.{_↔_}
 use mathlib.Core.Option.{Option, none, some}
-use native.Mathlib.Nat.{mul-le-mul-left, mul-le-mul-right, le-div-iff-mul-le, pow-suc}
+use native.Mathlib.Nat.{mul-le-mul-left, le-div-iff-mul-le, pow-suc}
 use native.Mathlib.Decide.{decLt}
 use native.Mathlib.Omega.{arith}
 use lib.Dec.{eqb}
@@ -18,11 +18,12 @@ use Rattle.rules.proofs.Search.{times, times-up, seek-none, seek-skip, seek-her
 use Rattle.rules.proofs.Walk.{span-pos}
 use Rattle.node.specs.Memory.{nodeIn, RightAt, Right}
 use Rattle.level.proofs.Best.{span-le}
+use Rattle.range.specs.Join.{joinOver}
+use Rattle.range.specs.Part.{RangeIn}
+use Rattle.range.proofs.Joins.{made-at}
+use Rattle.range.proofs.Right.{made-true}
 use Rattle.capture.specs.Record.{lentOf}
 use Rattle.capture.proofs.Calls.{stored}
-use Rattle.summary.specs.Scan.{Run}
-use Rattle.summary.specs.Gather.{joinNodes}
-use Rattle.summary.proofs.Gather.{joined-node}
 use Rattle.summary.proofs.Laws.{node-room}
 use Rattle.whole.specs.Wrong.{sameNode, Place, orAbove, wrongAt, firstWrong}
 use Rattle.whole.specs.Made.{madeNode, Numbered}
@@ -33,6 +34,21 @@ covering len l j = (
   λ h. omega (arith, le-div-iff-mul-le {k = span l} {x = j + 1} {y = len + (span l - 1)} (span-pos l) .0 (omega arith), span-pos l),
   λ h. omega (arith, le-div-iff-mul-le {k = span l} {x = j + 1} {y = len + (span l - 1)} (span-pos l) .1 (omega (arith, span-pos l))),
 )
+
+-- the last of them starts before the end, and no sample is past it
+module _ (len l : ℕ) (h : 0 < len) where
+  counted : 0 < nodesFor len l
+  counted = covering len l 0 .1 (omega arith)
+
+  last-in : (nodesFor len l - 1) * span l < len
+  last-in = covering len l (nodesFor len l - 1) .0 (omega (arith, counted))
+
+  all-in : len ≤ suc (nodesFor len l - 1) * span l
+  all-in = go (decLt (suc (nodesFor len l - 1) * span l) len)
+    where
+      go : Dec (suc (nodesFor len l - 1) * span l < len) → len ≤ suc (nodesFor len l - 1) * span l
+      go (yes d) = absurd (omega (arith, covering len l (suc (nodesFor len l - 1)) .1 d))
+      go (no d) = omega arith
 
 -- ---- equal nodes
 -- the last test decides where the others hold
@@ -138,55 +154,6 @@ module _ (s : ℕ → ℕ) (len : ℕ) (levels : ℕ → List ℕ) where
       over = omega arith
 
   -- ---- a node made from the level below
-  module _ (l : ℕ) (right : RightAt s len levels l) where
-    abbrev at : ℕ → ℕ
-    at k = min (k * span l) len
-
-    abbrev count : ℕ
-    count = nodesFor len l
-
-    starts-in : (k : ℕ) → k < count → k * span l < len
-    starts-in k h = covering len l k .0 h
-
-    -- the node after the last starts at the end or past it
-    all-in : len ≤ count * span l
-    all-in = go (decLt (count * span l) len)
-      where
-        go : Dec (count * span l < len) → len ≤ count * span l
-        go (yes d) = absurd (omega (arith, covering len l count .1 d))
-        go (no d) = omega arith
-
-    rising : (x y : ℕ) → x < y → y ≤ count → at x < at y
-    rising x y h k = omega (arith, starts-in x (omega arith), span-pos l, mul-le-mul-right {m = x + 1} {n = y} (span l) (omega arith))
-
-    join-is : (a b : ℕ) → a < b → b ≤ count → joinNodes (levels l) a b ≡ nodeOf s (at a) (at b)
-    join-is = joined-node (λ p e. nodeIn (levels l) p) (λ p e. p + 1) s at count rising (λ p b h k. record { more = omega arith; upto = omega arith; is = one p (omega arith) })
-      where
-        one : (p : ℕ) → p < count → nodeIn (levels l) p ≡ nodeOf s (at p) (at (p + 1))
-        one p h = right p (starts-in p h) ∙ ap₂ (nodeOf s) (omega (arith, starts-in p h)) (omega arith)
-
-    join-right : (j : ℕ) → j * span (suc l) < len → joinNodes (levels l) (j * 32) (min (j * 32 + 32) count) ≡ levelNode s len (suc l) j
-    join-right j h = join-is (j * 32) (min (j * 32 + 32) count) (omega (arith, inside)) (omega arith) ∙ ap₂ (nodeOf s) first-at (last-at (decLt count (j * 32 + 32)))
-      where
-        wide : span (suc l) ≡ span l * 32
-        wide = pow-suc 32 l
-
-        start : j * 32 * span l ≡ j * span (suc l)
-        start = sym (ap (λ (x : ℕ). j * x) wide ∙ omega arith)
-
-        end : (j * 32 + 32) * span l ≡ suc j * span (suc l)
-        end = sym (ap (λ (x : ℕ). suc j * x) wide ∙ omega arith)
-
-        inside : j * 32 < count
-        inside = covering len l (j * 32) .1 (omega (arith, start))
-
-        first-at : at (j * 32) ≡ j * span (suc l)
-        first-at = omega (arith, start)
-
-        last-at : Dec (count < j * 32 + 32) → at (min (j * 32 + 32) count) ≡ min (suc j * span (suc l)) len
-        last-at (yes d) = let e : min (j * 32 + 32) count ≡ count = omega arith in ap at e ∙ omega (arith, end, all-in, mul-le-mul-right {m = count} {n = j * 32 + 32} (span l) (omega arith))
-        last-at (no d) = let e : min (j * 32 + 32) count ≡ j * 32 + 32 = omega arith in ap at e ∙ omega (arith, end)
-
   pub made-right : (l j : ℕ) → Checking l → l ≤ topLevel → j * span l < len → madeNode s len levels l j ≡ levelNode s len l j
   unfolding madeNode
   made-right zero j c h k = absurd (omega (arith, c .low))
@@ -194,7 +161,7 @@ module _ (s : ℕ → ℕ) (len : ℕ) (levels : ℕ → List ℕ) where
     where
       ends : min (j * 32 + 32) len ≡ min (suc j * 32) len
       ends = omega arith
-  made-right (suc (suc l)) j c h k = join-right (suc l) (c .below (suc l) (omega arith) (omega arith)) j k
+  made-right (suc (suc l)) j c h k = made-true s len (suc l) (nodesFor len (suc l) - 1) (nodeIn (levels (suc l))) (c .below (suc l) (omega arith) (omega arith)) (last-in len (suc l) (omega arith)) (all-in len (suc l) (omega arith)) j k
 
   -- what the code finds of a node is whether it is wrong
   pub wrong-is : (l j : ℕ) (t : Bool) → Checking l → l ≤ topLevel → j * span l < len → t ≡ not (sameNode (nodeIn (levels l) j) (madeNode s len levels l j)) → t ≡ wrongAt s len levels l j
@@ -231,12 +198,12 @@ module _ (st : Store) (samples : List ℕ) (levels : ℕ → List ℕ) (l j : �
   pub number-small : j * 32 < 67108864
   number-small = omega (arith, n .covers, n .sound .len-most, n .sound .capacity-most, mul-le-mul-left {m = 32} {n = span l} j (span-le {l = 1} {k = l} (n .low)))
 
-  pub scan-room : (e : ℕ) → l ≡ 1 → e ≡ min (j * 32 + 32) (st .len) → Run (st .unit) (j * 32) (e - 1) (length samples)
-  scan-room e z ee = record {
+  pub samples-room : (e : ℕ) → l ≡ 1 → e ≡ min (j * 32 + 32) (st .len) → RangeIn (st .unit) (j * 32) e (length samples)
+  samples-room e z ee = record {
     low = n .sound .unit-least;
     high = n .sound .unit-most;
-    order = omega (arith, covers);
-    room = omega (arith, stored st samples levels (n .sound) (e - 1 + 1) (omega (arith, covers)));
+    some = omega (arith, covers);
+    room = stored st samples levels (n .sound) e (omega arith);
   }
     where
       covers : j * 32 < st .len
@@ -257,18 +224,21 @@ module _ (st : Store) (samples : List ℕ) (levels : ℕ → List ℕ) (l j : �
       room : (e - 1) * nodeSize + nodeSize ≤ length (levels (l - 1))
       room = node-room st (lentOf samples levels) (n .sound) (l - 1) (e - 1) (omega arith) (omega (arith, n .high)) (covering (st .len) (l - 1) (e - 1) .0 (omega (arith, first)))
 
-pub made-samples : (s : ℕ → ℕ) (len : ℕ) (levels : ℕ → List ℕ) (l j e : ℕ) → l ≡ 1 → e ≡ min (j * 32 + 32) len → j * 32 < e → nodeOf s (j * 32) (e - 1 + 1) ≡ madeNode s len levels l j
+pub made-samples : (s : ℕ → ℕ) (len : ℕ) (levels : ℕ → List ℕ) (l j e : ℕ) → l ≡ 1 → e ≡ min (j * 32 + 32) len → nodeOf s (j * 32) e ≡ madeNode s len levels l j
 unfolding madeNode
-made-samples s len levels l j e z ee h = ap (nodeOf s (j * 32)) ends ∙ sym (ap (λ (k : ℕ). madeNode s len levels k j) z)
-  where
-    ends : e - 1 + 1 ≡ min (j * 32 + 32) len
-    ends = omega arith
+made-samples s len levels l j e z ee = ap (nodeOf s (j * 32)) ee ∙ sym (ap (λ (k : ℕ). madeNode s len levels k j) z)
 
-pub made-below : (s : ℕ → ℕ) (len : ℕ) (levels : ℕ → List ℕ) (l j e : ℕ) (below : List ℕ) → 2 ≤ l → e ≡ min (j * 32 + 32) (nodesFor len (l - 1)) → below ≡ levels (l - 1) → joinNodes below (j * 32) e ≡ madeNode s len levels l j
+pub made-below : (s : ℕ → ℕ) (len : ℕ) (levels : ℕ → List ℕ) (l j e : ℕ) (below : List ℕ) (n : Node) → 2 ≤ l → j * 32 < e → e ≡ min (j * 32 + 32) (nodesFor len (l - 1)) → below ≡ levels (l - 1)
+    → n ≡ joinOver (nodeIn below) (j * 32) (e - 1 - j * 32) → n ≡ madeNode s len levels l j
 unfolding madeNode
-made-below s len levels zero j e below h ee el = absurd (omega arith)
-made-below s len levels (suc zero) j e below h ee el = absurd (omega arith)
-made-below s len levels (suc (suc l)) j e below h ee el = ap₂ (λ (x : List ℕ) (y : ℕ). joinNodes x (j * 32) y) (el ∙ ap levels down) (ee ∙ ap (λ (k : ℕ). min (j * 32 + 32) (nodesFor len k)) down)
+made-below s len levels zero j e below n h k ee el en = absurd (omega arith)
+made-below s len levels (suc zero) j e below n h k ee el en = absurd (omega arith)
+made-below s len levels (suc (suc l)) j e below n h k ee el en =
+    let t = upto (nodesFor len (suc l)) (ee ∙ ap (λ (i : ℕ). min (j * 32 + 32) (nodesFor len i)) down) in
+    made-at (nodeIn (levels (suc l))) (nodesFor len (suc l) - 1) j (j * 32) e n (t .0) refl (t .1) (en ∙ ap (λ (x : List ℕ). joinOver (nodeIn x) (j * 32) (e - 1 - j * 32)) (el ∙ ap levels down))
   where
     down : suc (suc l) - 1 ≡ suc l
     down = omega arith
+
+    upto : (count : ℕ) → e ≡ min (j * 32 + 32) count → (j ≤ (count - 1) / 32) × (e ≡ min (j * 32 + 32) (count - 1 + 1))
+    upto count q = (omega arith, omega arith)

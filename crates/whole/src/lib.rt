@@ -7,8 +7,8 @@ use lines::Mask;
 use node::Node;
 use node::level_of;
 use node::node_in;
-use summary::join_nodes;
-use summary::scan;
+use range::join_nodes;
+use range::raw_node;
 use summary::smaller;
 ghost use mathlib.Core.Path.{_≡_};
 ghost use mathlib.Core.Bool.{Bool, not};
@@ -61,7 +61,7 @@ fn made<'a>(
     let a = j * 32;
     if level == 1 {
         let e = smaller(a + 32, c.len);
-        return scan(samples, c.unitsize, a, e - 1);
+        return raw_node(samples, c.unitsize, a, e);
     }
     let e = smaller(a + 32, nodes_of(c.len, level - 1));
     join_nodes(level_of(l1, l2, l3, l4, level - 1), a, e)

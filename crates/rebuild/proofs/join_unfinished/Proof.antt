@@ -1,5 +1,4 @@
 -- `rebuild::join_unfinished` meets its contract: the new samples of the unfinished node join it. Assumes nothing.
-use mathlib.Core.Path.{refl}
 use borrow.Author.Needs.{needs}
 use denote.Ref.{now}
 use Rattle.rebuild.proofs.Running.{joined-none, join-room, joined-some}

@@ -5,9 +5,9 @@ use native.Mathlib.Omega.{arith}
 use borrow.Author.Needs.{needs}
 use denote.Ref.{now}
 use Rattle.rules.specs.Node.{levelNode}
-use Rattle.rebuild.specs.Rebuild.{partSample}
+use Rattle.range.specs.Part.{partSample}
 use Rattle.rebuild.proofs.Nodes.{Putting, putting-starts, putting-on, putting-end}
-use Rattle.rebuild.proofs.Raw.{part-node, part-room}
+use Rattle.rebuild.proofs.Running.{part-node, part-room}
 use Rattle.rebuild.proofs.rebuild_each.Statement.{statement}
 use Rattle.rebuild.proofs.rebuild_each.Tie as tie
 

@@ -4,8 +4,9 @@ use mathlib.Core.Path.{refl}
 use borrow.Author.Needs.{needs}
 use denote.Ref.{now}
 use Rattle.node.specs.Memory.{nodeIn}
-use Rattle.rebuild.specs.Rebuild.{madeOver}
-use Rattle.rebuild.proofs.Nodes.{Putting, putting-starts, putting-on, putting-end, made-at}
+use Rattle.range.specs.Join.{madeOver}
+use Rattle.range.proofs.Joins.{made-at}
+use Rattle.rebuild.proofs.Nodes.{Putting, putting-starts, putting-on, putting-end}
 use Rattle.rebuild.proofs.rebuild_level.Statement.{statement}
 use Rattle.rebuild.proofs.rebuild_level.Tie as tie
 

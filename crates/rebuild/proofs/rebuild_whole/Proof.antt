@@ -6,9 +6,9 @@ use borrow.Author.Needs.{needs}
 use denote.Ref.{now}
 use Rattle.rules.specs.Sample.{sampleOf}
 use Rattle.rules.specs.Node.{nodeOf, levelNode}
-use Rattle.rebuild.specs.Rebuild.{partSample}
+use Rattle.range.specs.Part.{partSample}
 use Rattle.rebuild.proofs.Nodes.{Putting, putting-starts, putting-on}
-use Rattle.rebuild.proofs.Raw.{part-node}
+use Rattle.rebuild.proofs.Running.{part-node}
 use Rattle.rebuild.proofs.rebuild_whole.Statement.{statement}
 use Rattle.rebuild.proofs.rebuild_whole.Tie as tie
 

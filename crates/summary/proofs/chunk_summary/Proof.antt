@@ -4,14 +4,15 @@ use native.Mathlib.Omega.{arith}
 use denote.Ref.{now}
 use borrow.Author.Needs.{needs}
 use Rattle.node.specs.Memory.{asNode, levelOf}
-use Rattle.summary.specs.Summary.{stepNode, stepEnd, chunkNode, shifted}
+use Rattle.range.specs.Part.{partSample}
+use Rattle.summary.specs.Summary.{stepNode, stepEnd, chunkNode}
 use Rattle.summary.specs.Gather.{joined}
 use Rattle.summary.proofs.Gather.{Gathering, gather-starts, gather-turn, gather-ends}
 use Rattle.summary.proofs.chunk_summary.Statement.{statement}
 use Rattle.summary.proofs.chunk_summary.Tie as tie
 
 abbrev Inv-loop : tie.InvT-loop
-Inv-loop part l1 l2 l3 l4 unitsize base a b acc₀ pos₀ acc pos = (a < pos) × Gathering (stepNode (levelOf l1 l2 l3 l4) (shifted unitsize part base)) stepEnd b (joined (stepNode (levelOf l1 l2 l3 l4) (shifted unitsize part base)) stepEnd a b) (asNode acc) pos
+Inv-loop part l1 l2 l3 l4 unitsize base a b acc₀ pos₀ acc pos = (a < pos) × Gathering (stepNode (levelOf l1 l2 l3 l4) (partSample unitsize part base)) stepEnd b (joined (stepNode (levelOf l1 l2 l3 l4) (partSample unitsize part base)) stepEnd a b) (asNode acc) pos
 
 abbrev μ-loop : tie.MeasureT-loop
 μ-loop part l1 l2 l3 l4 unitsize base a b acc₀ pos₀ acc pos = b - pos
@@ -23,7 +24,7 @@ loop-holds : tie.Need-loop-holds Inv-loop μ-loop
 loop-holds c =
     let a = c .before .before .before .before .before .before .before .args in
     let f = c .before .first-piece in
-    (f .ensures .more, gather-starts (stepNode (levelOf (now (a .l1)) (now (a .l2)) (now (a .l3)) (now (a .l4))) (shifted (a .unitsize) (now (a .part)) (a .base))) stepEnd (a .a) (a .b) (asNode (f .result .node)) (f .result .end) (f .ensures .node-is) (f .ensures .end-is) (f .ensures .more) (f .ensures .upto))
+    (f .ensures .more, gather-starts (stepNode (levelOf (now (a .l1)) (now (a .l2)) (now (a .l3)) (now (a .l4))) (partSample (a .unitsize) (now (a .part)) (a .base))) stepEnd (a .a) (a .b) (asNode (f .result .node)) (f .result .end) (f .ensures .node-is) (f .ensures .end-is) (f .ensures .more) (f .ensures .upto))
 
 first-piece-requires-2 : tie.Need-first-piece-requires-2 Inv-loop μ-loop
 first-piece-requires-2 c κs =
@@ -41,14 +42,14 @@ loop-again c =
     let a = c .before .before .before .before .before .before .before .before .before .before .before .args in
     let l = c .before .before .before .loop in
     let f = c .before .first-piece2 in
-    (omega (arith, f .ensures .more, l .inv .0), gather-turn (stepNode (levelOf (now (a .l1)) (now (a .l2)) (now (a .l3)) (now (a .l4))) (shifted (a .unitsize) (now (a .part)) (a .base))) stepEnd (a .b) (joined (stepNode (levelOf (now (a .l1)) (now (a .l2)) (now (a .l3)) (now (a .l4))) (shifted (a .unitsize) (now (a .part)) (a .base))) stepEnd (a .a) (a .b)) (asNode (l .acc)) (l .pos) (asNode (f .result .node)) (asNode (c .join .result)) (f .result .end) (l .inv .1) (c .before .before .loop-test .taken) (f .ensures .node-is) (f .ensures .end-is) (f .ensures .more) (f .ensures .upto) (c .join .ensures))
+    (omega (arith, f .ensures .more, l .inv .0), gather-turn (stepNode (levelOf (now (a .l1)) (now (a .l2)) (now (a .l3)) (now (a .l4))) (partSample (a .unitsize) (now (a .part)) (a .base))) stepEnd (a .b) (joined (stepNode (levelOf (now (a .l1)) (now (a .l2)) (now (a .l3)) (now (a .l4))) (partSample (a .unitsize) (now (a .part)) (a .base))) stepEnd (a .a) (a .b)) (asNode (l .acc)) (l .pos) (asNode (f .result .node)) (asNode (c .join .result)) (f .result .end) (l .inv .1) (c .before .before .loop-test .taken) (f .ensures .node-is) (f .ensures .end-is) (f .ensures .more) (f .ensures .upto) (c .join .ensures))
 
 returns : tie.Need-returns Inv-loop μ-loop
 unfolding chunkNode
 returns c =
     let a = c .before .before .before .before .before .before .before .before .before .args in
     let l = c .before .loop in
-    gather-ends (stepNode (levelOf (now (a .l1)) (now (a .l2)) (now (a .l3)) (now (a .l4))) (shifted (a .unitsize) (now (a .part)) (a .base))) stepEnd (a .b) (joined (stepNode (levelOf (now (a .l1)) (now (a .l2)) (now (a .l3)) (now (a .l4))) (shifted (a .unitsize) (now (a .part)) (a .base))) stepEnd (a .a) (a .b)) (asNode (l .acc)) (l .pos) (l .inv .1) (c .loop-test .left)
+    gather-ends (stepNode (levelOf (now (a .l1)) (now (a .l2)) (now (a .l3)) (now (a .l4))) (partSample (a .unitsize) (now (a .part)) (a .base))) stepEnd (a .b) (joined (stepNode (levelOf (now (a .l1)) (now (a .l2)) (now (a .l3)) (now (a .l4))) (partSample (a .unitsize) (now (a .part)) (a .base))) stepEnd (a .a) (a .b)) (asNode (l .acc)) (l .pos) (l .inv .1) (c .loop-test .left)
 
 pub chunk-summary-spec : {M : Type 1} → statement M
 chunk-summary-spec = tie.close (tie.spec Inv-loop μ-loop first-piece-requires loop-holds first-piece-requires-2 join-requires loop-less loop-again returns)

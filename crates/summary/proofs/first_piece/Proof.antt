@@ -5,9 +5,9 @@ use denote.Ref.{now}
 use borrow.Author.Needs.{needs}
 use Rattle.rules.specs.Sample.{sampleOf}
 use Rattle.node.specs.Memory.{asNode, levelOf}
-use Rattle.summary.specs.Summary.{shifted}
-use Rattle.summary.proofs.Toggles.{node-shift}
-use Rattle.summary.proofs.Laws.{end-inside, part-run, part-level, piece-room, run-room}
+use Rattle.range.specs.Part.{partSample}
+use Rattle.range.proofs.Part.{shift-node, range-in}
+use Rattle.summary.proofs.Laws.{end-inside, part-run, part-level, piece-room}
 use Rattle.summary.proofs.first_piece.Statement.{statement}
 use Rattle.summary.proofs.first_piece.Tie as tie
 
@@ -23,37 +23,31 @@ span-requires c κs = search needs
 run-end-requires : tie.Need-run-end-requires
 run-end-requires c κs = search needs
 
-sub-scan : tie.Need-sub-scan
-sub-scan c = search needs
+sub-raw-node : tie.Need-sub-raw-node
+sub-raw-node c = search needs
 
-sub-scan-2 : tie.Need-sub-scan-2
-sub-scan-2 c =
-    let s = c .before .before .before .before .before .before .before .before .before in
-    let a = s .args in
-    let e = end-inside (a .pos) (a .b) (c .before .before .before .best-level .result) (c .before .before .span .result) (c .before .run-end .result) (s .pre .2) (c .before .before .before .best-level .ensures) (c .before .before .span .ensures .0) (c .before .run-end .ensures) in
-    omega (arith, e)
-
-sub-scan-3 : tie.Need-sub-scan-3
-sub-scan-3 c =
+sub-raw-node-2 : tie.Need-sub-raw-node-2
+sub-raw-node-2 c =
     let s = c .before .before .before .before .before .before .before .before .before in
     let a = s .args in
     let e = end-inside (a .pos) (a .b) (c .before .before .before .best-level .result) (c .before .before .span .result) (c .before .run-end .result) (s .pre .2) (c .before .before .before .best-level .ensures) (c .before .before .span .ensures .0) (c .before .run-end .ensures) in
     omega (arith, e, s .pre)
 
-scan-requires : tie.Need-scan-requires
-scan-requires c κs =
+raw-node-requires : tie.Need-raw-node-requires
+raw-node-requires c κs =
     let s = c .before .before .before .before .before .before .before .before .before in
     let a = s .args in
     let e = end-inside (a .pos) (a .b) (c .before .before .before .best-level .result) (c .before .before .span .result) (c .before .run-end .result) (s .pre .2) (c .before .before .before .best-level .ensures) (c .before .before .span .ensures .0) (c .before .run-end .ensures) in
-    run-room (a .unitsize) (a .base) (a .b) _ (levelOf (now (a .l1)) (now (a .l2)) (now (a .l3)) (now (a .l4))) (s .pre .0) (a .pos) (c .before .run-end .result) (s .pre .1) (e .0) (e .1)
+    let r = s .pre .0 in
+    range-in (a .unitsize) (a .base) (a .b) _ (a .pos) (c .before .run-end .result) (r .low) (r .high) (r .samples) (s .pre .1) (e .0) (e .1)
 
 returns : tie.Need-returns
 returns c =
     let s = c .before .before .before .before .before .before .before .before .before .before in
     let a = s .args in
     let e = end-inside (a .pos) (a .b) (c .before .before .before .before .best-level .result) (c .before .before .before .span .result) (c .before .before .run-end .result) (s .pre .2) (c .before .before .before .before .best-level .ensures) (c .before .before .before .span .ensures .0) (c .before .before .run-end .ensures) in
-    part-run (a .pos) (a .b) (c .before .before .before .before .best-level .result) (c .before .before .before .span .result) (c .before .before .run-end .result) (s .pre .2) (c .before .before .before .before .best-level .ensures) (c .before .before .before .span .ensures .0) (c .before .before .run-end .ensures) (levelOf (now (a .l1)) (now (a .l2)) (now (a .l3)) (now (a .l4))) (shifted (a .unitsize) (now (a .part)) (a .base)) (asNode (c .scan .result)) (c .before .if1 .taken)
-    (c .scan .ensures ∙ node-shift (sampleOf (a .unitsize) (now (a .part))) (a .base) (a .pos) (c .before .before .run-end .result) (s .pre .1) (e .0))
+    part-run (a .pos) (a .b) (c .before .before .before .before .best-level .result) (c .before .before .before .span .result) (c .before .before .run-end .result) (s .pre .2) (c .before .before .before .before .best-level .ensures) (c .before .before .before .span .ensures .0) (c .before .before .run-end .ensures) (levelOf (now (a .l1)) (now (a .l2)) (now (a .l3)) (now (a .l4))) (partSample (a .unitsize) (now (a .part)) (a .base)) (asNode (c .raw-node .result)) (c .before .if1 .taken)
+    (c .raw-node .ensures ∙ shift-node (sampleOf (a .unitsize) (now (a .part))) (a .base) (a .pos) (c .before .before .run-end .result) (s .pre .1) (e .0))
 
 level-of-requires : tie.Need-level-of-requires
 level-of-requires c κs = search needs
@@ -74,7 +68,7 @@ returns-2 : tie.Need-returns-2
 returns-2 c =
     let s = c .before .before .before .before .before .before .before .before .before .before .before in
     let a = s .args in
-    part-level (a .pos) (a .b) (c .before .before .before .before .before .best-level .result) (c .before .before .before .before .span .result) (c .before .before .before .run-end .result) (s .pre .2) (c .before .before .before .before .before .best-level .ensures) (c .before .before .before .before .span .ensures .0) (c .before .before .before .run-end .ensures) (levelOf (now (a .l1)) (now (a .l2)) (now (a .l3)) (now (a .l4))) (shifted (a .unitsize) (now (a .part)) (a .base)) (asNode (c .join-nodes .result)) (c .before .before .if1 .left) (now (c .before .level-of .result)) (c .before .level-of .ensures) (c .join-nodes .ensures)
+    part-level (a .pos) (a .b) (c .before .before .before .before .before .best-level .result) (c .before .before .before .before .span .result) (c .before .before .before .run-end .result) (s .pre .2) (c .before .before .before .before .before .best-level .ensures) (c .before .before .before .before .span .ensures .0) (c .before .before .before .run-end .ensures) (levelOf (now (a .l1)) (now (a .l2)) (now (a .l3)) (now (a .l4))) (partSample (a .unitsize) (now (a .part)) (a .base)) (asNode (c .join-nodes .result)) (c .before .before .if1 .left) (now (c .before .level-of .result)) (c .before .level-of .ensures) (c .join-nodes .ensures)
 
 pub first-piece-spec : {M : Type 1} → statement M
 first-piece-spec =
@@ -84,10 +78,9 @@ first-piece-spec =
     best-level-requires
     span-requires
     run-end-requires
-    sub-scan
-    sub-scan-2
-    sub-scan-3
-    scan-requires
+    sub-raw-node
+    sub-raw-node-2
+    raw-node-requires
     returns
     level-of-requires
     div-join-nodes

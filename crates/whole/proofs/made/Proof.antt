@@ -1,5 +1,5 @@
 -- `whole::made` meets its contract: level 1 from samples, another from the level below. Assumes nothing.
-use Prim.Native.Nat.{_+_, _*_, min}
+use Prim.Native.Nat.{_+_, _*_, _≤_, min}
 use mathlib.Core.Path.{ap, _∙_}
 use native.Mathlib.Omega.{arith}
 use denote.Ref.{now}
@@ -7,7 +7,7 @@ use borrow.Author.Needs.{needs}
 use Rattle.rules.specs.Sample.{sampleOf}
 use Rattle.node.specs.Memory.{levelOf}
 use Rattle.capture.specs.Record.{storeOf}
-use Rattle.whole.proofs.Laws.{number-small, scan-room, join-room, made-samples, made-below}
+use Rattle.whole.proofs.Laws.{number-small, samples-room, join-room, made-samples, made-below}
 use Rattle.whole.proofs.made.Statement.{statement}
 use Rattle.whole.proofs.made.Tie as tie
 
@@ -26,23 +26,17 @@ add-smaller c =
 smaller-requires : tie.Need-smaller-requires
 smaller-requires c κs = search needs
 
-sub-scan : tie.Need-sub-scan
-sub-scan c =
+raw-node-requires : tie.Need-raw-node-requires
+raw-node-requires c κs =
     let s = c .before .before .before .before .before .before .before in
     let a = s .args in
-    omega (arith, c .smaller .ensures, scan-room (storeOf (a .c)) (now (a .samples)) (levelOf (now (a .l1)) (now (a .l2)) (now (a .l3)) (now (a .l4))) (a .level) (a .j) (s .pre) (c .smaller .result) (c .before .if1 .taken) (c .smaller .ensures) .order)
-
-scan-requires : tie.Need-scan-requires
-scan-requires c κs =
-    let s = c .before .before .before .before .before .before .before in
-    let a = s .args in
-    scan-room (storeOf (a .c)) (now (a .samples)) (levelOf (now (a .l1)) (now (a .l2)) (now (a .l3)) (now (a .l4))) (a .level) (a .j) (s .pre) (c .smaller .result) (c .before .if1 .taken) (c .smaller .ensures)
+    samples-room (storeOf (a .c)) (now (a .samples)) (levelOf (now (a .l1)) (now (a .l2)) (now (a .l3)) (now (a .l4))) (a .level) (a .j) (s .pre) (c .smaller .result) (c .before .if1 .taken) (c .smaller .ensures)
 
 returns : tie.Need-returns
 returns c =
     let s = c .before .before .before .before .before .before .before .before in
     let a = s .args in
-    c .scan .ensures ∙ made-samples (sampleOf (a .c .unitsize) (now (a .samples))) (a .c .len) (levelOf (now (a .l1)) (now (a .l2)) (now (a .l3)) (now (a .l4))) (a .level) (a .j) (c .before .smaller .result) (c .before .before .if1 .taken) (c .before .smaller .ensures) (omega (arith, scan-room (storeOf (a .c)) (now (a .samples)) (levelOf (now (a .l1)) (now (a .l2)) (now (a .l3)) (now (a .l4))) (a .level) (a .j) (s .pre) (c .before .smaller .result) (c .before .before .if1 .taken) (c .before .smaller .ensures) .order))
+    c .raw-node .ensures ∙ made-samples (sampleOf (a .c .unitsize) (now (a .samples))) (a .c .len) (levelOf (now (a .l1)) (now (a .l2)) (now (a .l3)) (now (a .l4))) (a .level) (a .j) (c .before .smaller .result) (c .before .before .if1 .taken) (c .before .smaller .ensures)
 
 add-smaller-2 : tie.Need-add-smaller-2
 add-smaller-2 c =
@@ -75,7 +69,11 @@ returns-2 : tie.Need-returns-2
 returns-2 c =
     let s = c .before .before .before .before .before .before .before .before .before .before in
     let a = s .args in
-    c .join-nodes .ensures ∙ made-below (sampleOf (a .c .unitsize) (now (a .samples))) (a .c .len) (levelOf (now (a .l1)) (now (a .l2)) (now (a .l3)) (now (a .l4))) (a .level) (a .j) (c .before .before .smaller2 .result) (now (c .before .level-of .result)) (omega (arith, s .pre .low, c .before .before .before .before .if1 .left)) (c .before .before .smaller2 .ensures ∙ ap (min (a .j * 32 + 32)) (c .before .before .before .nodes-of .ensures)) (c .before .level-of .ensures)
+    let e = c .before .before .smaller2 .ensures ∙ ap (min (a .j * 32 + 32)) (c .before .before .before .nodes-of .ensures) in
+    let h : 2 ≤ a .level = omega (arith, s .pre .low, c .before .before .before .before .if1 .left) in
+    made-below (sampleOf (a .c .unitsize) (now (a .samples))) (a .c .len) (levelOf (now (a .l1)) (now (a .l2)) (now (a .l3)) (now (a .l4))) (a .level) (a .j) (c .before .before .smaller2 .result) (now (c .before .level-of .result)) _ h
+    (join-room (storeOf (a .c)) (now (a .samples)) (levelOf (now (a .l1)) (now (a .l2)) (now (a .l3)) (now (a .l4))) (a .level) (a .j) (s .pre) (c .before .before .smaller2 .result) (now (c .before .level-of .result)) h e (c .before .level-of .ensures) .0)
+    e (c .before .level-of .ensures) (c .join-nodes .ensures)
 
 pub made-spec : {M : Type 1} → statement M
-made-spec = tie.close (tie.spec mul-a add-smaller smaller-requires sub-scan scan-requires returns add-smaller-2 sub-nodes-of nodes-of-requires smaller-requires-2 sub-level-of level-of-requires join-nodes-requires returns-2)
+made-spec = tie.close (tie.spec mul-a add-smaller smaller-requires raw-node-requires returns add-smaller-2 sub-nodes-of nodes-of-requires smaller-requires-2 sub-level-of level-of-requires join-nodes-requires returns-2)

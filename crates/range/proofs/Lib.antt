@@ -1,0 +1,5 @@
+pub mod Joins
+pub mod Packed
+pub mod Part
+pub mod Raw
+pub mod Right

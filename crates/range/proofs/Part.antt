@@ -1,0 +1,59 @@
+-- Laws of a part of memory that starts at place base: its nodes and samples by their places, and the ranges that lie in it.
+use Prim.Native.Nat.{ℕ, zero, suc, _+_, _-_, _*_, _≤_, _<_}
+use mathlib.Core.Path.{_≡_, refl, ap, ap₂, _∙_}
+use mathlib.Core.List.{List}
+use native.Mathlib.Nat.{mul-le-mul-right}
+use native.Mathlib.Omega.{arith}
+use lib.Bits.{bitOr, bitXor}
+use lib.ListN.{take, drop}
+use Rattle.rules.specs.Sample.{sampleOf}
+use Rattle.rules.specs.Node.{togglesOf, nodeOf}
+use Rattle.rules.proofs.Sample.{sample-part}
+use Rattle.range.specs.Part.{RangeIn, partSample}
+
+-- ---- nodes
+module _ (s : ℕ → ℕ) (base : ℕ) where
+  shift-toggles : (a n : ℕ) → base ≤ a → togglesOf s (a - base) n ≡ togglesOf (λ i. s (i - base)) a n
+  unfolding togglesOf
+  shift-toggles a zero h = refl
+  shift-toggles a (suc n) h = ap₂ bitOr (shift-toggles a n h) (ap₂ (λ (x y : ℕ). bitXor (s x) (s y)) here before)
+    where
+      here : a - base + suc n ≡ a + suc n - base
+      here = omega arith
+
+      before : a - base + suc n - 1 ≡ a + suc n - 1 - base
+      before = omega arith
+
+  pub shift-node : (a b : ℕ) → base ≤ a → a < b → nodeOf s (a - base) (b - base) ≡ nodeOf (λ i. s (i - base)) a b
+  unfolding nodeOf
+  shift-node a b h k = λ x. record { first = s (a - base); last = s (last x); toggles = (ap (togglesOf s (a - base)) count ∙ shift-toggles a (b - 1 - a) h) x }
+    where
+      last : b - base - 1 ≡ b - 1 - base
+      last = omega arith
+
+      count : b - base - 1 - (a - base) ≡ b - 1 - a
+      count = omega arith
+
+-- ---- samples
+-- the samples of the part from base to stop are those of the memory
+pub part-sample : (u : ℕ) (s : List ℕ) (base stop i : ℕ) → base ≤ i → i < stop → partSample u (take (stop * u - base * u) (drop (base * u) s)) base i ≡ sampleOf u s i
+part-sample u s base stop i a b = sample-part u s base (stop * u - base * u) (i - base) (omega (arith, ends)) ∙ ap (sampleOf u s) back
+  where
+    ends : (suc (i - base) + base) * u ≤ stop * u
+    ends = mul-le-mul-right u inside
+      where
+        inside : suc (i - base) + base ≤ stop
+        inside = omega arith
+
+    back : base + (i - base) ≡ i
+    back = omega arith
+
+-- ---- room
+-- a range whose places lie between base and n, in a part that has the samples up to n
+pub range-in : (unit base n part a b : ℕ) → 1 ≤ unit → unit ≤ 2 → n * unit ≤ base * unit + part → base ≤ a → a < b → b ≤ n → RangeIn unit (a - base) (b - base) part
+range-in unit base n part a b low high samples from some upto = record {
+  low = low;
+  high = high;
+  some = omega arith;
+  room = omega (arith, mul-le-mul-right {m = base + (b - base)} {n = n} unit (omega arith));
+}

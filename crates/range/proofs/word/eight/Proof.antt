@@ -1,0 +1,27 @@
+-- `range::word::eight` meets its contract. Assumes nothing.
+use borrow.Author.Needs.{needs}
+use Rattle.range.proofs.Packed.{packed-next}
+use Rattle.range.proofs.word.eight.Statement.{statement}
+use Rattle.range.proofs.word.eight.Tie as tie
+
+add-four : tie.Need-add-four
+add-four c = search needs
+
+four-requires : tie.Need-four-requires
+four-requires c κs = search needs
+
+mul-result : tie.Need-mul-result
+mul-result c = search needs
+
+four-requires-2 : tie.Need-four-requires-2
+four-requires-2 c κs = search needs
+
+add-result : tie.Need-add-result
+add-result c = search needs
+
+returns : tie.Need-returns
+returns c = packed-next 2 _ _ _ _ (c .before .four .ensures .0) (c .four2 .ensures .0)
+
+pub eight-spec : {M : Type 1} → statement M
+eight-spec =
+    tie.close (tie.spec add-four four-requires mul-result four-requires-2 add-result returns)

@@ -1,0 +1,15 @@
+-- Samples in a part of memory.
+use mathlib.Core.List.{List}
+use Prim.Native.Nat.{ℕ, _-_, _*_, _≤_, _<_}
+use Rattle.rules.specs.Sample.{sampleOf}
+
+-- the samples a to b, b not among them, of a unit lie within n bytes
+pub record RangeIn (unit a b n : ℕ) : Type 0 where
+  pub low : 1 ≤ unit
+  pub high : unit ≤ 2
+  pub some : a < b
+  pub room : b * unit ≤ n
+
+-- the samples of a part of memory that starts at place base
+abbrev pub partSample : ℕ → List ℕ → ℕ → ℕ → ℕ
+partSample unit part base i = sampleOf unit part (i - base)
