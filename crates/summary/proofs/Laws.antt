@@ -1,14 +1,14 @@
 -- The summary by levels: its parts, the room that they need, and that on right levels it is the rule's node.
 use Prim.Native.Nat.{ℕ, zero, suc, _+_, _-_, _*_, _/_, _%_, _≤_, _<_, min}
 use mathlib.Core.Path.{_≡_, refl, sym, ap, ap₂, _∙_, subst}
-use mathlib.Core.Bool.{Bool, true, cond}
+use mathlib.Core.Bool.{Bool, true, false, cond}
 use mathlib.Core.List.{List}
 use mathlib.Core.Logic.{_⊎_, inl, inr}
 use mathlib.Core.Option.{none, some}
 use native.Mathlib.Nat.{mul-le-mul-right, le-div-iff-mul-le, lt-of-mul-lt-mul-right, lt-div-mul-add, div-add-mod', mul-div-cancel}
 use native.Mathlib.Decide.{decLt}
 use native.Mathlib.Omega.{arith}
-use lib.Dec.{ltb}
+use lib.Dec.{ltb, leb}
 use lib.ListN.{length, length-take, length-drop}
 use borrow.Author.Tests.{le-ltb}
 use Rattle.rules.specs.Sample.{sampleOf}
@@ -28,7 +28,7 @@ use Rattle.range.proofs.Right.{join-true}
 use Rattle.capture.specs.Record.{lentOf}
 use Rattle.capture.specs.Calls.{partOf}
 use Rattle.capture.proofs.Calls.{stored}
-use Rattle.summary.specs.Summary.{levelAt, runEnd, partNode, stepNode, stepEnd, chunkNode, Part, cutAt, summed, summaryOf, ChunkRoom}
+use Rattle.summary.specs.Summary.{levelAt, runEnd, partNode, stepNode, stepEnd, chunkNode, Part, cutAt, byLevels, summed, summaryOf, ChunkRoom}
 use Rattle.summary.proofs.Gather.{Step, joined-node, joined-same}
 
 -- ---- a run of nodes of w samples from p on
@@ -159,9 +159,17 @@ module _ (levels : ℕ → List ℕ) (s : ℕ → ℕ) (len : ℕ) (right : Righ
   cut-step p b h k = record { more = omega arith; upto = omega arith; is = chunk-node p (cutAt p b) (omega arith) (omega arith) }
 
   -- on right levels the summary of a range is its node
+  by-levels-right : (a b : ℕ) → a < b → b ≤ len → byLevels levels s a b ≡ nodeOf s a b
+  unfolding byLevels
+  by-levels-right = joined-node (λ p e. chunkNode levels s p (cutAt p e)) cutAt s len cut-step
+
   pub summed-right : (a b : ℕ) → a < b → b ≤ len → summed levels s a b ≡ nodeOf s a b
   unfolding summed
-  summed-right = joined-node (λ p e. chunkNode levels s p (cutAt p e)) cutAt s len cut-step
+  summed-right a b h k = go (leb (b - a) 64)
+    where
+      go : (t : Bool) → cond t (nodeOf s a b) (byLevels levels s a b) ≡ nodeOf s a b
+      go true = refl
+      go false = by-levels-right a b h k
 
   pub summary-is : (a b : ℕ) → summaryOf levels s len a b ≡ summary s len a b
   summary-is a b = go (decLt a (min b len))

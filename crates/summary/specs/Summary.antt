@@ -4,7 +4,7 @@ use mathlib.Core.Bool.{cond}
 use mathlib.Core.List.{List}
 use mathlib.Core.Option.{Option, none, some}
 use Prim.Native.Nat.{ℕ, zero, suc, _+_, _-_, _*_, _/_, _≤_, _<_, min}
-use lib.Dec.{ltb}
+use lib.Dec.{ltb, leb}
 use lib.ListN.{length}
 use Rattle.rules.specs.Node.{Node, nodeOf, span, chunk, topLevel}
 use Rattle.rules.specs.Walk.{best}
@@ -55,8 +55,12 @@ abbrev pub cutAt : ℕ → ℕ → ℕ
 cutAt p b = min ((p / chunk + 1) * chunk) b
 
 module _ (levels : ℕ → List ℕ) (s : ℕ → ℕ) where
+  unfoldable pub byLevels : ℕ → ℕ → Node
+  byLevels a b = joined (λ p e. chunkNode levels s p (cutAt p e)) cutAt a b
+
+  -- up to 64 samples are read themselves: what is prepared for the levels would cost more
   unfoldable pub summed : ℕ → ℕ → Node
-  summed a b = joined (λ p e. chunkNode levels s p (cutAt p e)) cutAt a b
+  summed a b = cond (leb (b - a) 64) (nodeOf s a b) (byLevels a b)
 
   -- "the node of [a, min(b,len)), or none if empty"
   abbrev pub summaryOf : ℕ → ℕ → ℕ → Option Node

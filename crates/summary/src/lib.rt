@@ -20,7 +20,7 @@ ghost use Rattle.rules.proofs.Refusal.{Sound};
 ghost use Rattle.node.specs.Memory.{asNode, levelOf};
 ghost use Rattle.range.specs.Part.{partSample};
 ghost use Rattle.capture.specs.Record.{storeOf, lentOf};
-ghost use Rattle.summary.specs.Summary.{runEnd, cutAt, Part, ChunkRoom, chunkNode, Within, summed, summedOf, summaryOf};
+ghost use Rattle.summary.specs.Summary.{runEnd, cutAt, Part, ChunkRoom, chunkNode, Within, byLevels, summed, summedOf, summaryOf};
 
 // The smaller of two numbers.
 pub fn smaller(a: usize, b: usize) -> usize
@@ -136,7 +136,34 @@ fn summary_of_chunk<'a>(
     chunk_summary(&samples[from..to], l1, l2, l3, l4, unitsize, base, pos, end)
 }
 
-// The node of [a, b), a < b ≤ len, chunk by chunk. By `Laws.summed-right` it is the rule's where levels are right.
+// The node of [a, b), a < b ≤ len, by the levels, chunk by chunk.
+fn by_levels<'a>(
+    c: Capture,
+    samples: &[u8],
+    l1: &'a [Mask],
+    l2: &'a [Mask],
+    l3: &'a [Mask],
+    l4: &'a [Mask],
+    a: usize,
+    b: usize,
+) -> Node
+    requires { ⌜ Within (storeOf c) (lentOf (now samples) (levelOf (now l1) (now l2) (now l3) (now l4))) a b ⌝ }
+    ensures { λ r. ⌜ asNode r ≡ byLevels (levelOf (now (l1 .entry)) (now (l2 .entry)) (now (l3 .entry)) (now (l4 .entry))) (sampleOf (c .unitsize) (now (samples .entry))) a b ⌝ }
+{
+    let mut pos = cut_at(a, b);
+    let mut acc = summary_of_chunk(c, samples, l1, l2, l3, l4, a, pos);
+    while pos < b {
+        let end = cut_at(pos, b);
+        acc = acc.join(summary_of_chunk(c, samples, l1, l2, l3, l4, pos, end));
+        pos = end;
+    }
+    acc
+}
+
+// A range of up to this many samples is read sample by sample.
+const SHORT: usize = 64;
+
+// The node of [a, b), a < b ≤ len. By `Laws.summed-right` it is the rule's where levels are right.
 pub fn summary_in<'a>(
     c: Capture,
     samples: &[u8],
@@ -150,14 +177,10 @@ pub fn summary_in<'a>(
     requires { ⌜ Within (storeOf c) (lentOf (now samples) (levelOf (now l1) (now l2) (now l3) (now l4))) a b ⌝ }
     ensures { λ r. ⌜ asNode r ≡ summed (levelOf (now (l1 .entry)) (now (l2 .entry)) (now (l3 .entry)) (now (l4 .entry))) (sampleOf (c .unitsize) (now (samples .entry))) a b ⌝ }
 {
-    let mut pos = cut_at(a, b);
-    let mut acc = summary_of_chunk(c, samples, l1, l2, l3, l4, a, pos);
-    while pos < b {
-        let end = cut_at(pos, b);
-        acc = acc.join(summary_of_chunk(c, samples, l1, l2, l3, l4, pos, end));
-        pos = end;
+    if b - a <= SHORT {
+        return raw_node(samples, c.unitsize, a, b);
     }
-    acc
+    by_levels(c, samples, l1, l2, l3, l4, a, b)
 }
 
 pub enum Summed {
