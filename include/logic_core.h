@@ -98,29 +98,36 @@ uint32_t lc_summary(const size_t record[5],
                     size_t a, size_t b, uint16_t node[3]);
 
 /* The smallest place above from at which a line of the mask differs from the sample before; LC_NONE where there is none
- * (nothing is written). Any from is allowed. Refuses with 1 and 2. */
+ * (place is not written). Any from is allowed. Refuses with 1 and 2.
+ *
+ * read becomes the count of nodes read, with 0 and with LC_NONE: each node of a level and each sample that the search takes
+ * on its way, the sample that it starts from not among them. Where lc_whole gives 0 it is at most 384 for each chunk of
+ * 1048576 samples that the search enters. */
 uint32_t lc_next_change(const size_t record[5],
                         const uint8_t *samples, size_t samples_len,
                         const uint16_t *l1, size_t l1_len, const uint16_t *l2, size_t l2_len,
                         const uint16_t *l3, size_t l3_len, const uint16_t *l4, size_t l4_len,
-                        uint16_t mask, size_t from, size_t *place);
+                        uint16_t mask, size_t from, size_t *place, size_t *read);
 
 /* The same backward: the largest such place, 1 or above, that is not above from. */
 uint32_t lc_prev_change(const size_t record[5],
                         const uint8_t *samples, size_t samples_len,
                         const uint16_t *l1, size_t l1_len, const uint16_t *l2, size_t l2_len,
                         const uint16_t *l3, size_t l3_len, const uint16_t *l4, size_t l4_len,
-                        uint16_t mask, size_t from, size_t *place);
+                        uint16_t mask, size_t from, size_t *place, size_t *read);
 
 /* The burst of changes at a place, gaps below max_gap: ends becomes first, last, the jumps made at the end and those made
  * at the start. A change counts as near up to tolerance; each end jumps at most budget times. LC_NONE where there is no
- * burst (nothing is written). Refuses with 1 and 2. */
+ * burst (ends is not written). Refuses with 1 and 2.
+ *
+ * read becomes, with 0 and with LC_NONE, the sum of the nodes read by the searches that it makes, each as in
+ * lc_next_change. */
 uint32_t lc_burst_at(const size_t record[5],
                      const uint8_t *samples, size_t samples_len,
                      const uint16_t *l1, size_t l1_len, const uint16_t *l2, size_t l2_len,
                      const uint16_t *l3, size_t l3_len, const uint16_t *l4, size_t l4_len,
                      uint16_t mask, size_t sample, size_t max_gap, size_t tolerance, size_t budget,
-                     size_t ends[4]);
+                     size_t ends[4], size_t *read);
 
 /* Draws width pixels of a view that begins at place start, spp samples to a pixel: output becomes two numbers for each,
  * first sample and the lines that change, 0 and 0 where there is no sample. Output past 2 * width is unchanged. Refuses with
@@ -138,7 +145,8 @@ uint32_t lc_render(const size_t record[5],
  *
  * Samples, nodes and pixels show granted lines only: each number is ANDed with the grant. Places are int64_t numbers that
  * count from the mark, negative before it, or from the first sample where there is no mark: the first sample is at -mark, or
- * 0, and the end at len - mark, or len. Counts, gaps, tolerance, budget and jumps are those of the calls above.
+ * 0, and the end at len - mark, or len. Counts, gaps, tolerance, budget, jumps and the nodes read are those of the calls
+ * above.
  *
  * Refusals come in the order 1, 2, 12, 13, and then the call's own. A place at or past the end is refused by lc_mill_get
  * alone; any place may be given, up to both ends of int64_t. */
@@ -176,29 +184,30 @@ uint32_t lc_mill_summary(const size_t record[5],
                          uint16_t grant, int64_t a, int64_t b, uint16_t node[3]);
 
 /* As lc_next_change: the first place above from at which a line of the mask differs from the sample before; LC_NONE where
- * there is none (nothing is written). Refuses with 1, 2, 12 and 13. */
+ * there is none (place is not written). Refuses with 1, 2, 12 and 13. */
 uint32_t lc_mill_next_change(const size_t record[5],
                              const uint8_t *samples, size_t samples_len,
                              const uint16_t *l1, size_t l1_len, const uint16_t *l2, size_t l2_len,
                              const uint16_t *l3, size_t l3_len, const uint16_t *l4, size_t l4_len,
-                             uint16_t grant, uint16_t mask, int64_t from, int64_t *place);
+                             uint16_t grant, uint16_t mask, int64_t from, int64_t *place, size_t *read);
 
 /* The same backward: the last such place, above that of the first sample, that is not above from. */
 uint32_t lc_mill_prev_change(const size_t record[5],
                              const uint8_t *samples, size_t samples_len,
                              const uint16_t *l1, size_t l1_len, const uint16_t *l2, size_t l2_len,
                              const uint16_t *l3, size_t l3_len, const uint16_t *l4, size_t l4_len,
-                             uint16_t grant, uint16_t mask, int64_t from, int64_t *place);
+                             uint16_t grant, uint16_t mask, int64_t from, int64_t *place, size_t *read);
 
 /* As lc_burst_at: first and last become the places of the burst's first and last change, and jumps the jumps made at the end
- * and those made at the start. LC_NONE where there is no burst (nothing is written). Refuses with 1, 2, 12 and 13. */
+ * and those made at the start. LC_NONE where there is no burst (of these nothing is written). Refuses with 1, 2, 12 and
+ * 13. */
 uint32_t lc_mill_burst_at(const size_t record[5],
                           const uint8_t *samples, size_t samples_len,
                           const uint16_t *l1, size_t l1_len, const uint16_t *l2, size_t l2_len,
                           const uint16_t *l3, size_t l3_len, const uint16_t *l4, size_t l4_len,
                           uint16_t grant, uint16_t mask, int64_t sample,
                           size_t max_gap, size_t tolerance, size_t budget,
-                          int64_t *first, int64_t *last, size_t jumps[2]);
+                          int64_t *first, int64_t *last, size_t jumps[2], size_t *read);
 
 /* As lc_render: draws width pixels of a view; start is a place as the mill counts, and may be before the first sample, where
  * there is nothing to draw: 13 is not given. Refuses with 1, 2, 10 and 11. */

@@ -96,20 +96,24 @@ int main(void) {
     size_t level, number;
     must(lc_whole(record, LENT(&m), &level, &number) == 0, "whole");
 
-    /* All changes of the encoder, one after another. */
-    size_t steps = 0, first = 0, last = 0, place;
-    while (lc_next_change(record, LENT(&m), ENCODER, last, &place) == 0) {
+    /* All changes of the encoder, one after another; the last search finds none. */
+    size_t steps = 0, first = 0, last = 0, nodes = 0, place, read;
+    while (lc_next_change(record, LENT(&m), ENCODER, last, &place, &read) == 0) {
         must(place == scan(m.samples, len, ENCODER, last), "next change");
+        must(read <= 384, "no more than 384 nodes are read in a chunk");
         if (steps++ == 0)
             first = place;
         last = place;
+        nodes += read;
     }
+    nodes += read;
     must(scan(m.samples, len, ENCODER, last) == len, "no change after the last");
-    printf("encoder: first step at %zu, last at %zu, %zu steps\n", first, last, steps);
-    must(lc_prev_change(record, LENT(&m), ENCODER, len, &place) == 0 && place == last, "previous change");
+    printf("encoder: first step at %zu, last at %zu, %zu steps, %zu nodes read for %zu samples\n", first, last, steps, nodes,
+           len);
+    must(lc_prev_change(record, LENT(&m), ENCODER, len, &place, &read) == 0 && place == last, "previous change");
 
     size_t ends[4];
-    must(lc_burst_at(record, LENT(&m), ENCODER, 2000, 100, 0, 1000, ends) == 0, "burst");
+    must(lc_burst_at(record, LENT(&m), ENCODER, 2000, 100, 0, 1000, ends, &read) == 0, "burst");
     printf("burst: %zu to %zu, %zu jumps at its end, %zu at its start\n", ends[0], ends[1], ends[2], ends[3]);
     must(ends[0] == first && ends[1] == last, "the burst's ends");
 
@@ -138,7 +142,7 @@ int main(void) {
     size_t marked;
     must(lc_mill_extent(record, LENT(&m), &run_first, &run_end, &marked) == 0, "extent");
     must(marked == 1 && run_first == -(int64_t)mark && run_end == (int64_t)(len - mark), "the mill's places");
-    must(lc_mill_next_change(record, LENT(&m), ENCODER, ENCODER, run_first, &step) == 0, "a mill's next change");
+    must(lc_mill_next_change(record, LENT(&m), ENCODER, ENCODER, run_first, &step, &read) == 0, "a mill's next change");
     must(step == (int64_t)first - (int64_t)mark, "the step from the mark");
     uint16_t after[4];
     size_t copied;
@@ -147,10 +151,11 @@ int main(void) {
            step, after[0], after[1], after[2], after[3]);
     for (size_t i = 0; i < 4; i++)
         must(after[i] == (m.samples[first - 2 + i] & ENCODER), "a mill's samples");
-    const uint32_t beyond = lc_mill_next_change(record, LENT(&m), ENCODER, 1 << DRIVE, run_first - 1, &step);
-    const uint32_t before = lc_mill_next_change(record, LENT(&m), ENCODER, ENCODER, run_first - 1, &step);
+    read = 77;
+    const uint32_t beyond = lc_mill_next_change(record, LENT(&m), ENCODER, 1 << DRIVE, run_first - 1, &step, &read);
+    const uint32_t before = lc_mill_next_change(record, LENT(&m), ENCODER, ENCODER, run_first - 1, &step, &read);
     printf("the drive's line and a place before the run: refused with %u and %u\n", (unsigned)beyond, (unsigned)before);
-    must(beyond == 12 && before == 13 && step == (int64_t)first - (int64_t)mark, "a mill's refusals");
+    must(beyond == 12 && before == 13 && step == (int64_t)first - (int64_t)mark && read == 77, "a mill's refusals");
 
     /* A refusal has a number, and changes nothing. */
     uint16_t value = 77;

@@ -1,8 +1,9 @@
-//! The port, over memory that it is lent. Without the static library it has no operation.
+//! The port, over memory that it is lent. Without the static library it has no operation. The counts of nodes read are
+//! thrown away: the Rust has none.
 
 use crate::side::{timed, Side, Timed};
 use crate::work::{Appends, Bursts, Pushes, Ranges, Row, Samples, Wait, Walk, GRANT};
-use port::{Asked, Feeder, Lent, LentMut, Record, Settings};
+use port::{mill, Asked, Feeder, Lent, LentMut, Record, Settings};
 use std::cell::RefCell;
 
 #[derive(Default)]
@@ -119,7 +120,7 @@ impl Side for Rattle {
         port::LINKED.then_some(())?;
         timed(NONE, || {
             let (mut at, mut count, mut sum) = (0, 0, 0);
-            while port::next_change(record, lent, work.mask, at, &mut at) == 0 {
+            while port::next_change(record, lent, work.mask, at, &mut at, &mut 0) == 0 {
                 count += 1;
                 sum += at as u64;
             }
@@ -132,7 +133,7 @@ impl Side for Rattle {
         port::LINKED.then_some(())?;
         timed(NONE, || {
             let (mut at, mut count, mut sum) = (work.len as usize, 0, 0);
-            while port::prev_change(record, lent, work.mask, at, &mut at) == 0 {
+            while port::prev_change(record, lent, work.mask, at, &mut at, &mut 0) == 0 {
                 count += 1;
                 sum += at as u64;
                 at -= 1;
@@ -182,7 +183,7 @@ impl Side for Rattle {
                 let [sample, max_gap, budget] =
                     [place, work.max_gap, work.budget].map(|n| n as usize);
                 let asked = Asked { mask: 0xFFFF, sample, max_gap, tolerance: 8, budget };
-                match port::burst_at(record, lent, asked, &mut ends) {
+                match port::burst_at(record, lent, asked, &mut ends, &mut 0) {
                     0 => (ends[0] + ends[1]) as u64,
                     _ => 0,
                 }
@@ -211,7 +212,7 @@ impl Side for Rattle {
         port::LINKED.then_some(())?;
         timed(NONE, || {
             let (mut at, mut count, mut sum) = (-mark, 0, 0);
-            while port::mill::next_change(&record, lent, GRANT, work.mask, at, &mut at) == 0 {
+            while mill::next_change(&record, lent, GRANT, work.mask, at, &mut at, &mut 0) == 0 {
                 count += 1;
                 sum += (at + mark) as u64;
             }
@@ -227,7 +228,7 @@ impl Side for Rattle {
             let sum = |&a: &u64| {
                 let a = a as i64 - mark;
                 let b = a + work.len as i64;
-                assert_eq!(port::mill::summary(&record, lent, GRANT, a, b, &mut node), 0);
+                assert_eq!(mill::summary(&record, lent, GRANT, a, b, &mut node), 0);
                 node.iter().map(|&n| n as u64).sum::<u64>()
             };
             (work.count(), work.starts.iter().map(sum).sum())
@@ -244,7 +245,7 @@ impl Side for Rattle {
         timed(LENT, || {
             let row = &mut output[..room];
             let start = work.start - mark as f64;
-            let code = port::mill::render(&record, lent, GRANT, start, work.spp, width, row);
+            let code = mill::render(&record, lent, GRANT, start, work.spp, width, row);
             assert_eq!(code, 0);
             (work.width, row.iter().map(|&n| n as u64).sum())
         })

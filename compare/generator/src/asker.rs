@@ -56,6 +56,10 @@ impl Asker {
         &self.document
     }
 
+    pub fn port(&self) -> Option<&Port> {
+        self.port.as_ref()
+    }
+
     pub fn ported(&self) -> Option<&Answer> {
         self.ported.as_ref()
     }

@@ -6,6 +6,7 @@ use crate::groups::GROUPS;
 use crate::line::Numbers;
 use crate::list::{append, List};
 use crate::mill::Mills;
+use crate::noise::Noise;
 use crate::op::Op;
 use crate::port::Port;
 use crate::shapes::{mask, Size, CHUNK};
@@ -62,7 +63,10 @@ fn replay(name: &str) -> bool {
             }
         }
     }
-    println!("{file}: {asked} lines asked of the port, {wrong} wrong, {skipped} skipped");
+    let counts = port.counts;
+    println!(
+        "{file}: {asked} lines asked of the port, {wrong} wrong, {skipped} skipped; {counts} counts of nodes compared"
+    );
     wrong == 0
 }
 
@@ -90,6 +94,7 @@ fn random(seconds: u64, seed: u64) -> bool {
     let mut rng = Rng::new(seed);
     let mut mills = Mills::default();
     let mut unfinished = Unfinished::default();
+    let mut noise = Noise::default();
     let mut longs = 0;
     while begun.elapsed() < Duration::from_secs(seconds) {
         let group = &GROUPS[rng.below(GROUPS.len() as u64) as usize];
@@ -104,6 +109,7 @@ fn random(seconds: u64, seed: u64) -> bool {
         }
         mills.ask(&mut list, &mut rng);
         unfinished.ask(&mut list, &mut rng);
+        noise.ask(&mut list, &mut rng);
         list.text();
     }
     let asker = list.asker();
@@ -124,6 +130,12 @@ fn random(seconds: u64, seed: u64) -> bool {
         mills.twice,
     );
     println!("beside these, {} appends and pushes over memory that no call made", unfinished.made);
+    let made = mills.other.counts + asker.port().map_or(0, |port| port.counts);
+    let unmade = noise.port.counts + unfinished.port.counts;
+    println!(
+        "{} counts of nodes read compared with the walk's, {unmade} of them over memory that no call made",
+        made + unmade,
+    );
     asker.differences.is_empty()
 }
 

@@ -12,15 +12,18 @@ use rng::Rng;
 
 /// How a mill's places lie in the capture.
 #[derive(Clone, Copy)]
-struct Run {
-    len: u64,
-    mark: u64,
+pub struct Run {
+    pub len: u64,
+    pub mark: u64,
 }
+
+/// The kinds of question that search.
+pub const SEARCHES: [u64; 3] = [4, 5, 6];
 
 #[derive(Default)]
 pub struct Mills {
     /// Where the captures are that look alike.
-    other: Port,
+    pub other: Port,
     /// Questions asked of two captures alike.
     pub twice: u64,
 }
@@ -59,7 +62,8 @@ impl Mills {
         }
     }
 
-    /// A capture that differs in lines beyond the grant, and perhaps in unit and capacity, gives the same to each call.
+    /// A capture that differs in lines beyond the grant, and perhaps in unit and capacity, gives the same to each call, and
+    /// the same count of nodes.
     fn alike(&mut self, list: &mut List, rng: &mut Rng, store: Store) {
         let grant = grant(rng);
         let samples = list.asker().document().samples();
@@ -88,6 +92,11 @@ impl Mills {
                 if asker.ported() != answer.as_ref() {
                     asker.differs(&format!("alike: {op:?} gives {answer:?} of unit {unit}"));
                 }
+                let read = asker.port().and_then(|port| port.read);
+                if read != self.other.read {
+                    let other = self.other.read;
+                    asker.differs(&format!("alike: {op:?} reads {read:?} and {other:?} nodes"));
+                }
                 self.twice += 1;
             }
         }
@@ -97,7 +106,7 @@ impl Mills {
     }
 }
 
-fn grant(rng: &mut Rng) -> u16 {
+pub fn grant(rng: &mut Rng) -> u16 {
     match rng.below(6) {
         0 => 0xFFFF,
         1 => rng.pick(&[0, 1, 0xFF, 0xFF00]),
@@ -108,7 +117,7 @@ fn grant(rng: &mut Rng) -> u16 {
 }
 
 /// A question of one of the eight kinds.
-fn ask(rng: &mut Rng, run: Run, grant: u16, kind: u64) -> Ask {
+pub fn ask(rng: &mut Rng, run: Run, grant: u16, kind: u64) -> Ask {
     let at = place(rng, run);
     match kind {
         0 => Ask::Extent,

@@ -4,6 +4,7 @@
 mod memory;
 mod mill;
 mod recorder;
+mod walk;
 
 use crate::digest::digest;
 use crate::document::{listed, optional, refusals};
@@ -12,10 +13,14 @@ use crate::side::{Answer, Side};
 use memory::{pattern, Memory, GUARD};
 use port::{Asked, Record, NONE};
 use recorder::Recording;
+use walk::{Walk, Walked, Way, MOST};
 
 /// Memory up to this size is compared whole after every call, larger memory now and then.
 const SMALL: usize = 20_000;
 const RARELY: u64 = 50;
+
+/// What stands behind the pointer to a count of nodes before a call. No count is that high.
+const UNREAD: usize = usize::MAX / 3;
 
 #[derive(Default)]
 pub struct Port {
@@ -28,6 +33,12 @@ pub struct Port {
     memory: Memory,
     /// What memory must hold.
     right: Memory,
+    /// Whether calls alone made the record and the levels.
+    made: bool,
+    /// The nodes that the last call read, where it was a search or a burst and not refused.
+    pub read: Option<usize>,
+    /// Counts of nodes held against the walk.
+    pub counts: u64,
     calls: u64,
     faults: Vec<String>,
 }
@@ -47,11 +58,13 @@ impl Side for Port {
                 (*at_limit, *at_pre, *at_place, *at_kept) = (limit, pre, place, kept);
             }
             Op::Put { level, index, value } => {
+                self.made = false;
                 for memory in [&mut self.memory, &mut self.right] {
                     memory.levels[level as usize - 1][index as usize] = value;
                 }
             }
             _ => {
+                self.read = None;
                 let before = (self.record, self.own);
                 let answer = self.answer(op)?;
                 let changes =
@@ -71,6 +84,11 @@ impl Port {
     /// The faults since the last call of this.
     pub fn faults(&mut self) -> Vec<String> {
         std::mem::take(&mut self.faults)
+    }
+
+    /// The record's len.
+    pub fn len(&self) -> u64 {
+        self.record[2] as u64
     }
 
     fn answer(&mut self, op: &Op) -> Option<Answer> {
@@ -120,8 +138,8 @@ impl Port {
                     _ => said(code, || vec![1]),
                 }
             }
-            Op::Next { mask, from } => self.place(port::next_change, mask, from),
-            Op::Prev { mask, from } => self.place(port::prev_change, mask, from),
+            Op::Next { mask, from } => self.place(port::next_change, Way::Next, mask, from),
+            Op::Prev { mask, from } => self.place(port::prev_change, Way::Prev, mask, from),
             Op::Summary { a, b } => {
                 let before = [0xA5C3, 1, 2];
                 let mut node = before;
@@ -155,6 +173,7 @@ impl Port {
         self.kept(code, "record", self.record, record);
         if code == 0 {
             self.recording = None;
+            self.made = true;
         }
         self.record = record;
         said(code, || vec![record[0] as u64])
@@ -219,10 +238,11 @@ impl Port {
             [sample, max_gap, tolerance, budget].map(|n| n as usize);
         let asked = Asked { mask, sample, max_gap, tolerance, budget };
         let before = [51, 52, 53, 54];
-        let mut ends = before;
-        let code = port::burst_at(&self.record, self.lent(), asked, &mut ends);
+        let (mut ends, mut read) = (before, UNREAD);
+        let code = port::burst_at(&self.record, self.lent(), asked, &mut ends, &mut read);
         self.kept(code, "burst", before, ends);
-        found(code, ends.map(|n| n as u64))
+        let ends = ends.map(|n| n as u64);
+        self.searched(code, ends, read, |port| port.walk(mask).burst(&burst))
     }
 
     /// A view drawn by the service's call or a mill's.
@@ -244,14 +264,45 @@ impl Port {
 
     fn place(
         &mut self,
-        call: impl Fn(&Record, port::Lent, u16, usize, &mut usize) -> u32,
+        call: impl Fn(&Record, port::Lent, u16, usize, &mut usize, &mut usize) -> u32,
+        way: Way,
         mask: u16,
         from: u64,
     ) -> Answer {
-        let mut place = 61;
-        let code = call(&self.record, self.lent(), mask, from as usize, &mut place);
+        let (mut place, mut read) = (61, UNREAD);
+        let code = call(&self.record, self.lent(), mask, from as usize, &mut place, &mut read);
         self.kept(code, "place", 61, place);
-        found(code, [place as u64])
+        self.searched(code, [place as u64], read, |port| {
+            port.walk(mask).search(way, from).map(|place| [place])
+        })
+    }
+
+    /// The walk over memory as it is lent.
+    fn walk(&self, mask: u16) -> Walk<'_> {
+        Walk { memory: &self.memory, unit: self.record[0], len: self.len(), mask }
+    }
+
+    /// The answer of a search or a burst, which is the walk's over any memory, and so is the count of nodes read.
+    fn searched<const N: usize>(
+        &mut self,
+        code: u32,
+        values: [u64; N],
+        read: usize,
+        walk: impl Fn(&Port) -> Walked<[u64; N]>,
+    ) -> Answer {
+        if code != 0 && code != NONE {
+            self.same("count of nodes", UNREAD, read);
+            return Err(code as u64);
+        }
+        let walked = walk(self);
+        self.same("find", walked.found, (code == 0).then_some(values));
+        self.same("count of nodes", walked.steps, read as u64);
+        if self.made && read as u64 > MOST * walked.chunks {
+            self.faults.push(format!("{read} nodes read in {} chunks", walked.chunks));
+        }
+        self.read = Some(read);
+        self.counts += 1;
+        found(code, values)
     }
 
     fn lend(&mut self, lent: Lent) {

@@ -1,9 +1,11 @@
 //! Appends and pushes over memory that no list of calls made. By document 02's CR 2 the nodes of level 1 that they write
-//! depend on len, the unfinished node and the new samples; what is stored before is noise here.
+//! depend on len, the unfinished node and the new samples; what is stored before is noise here, and searches follow it.
 
 use crate::document::{refusals::need, rules};
 use crate::feed::Feed;
 use crate::list::List;
+use crate::mill::Run;
+use crate::noise;
 use crate::op::{Op, Settings, Wish};
 use crate::port::Port;
 use crate::side::Side;
@@ -11,7 +13,7 @@ use rng::Rng;
 
 #[derive(Default)]
 pub struct Unfinished {
-    port: Port,
+    pub port: Port,
     /// Appends and pushes made.
     pub made: u64,
 }
@@ -38,5 +40,7 @@ impl Unfinished {
         for fault in self.port.faults() {
             list.asker().differs(&format!("memory that no call made: {fault}"));
         }
+        let run = Run { len: self.port.len(), mark: 0 };
+        noise::searches(&mut self.port, list, rng, run);
     }
 }

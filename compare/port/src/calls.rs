@@ -73,11 +73,11 @@ questions! {
     lc_raw(chunk: usize, from: *mut usize, to: *mut usize) -> ();
     lc_whole(level: *mut usize, number: *mut usize) -> u32;
     lc_summary(a: usize, b: usize, node: *mut [u16; 3]) -> u32;
-    lc_next_change(mask: u16, from: usize, place: *mut usize) -> u32;
-    lc_prev_change(mask: u16, from: usize, place: *mut usize) -> u32;
+    lc_next_change(mask: u16, from: usize, place: *mut usize, read: *mut usize) -> u32;
+    lc_prev_change(mask: u16, from: usize, place: *mut usize, read: *mut usize) -> u32;
     lc_burst_at(
         mask: u16, sample: usize, max_gap: usize, tolerance: usize, budget: usize,
-        burst: *mut [usize; 4]
+        burst: *mut [usize; 4], read: *mut usize
     ) -> u32;
     lc_render(start: f64, spp: f64, width: usize, output: *mut u16, output_len: usize) -> u32;
     lc_mill_extent(first: *mut i64, end: *mut i64, marked: *mut usize) -> u32;
@@ -87,11 +87,11 @@ questions! {
         copied: *mut usize
     ) -> u32;
     lc_mill_summary(grant: u16, a: i64, b: i64, node: *mut [u16; 3]) -> u32;
-    lc_mill_next_change(grant: u16, mask: u16, from: i64, place: *mut i64) -> u32;
-    lc_mill_prev_change(grant: u16, mask: u16, from: i64, place: *mut i64) -> u32;
+    lc_mill_next_change(grant: u16, mask: u16, from: i64, place: *mut i64, read: *mut usize) -> u32;
+    lc_mill_prev_change(grant: u16, mask: u16, from: i64, place: *mut i64, read: *mut usize) -> u32;
     lc_mill_burst_at(
         grant: u16, mask: u16, sample: i64, max_gap: usize, tolerance: usize, budget: usize,
-        first: *mut i64, last: *mut i64, jumps: *mut [usize; 2]
+        first: *mut i64, last: *mut i64, jumps: *mut [usize; 2], read: *mut usize
     ) -> u32;
     lc_mill_render(
         grant: u16, start: f64, spp: f64, width: usize, output: *mut u16, output_len: usize

@@ -138,13 +138,27 @@ pub fn summary(record: &Record, lent: Lent, a: usize, b: usize, node: &mut [u16;
 }
 
 #[inline]
-pub fn next_change(record: &Record, lent: Lent, mask: u16, from: usize, place: &mut usize) -> u32 {
-    lent!(lc_next_change, (record), lent, as_ptr, (mask, from, place))
+pub fn next_change(
+    record: &Record,
+    lent: Lent,
+    mask: u16,
+    from: usize,
+    place: &mut usize,
+    read: &mut usize,
+) -> u32 {
+    lent!(lc_next_change, (record), lent, as_ptr, (mask, from, place, read))
 }
 
 #[inline]
-pub fn prev_change(record: &Record, lent: Lent, mask: u16, from: usize, place: &mut usize) -> u32 {
-    lent!(lc_prev_change, (record), lent, as_ptr, (mask, from, place))
+pub fn prev_change(
+    record: &Record,
+    lent: Lent,
+    mask: u16,
+    from: usize,
+    place: &mut usize,
+    read: &mut usize,
+) -> u32 {
+    lent!(lc_prev_change, (record), lent, as_ptr, (mask, from, place, read))
 }
 
 /// What a burst is asked by.
@@ -158,9 +172,21 @@ pub struct Asked {
 }
 
 #[inline]
-pub fn burst_at(record: &Record, lent: Lent, asked: Asked, burst: &mut [usize; 4]) -> u32 {
+pub fn burst_at(
+    record: &Record,
+    lent: Lent,
+    asked: Asked,
+    burst: &mut [usize; 4],
+    read: &mut usize,
+) -> u32 {
     let Asked { mask, sample, max_gap, tolerance, budget } = asked;
-    lent!(lc_burst_at, (record), lent, as_ptr, (mask, sample, max_gap, tolerance, budget, burst))
+    lent!(
+        lc_burst_at,
+        (record),
+        lent,
+        as_ptr,
+        (mask, sample, max_gap, tolerance, budget, burst, read)
+    )
 }
 
 #[inline]

@@ -52,8 +52,9 @@ pub fn next_change(
     mask: u16,
     from: i64,
     place: &mut i64,
+    read: &mut usize,
 ) -> u32 {
-    lent!(lc_mill_next_change, (record), lent, as_ptr, (grant, mask, from, place))
+    lent!(lc_mill_next_change, (record), lent, as_ptr, (grant, mask, from, place, read))
 }
 
 #[inline]
@@ -64,8 +65,9 @@ pub fn prev_change(
     mask: u16,
     from: i64,
     place: &mut i64,
+    read: &mut usize,
 ) -> u32 {
-    lent!(lc_mill_prev_change, (record), lent, as_ptr, (grant, mask, from, place))
+    lent!(lc_mill_prev_change, (record), lent, as_ptr, (grant, mask, from, place, read))
 }
 
 /// What a burst is asked by.
@@ -87,6 +89,7 @@ pub fn burst_at(
     asked: Asked,
     [first, last]: &mut [i64; 2],
     jumps: &mut [usize; 2],
+    read: &mut usize,
 ) -> u32 {
     let Asked { mask, sample, max_gap, tolerance, budget } = asked;
     lent!(
@@ -94,7 +97,7 @@ pub fn burst_at(
         (record),
         lent,
         as_ptr,
-        (grant, mask, sample, max_gap, tolerance, budget, first, last, jumps)
+        (grant, mask, sample, max_gap, tolerance, budget, first, last, jumps, read)
     )
 }
 

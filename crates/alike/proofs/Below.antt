@@ -1,30 +1,21 @@
 -- The rules look at a run's samples alone: two functions that agree below len have the same answers.
-use mathlib.Core.Path.{_≡_, refl, ap, ap₂, fun-ext}
-use mathlib.Core.Bool.{Bool, cond, not}
+use mathlib.Core.Path.{_≡_, ap}
 use mathlib.Core.Option.{Option, some}
-use Prim.Native.Nat.{ℕ, zero, suc, _+_, _-_, _≤_, _<_, min}
-use native.Mathlib.Nat.{zero-lt-suc}
+use Prim.Native.Nat.{ℕ, _+_, _≤_, _<_, min}
 use native.Mathlib.Decide.{decLt}
 use native.Mathlib.Omega.{arith}
-use lib.Bits.{bitAnd, bitXor}
-use lib.Dec.{eqb}
 use borrow.Author.Tests.{lt-ltb, le-ltb}
-use Rattle.rules.specs.Node.{nodeOf}
-use Rattle.rules.specs.Search.{changed, seek, up, down, next, previous, summary}
-use Rattle.rules.specs.Burst.{burst, burstBy}
+use Rattle.rules.specs.Node.{nodeOf, cut, span}
+use Rattle.rules.specs.Search.{summary}
+use Rattle.rules.specs.Walk.{allLevels, runReader, nextSearch, previousSearch}
+use Rattle.rules.specs.Burst.{burstSearch}
 use Rattle.rules.specs.Pixel.{View, Range, rowBy, pixelRange, render}
 use Rattle.rules.proofs.Node.{node-same}
 use Rattle.rules.proofs.Row.{Stored, pixels-stored, row-same}
-use Rattle.rules.proofs.Search.{times, times-up, times-down}
+use Rattle.rules.proofs.Walk.{span-pos}
+use Rattle.rules.proofs.Steps.{AlikeNodes}
+use Rattle.alike.proofs.Searches.{next-by-nodes, previous-by-nodes, burst-by-nodes}
 
--- ---- the places of a search
-seek-same : (step : ℕ → ℕ) (t u : ℕ → Bool) (p n : ℕ) → ((j : ℕ) → j < n → t (times step j p) ≡ u (times step j p)) → seek step t p n ≡ seek step u p n
-unfolding seek times
-seek-same step t u p zero h = refl
-seek-same step t u p (suc n) h =
-    ap₂ (λ (b : Bool) (rest : Option ℕ). cond b (some p) rest) (h 0 (zero-lt-suc n)) (seek-same step t u (step p) n (λ j l. h (suc j) (omega arith)))
-
--- ---- the rules
 module _ (s₁ s₂ : ℕ → ℕ) (len : ℕ) (same : (i : ℕ) → i < len → s₁ i ≡ s₂ i) where
   node-below : (a b : ℕ) → a < b → b ≤ len → nodeOf s₁ a b ≡ nodeOf s₂ a b
   node-below a b h k = node-same s₁ s₂ a b h (λ i l u. same i (omega arith))
@@ -43,20 +34,16 @@ module _ (s₁ s₂ : ℕ → ℕ) (len : ℕ) (same : (i : ℕ) → i < len →
   pub render-below : (view : View) (width : ℕ) → render s₁ len view width ≡ render s₂ len view width
   render-below view width = row-below (pixelRange view len) (pixels-stored view len) 0 width
 
+  -- a search reads nodes of stored samples only
   module _ (mask : ℕ) where
-    changed-below : (i : ℕ) → i < len → changed s₁ mask i ≡ changed s₂ mask i
-    changed-below i h = ap₂ (λ (x y : ℕ). not (eqb (bitAnd (bitXor x y) mask) 0)) (same i h) (same (i - 1) (omega arith))
+    nodes-below : AlikeNodes allLevels (runReader s₁) (runReader s₂) len mask
+    nodes-below = record { is = λ l p _ _ _ h. ap (cut mask) (node-below p (p + span l) (omega (arith, span-pos l)) h) }
 
-    pub next-below : (from : ℕ) → next s₁ len mask from ≡ next s₂ len mask from
-    next-below from =
-        seek-same up (changed s₁ mask) (changed s₂ mask) (from + 1) (len - (from + 1))
-        (λ j h. changed-below (times up j (from + 1)) (omega (arith, times-up j (from + 1))))
+    pub next-below : (from : ℕ) → nextSearch s₁ len mask from ≡ nextSearch s₂ len mask from
+    next-below = next-by-nodes s₁ s₂ len mask nodes-below
 
-    pub previous-below : (from : ℕ) → previous s₁ len mask from ≡ previous s₂ len mask from
-    previous-below from =
-        let p = min from (len - 1) in
-        seek-same down (changed s₁ mask) (changed s₂ mask) p p (λ j h. changed-below (times down j p) (omega (arith, times-down j p)))
+    pub previous-below : (from : ℕ) → previousSearch s₁ len mask from ≡ previousSearch s₂ len mask from
+    previous-below = previous-by-nodes s₁ s₂ len mask nodes-below
 
-    pub burst-below : (sample gap tolerance budget : ℕ) → burst s₁ len mask sample gap tolerance budget ≡ burst s₂ len mask sample gap tolerance budget
-    burst-below sample gap tolerance budget =
-        ap₂ (λ (back fore : ℕ → Option ℕ). burstBy back fore len sample gap tolerance budget) (fun-ext previous-below) (fun-ext next-below)
+    pub burst-below : (sample gap tolerance budget : ℕ) → burstSearch s₁ len mask sample gap tolerance budget ≡ burstSearch s₂ len mask sample gap tolerance budget
+    burst-below = burst-by-nodes s₁ s₂ len mask nodes-below

@@ -1,17 +1,21 @@
 -- The chosen lines of a run answer what the run answers, cut down; a mask within them sees no difference.
-use mathlib.Core.Path.{_≡_, refl, ap, ap₂, _∙_, fun-ext}
-use mathlib.Core.Bool.{Bool, true, false, cond, not}
+use mathlib.Core.Path.{_≡_, refl, ap, ap₂, _∙_}
+use mathlib.Core.Bool.{Bool, true, false, cond}
 use mathlib.Core.List.{List, _∷_}
 use mathlib.Core.Option.{Option, none, some}
-use Prim.Native.Nat.{ℕ, zero, suc, _+_, _-_, min}
-use lib.Bits.{and-comm}
-use lib.Dec.{ltb, eqb}
-use Rattle.rules.specs.Node.{Node, nodeOf}
-use Rattle.rules.specs.Search.{changed, seek, up, down, next, previous, summary, cutSummary}
-use Rattle.rules.specs.Burst.{burst, burstBy}
+use Prim.Native.Nat.{ℕ, zero, suc, _+_, min}
+use lib.Bits.{bitAnd, and-comm}
+use lib.Dec.{ltb}
+use Rattle.rules.specs.Node.{Node, nodeOf, cut, span}
+use Rattle.rules.specs.Search.{summary, cutSummary}
+use Rattle.rules.specs.Walk.{allLevels, runReader, nextSearch, previousSearch}
+use Rattle.rules.specs.Burst.{burstSearch}
 use Rattle.rules.specs.Pixel.{View, Range, pixelRange, shown, rowBy, render, cutPixels}
-use Rattle.rules.proofs.Node.{cutTo, node-cut, change-cut}
+use Rattle.rules.proofs.Bits.{and-assoc}
+use Rattle.rules.proofs.Node.{cutTo, node-cut}
+use Rattle.rules.proofs.Steps.{AlikeNodes}
 use Rattle.alike.specs.Alike.{Within}
+use Rattle.alike.proofs.Searches.{next-by-nodes, previous-by-nodes, burst-by-nodes}
 
 module _ (v : ℕ) (s : ℕ → ℕ) (len : ℕ) where
   abbrev lines : ℕ → ℕ
@@ -37,15 +41,20 @@ module _ (v : ℕ) (s : ℕ → ℕ) (len : ℕ) where
   render-cut view width = row-cut (pixelRange view len) 0 width
 
   module _ (mask : ℕ) (w : Within mask v) where
-    changed-cut : (i : ℕ) → changed lines mask i ≡ changed s mask i
-    changed-cut i = ap (λ (x : ℕ). not (eqb x 0)) (change-cut v mask s i (and-comm v mask ∙ w))
+    cut-twice : (x : ℕ) → bitAnd (bitAnd x v) mask ≡ bitAnd x mask
+    cut-twice x = and-assoc x v mask ∙ ap (bitAnd x) (and-comm v mask ∙ w)
 
-    pub next-cut : (from : ℕ) → next lines len mask from ≡ next s len mask from
-    next-cut from = ap (λ (test : ℕ → Bool). seek up test (from + 1) (len - (from + 1))) (fun-ext changed-cut)
+    nodes-cut : AlikeNodes allLevels (runReader lines) (runReader s) len mask
+    nodes-cut = record { is = λ l p _ _ _ _. ap (cut mask) (node-cut v s p (p + span l)) ∙ within (nodeOf s p (p + span l)) }
+      where
+        within : (n : Node) → cut mask (cut v n) ≡ cut mask n
+        within n = simp cut-twice
 
-    pub previous-cut : (from : ℕ) → previous lines len mask from ≡ previous s len mask from
-    previous-cut from = ap (λ (test : ℕ → Bool). seek down test (min from (len - 1)) (min from (len - 1))) (fun-ext changed-cut)
+    pub next-cut : (from : ℕ) → nextSearch lines len mask from ≡ nextSearch s len mask from
+    next-cut = next-by-nodes lines s len mask nodes-cut
 
-    pub burst-cut : (sample gap tolerance budget : ℕ) → burst lines len mask sample gap tolerance budget ≡ burst s len mask sample gap tolerance budget
-    burst-cut sample gap tolerance budget =
-        ap₂ (λ (back fore : ℕ → Option ℕ). burstBy back fore len sample gap tolerance budget) (fun-ext previous-cut) (fun-ext next-cut)
+    pub previous-cut : (from : ℕ) → previousSearch lines len mask from ≡ previousSearch s len mask from
+    previous-cut = previous-by-nodes lines s len mask nodes-cut
+
+    pub burst-cut : (sample gap tolerance budget : ℕ) → burstSearch lines len mask sample gap tolerance budget ≡ burstSearch s len mask sample gap tolerance budget
+    burst-cut = burst-by-nodes lines s len mask nodes-cut

@@ -1,3 +1,4 @@
+pub mod Searches
 pub mod Below
 pub mod Cut
 pub mod Alike

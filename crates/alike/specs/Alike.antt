@@ -3,8 +3,9 @@
 use mathlib.Core.Path.{_≡_}
 use Prim.Native.Nat.{ℕ, _<_}
 use lib.Bits.{bitAnd}
-use Rattle.rules.specs.Search.{next, previous, summary, cutSummary}
-use Rattle.rules.specs.Burst.{burst}
+use Rattle.rules.specs.Search.{summary, cutSummary}
+use Rattle.rules.specs.Walk.{nextSearch, previousSearch}
+use Rattle.rules.specs.Burst.{burstSearch}
 use Rattle.rules.specs.Pixel.{View, render, cutPixels}
 
 -- "A mask within it has no other bit."
@@ -18,9 +19,10 @@ module _ (v : ℕ) (s₁ : ℕ → ℕ) (len₁ : ℕ) (s₂ : ℕ → ℕ) (len
     pub lines : (i : ℕ) → i < len₁ → bitAnd (s₁ i) v ≡ bitAnd (s₂ i) v
 
   -- "the same summaries and pixels cut down to those lines, and the same next, previous and burst answers, jumps included, for every mask within them"
+  -- and 02, CR 3: "two recordings that look alike to a viewer also give equal counts for every mask within the viewer's lines"
   pub record Alike : Type 0 where
     pub summaries : (a b : ℕ) → cutSummary v (summary s₁ len₁ a b) ≡ cutSummary v (summary s₂ len₂ a b)
     pub pixels : (view : View) (width : ℕ) → cutPixels v (render s₁ len₁ view width) ≡ cutPixels v (render s₂ len₂ view width)
-    pub nexts : (mask : ℕ) → Within mask v → (from : ℕ) → next s₁ len₁ mask from ≡ next s₂ len₂ mask from
-    pub previouses : (mask : ℕ) → Within mask v → (from : ℕ) → previous s₁ len₁ mask from ≡ previous s₂ len₂ mask from
-    pub bursts : (mask : ℕ) → Within mask v → (sample gap tolerance budget : ℕ) → burst s₁ len₁ mask sample gap tolerance budget ≡ burst s₂ len₂ mask sample gap tolerance budget
+    pub nexts : (mask : ℕ) → Within mask v → (from : ℕ) → nextSearch s₁ len₁ mask from ≡ nextSearch s₂ len₂ mask from
+    pub previouses : (mask : ℕ) → Within mask v → (from : ℕ) → previousSearch s₁ len₁ mask from ≡ previousSearch s₂ len₂ mask from
+    pub bursts : (mask : ℕ) → Within mask v → (sample gap tolerance budget : ℕ) → burstSearch s₁ len₁ mask sample gap tolerance budget ≡ burstSearch s₂ len₂ mask sample gap tolerance budget

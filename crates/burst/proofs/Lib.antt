@@ -1,3 +1,4 @@
+pub mod Bounds
 pub mod Answers
 pub mod Grown
 pub mod Jumps

@@ -2,11 +2,11 @@
 use Prim.Native.Nat.{ℕ}
 use mathlib.Core.Path.{_≡_, _∙_}
 use mathlib.Core.List.{List}
-use mathlib.Core.Option.{Option}
 use lib.ListN.{length}
 use Rattle.rules.specs.Answer.{refused, given}
-use Rattle.rules.specs.Burst.{Burst, burstBy}
+use Rattle.rules.specs.Burst.{Burst, burstedBy}
 use Rattle.rules.specs.Refusal.{storeRefusal}
+use Rattle.rules.specs.Walk.{Counted}
 use Rattle.node.specs.Memory.{levelOf}
 use Rattle.capture.specs.declared.Capture.{Capture}
 use Rattle.capture.specs.Record.{storeOf, lentNumbers}
@@ -18,13 +18,13 @@ module _ (c : Capture) (samples l1 l2 l3 l4 : List ℕ) (number : ℕ) (is : num
   levels = levelOf l1 l2 l3 l4
 
   module _ (mask sample gap tolerance budget : ℕ) where
-    abbrev burst-in : Option Burst
-    burst-in = burstBy (back (c .unitsize) (c .len) samples levels mask) (fore (c .unitsize) (c .len) samples levels mask) (c .len) sample gap tolerance budget
+    abbrev burst-in : Counted Burst
+    burst-in = burstedBy (back (c .unitsize) (c .len) samples levels mask) (fore (c .unitsize) (c .len) samples levels mask) (c .len) sample gap tolerance budget
 
     pub burst-refused : (number ≡ 0 → ⊥) → refused number ≡ burstOf c samples levels mask sample gap tolerance budget
     unfolding burstOf
     burst-refused h = refused-is burst-in _ number (rows-are (storeOf c) samples l1 l2 l3 l4 number is) h
 
-    pub burst-given : number ≡ 0 → (b : Option Burst) → b ≡ burst-in → given b ≡ burstOf c samples levels mask sample gap tolerance budget
+    pub burst-given : number ≡ 0 → (b : Counted Burst) → b ≡ burst-in → given b ≡ burstOf c samples levels mask sample gap tolerance budget
     unfolding burstOf
     burst-given z b e = given-is burst-in _ b (rows-are (storeOf c) samples l1 l2 l3 l4 number is ∙ z) e

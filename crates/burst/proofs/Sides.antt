@@ -6,23 +6,27 @@ use mathlib.Core.Option.{Option, none, some}
 use lib.Dec.{leb, ltb}
 use borrow.Author.Tests.{le-leb, lt-leb}
 use Rattle.rules.specs.Burst.{Side, sideIf, leftWith, rightWith}
-use Rattle.burst.specs.Answer.{sideOf}
+use Rattle.rules.specs.Walk.{Counted, Walked}
+use Rattle.burst.specs.Answer.{counted, sidedBy}
 
-module _ (start : Bool) (gap tolerance : ℕ) where
-  -- a change at distance d, and the one beyond it
-  abbrev pub pairAt : ℕ → ℕ → ℕ → Option Side
-  pairAt d p q = sideIf (ltb (cond start p q - cond start q p) gap) (record { distance = d; first = cond start q p; last = cond start p q })
+-- a change p at distance d, and the one beyond it
+abbrev pub pairAt : Bool → ℕ → ℕ → ℕ → Option ℕ → Option Side
+pairAt start gap d p none = none
+pairAt start gap d p (some q) = sideIf (ltb (cond start p q - cond start q p) gap) (record { distance = d; first = cond start q p; last = cond start p q })
 
-  abbrev pub sideWith : ℕ → ℕ → Option ℕ → Option Side
-  sideWith d p none = none
-  sideWith d p (some q) = cond (leb d tolerance) (pairAt d p q) none
+module _ (start : Bool) (gap tolerance d p : ℕ) (beyond : Walked) where
+  -- that one is sought only where p is near
+  abbrev sideBy : Bool → Counted Side
+  sideBy near = counted (cond near (pairAt start gap d p (beyond .found)) none) (cond near (beyond .steps) 0)
 
-  pub side-far : (d p : ℕ) (beyond : Option ℕ) → tolerance < d → none ≡ sideWith d p beyond
-  side-far d p none h = refl
-  side-far d p (some q) h = sym (ap (λ (b : Bool). cond b (pairAt d p q) none) (lt-leb d tolerance h))
+  abbrev pub sideWith : Counted Side
+  sideWith = sideBy (leb d tolerance)
 
-  pub side-near : (d p q : ℕ) → d ≤ tolerance → pairAt d p q ≡ sideWith d p (some q)
-  side-near d p q h = sym (ap (λ (b : Bool). cond b (pairAt d p q) none) (le-leb d tolerance h))
+  pub side-far : tolerance < d → counted none 0 ≡ sideWith
+  side-far h = sym (ap sideBy (lt-leb d tolerance h))
+
+  pub side-near : d ≤ tolerance → counted (pairAt start gap d p (beyond .found)) (beyond .steps) ≡ sideWith
+  side-near h = sym (ap sideBy (le-leb d tolerance h))
 
 -- the place from which the change beyond p is sought, and how far p is from the place asked
 abbrev pub beyondFrom : Bool → ℕ → ℕ
@@ -31,23 +35,28 @@ beyondFrom start p = cond start (p - 1) p
 abbrev pub apart : Bool → ℕ → ℕ → ℕ
 apart start sample p = cond start sample p - cond start p sample
 
-module _ (back fore : ℕ → Option ℕ) where
-  pub side-none : (start : Bool) (gap tolerance sample : ℕ) → none ≡ sideOf back fore start gap tolerance sample none
+-- whatever the distance, a change alone is no side
+cond-none : (b : Bool) → _≡_ {A = Option Side} (cond b none none) none
+cond-none true = refl
+cond-none false = refl
+
+module _ (back fore : ℕ → Walked) where
+  pub side-none : (start : Bool) (gap tolerance sample : ℕ) → counted none 0 ≡ sidedBy back fore start gap tolerance sample none
   side-none true gap tolerance sample = refl
   side-none false gap tolerance sample = refl
 
-  by-side : (start : Bool) (gap tolerance sample p : ℕ) → sideWith start gap tolerance (apart start sample p) p (cond (not start) fore back (beyondFrom start p)) ≡ sideOf back fore start gap tolerance sample (some p)
-  by-side true gap tolerance sample p = go (back (p - 1))
+  by-side : (start : Bool) (gap tolerance sample p : ℕ) → sideWith start gap tolerance (apart start sample p) p (cond (not start) fore back (beyondFrom start p)) ≡ sidedBy back fore start gap tolerance sample (some p)
+  by-side true gap tolerance sample p = ap (λ (o : Option Side). counted o (cond (leb (sample - p) tolerance) (back (p - 1) .steps) 0)) (go (back (p - 1) .found))
     where
-      go : (o : Option ℕ) → sideWith true gap tolerance (sample - p) p o ≡ leftWith gap tolerance sample p o
-      go none = refl
+      go : (o : Option ℕ) → cond (leb (sample - p) tolerance) (pairAt true gap (sample - p) p o) none ≡ leftWith gap tolerance sample p o
+      go none = cond-none (leb (sample - p) tolerance)
       go (some q) = refl
-  by-side false gap tolerance sample p = go (fore p)
+  by-side false gap tolerance sample p = ap (λ (o : Option Side). counted o (cond (leb (p - sample) tolerance) (fore p .steps) 0)) (go (fore p .found))
     where
-      go : (o : Option ℕ) → sideWith false gap tolerance (p - sample) p o ≡ rightWith gap tolerance sample p o
-      go none = refl
+      go : (o : Option ℕ) → cond (leb (p - sample) tolerance) (pairAt false gap (p - sample) p o) none ≡ rightWith gap tolerance sample p o
+      go none = cond-none (leb (p - sample) tolerance)
       go (some q) = refl
 
-  pub side-is : (start : Bool) (gap tolerance sample d p : ℕ) (beyond found : Option ℕ) → d ≡ apart start sample p → beyond ≡ cond (not start) fore back (beyondFrom start p) → found ≡ some p → sideWith start gap tolerance d p beyond ≡ sideOf back fore start gap tolerance sample found
+  pub side-is : (start : Bool) (gap tolerance sample d p : ℕ) (beyond : Walked) (found : Option ℕ) → d ≡ apart start sample p → beyond ≡ cond (not start) fore back (beyondFrom start p) → found ≡ some p → sideWith start gap tolerance d p beyond ≡ sidedBy back fore start gap tolerance sample found
   side-is start gap tolerance sample d p beyond found d-is beyond-is found-is =
-      ap₂ (λ (x : ℕ) (o : Option ℕ). sideWith start gap tolerance x p o) d-is beyond-is ∙ by-side start gap tolerance sample p ∙ sym (ap (sideOf back fore start gap tolerance sample) found-is)
+      ap₂ (λ (x : ℕ) (o : Walked). sideWith start gap tolerance x p o) d-is beyond-is ∙ by-side start gap tolerance sample p ∙ sym (ap (sidedBy back fore start gap tolerance sample) found-is)

@@ -1,4 +1,4 @@
-// Bursts: a run of changes whose gaps are all below a bound, found by searches and grown by jumps.
+// Bursts: a run of changes whose gaps are all below a bound, found by searches and grown by jumps, with the nodes read for it.
 use capture::Capture;
 use lines::Mask;
 use search::Found;
@@ -8,11 +8,11 @@ ghost use mathlib.Core.Path.{_≡_};
 ghost use mathlib.Core.Bool.{cond};
 ghost use Prim.Native.Nat.{_-_, _≤_, min};
 ghost use lib.Dec.{ltb};
-ghost use Rattle.rules.specs.Burst.{sum, jump, sideIf, nearer, pairOf};
+ghost use Rattle.rules.specs.Burst.{sum, sideIf, nearer};
 ghost use Rattle.node.specs.Memory.{levelOf};
 ghost use Rattle.search.specs.Part.{Stored};
 ghost use Rattle.search.specs.Answer.{foundOf};
-ghost use Rattle.burst.specs.Answer.{burstAs, burstOf, placeOf, changeAs, endAs, sideAs, back, fore, reachOf, furtherOf, between, sideOf};
+ghost use Rattle.burst.specs.Answer.{burstAs, burstOf, walkedOf, changeAs, soughtAs, sideAs, sidedAs, back, fore, reachOf, furtherOf, Jumped, between, sidedBy, pairedBy};
 
 // The first and last change of a burst, and the jumps made at its end and at its start.
 pub struct Burst {
@@ -22,10 +22,11 @@ pub struct Burst {
     pub jumps_start: usize,
 }
 
+// The answer: the number of a refusal, or a burst or none, with the nodes read by all its searches.
 pub enum Bursts {
     Refused(u8),
-    At(Burst),
-    Nothing,
+    At(Burst, usize),
+    Nothing(usize),
 }
 
 // What a search finds.
@@ -34,16 +35,29 @@ enum Change {
     Nothing,
 }
 
-// An end of a burst, and the jumps that led there.
+// A search's find, and the nodes that it read.
+struct Sought {
+    change: Change,
+    read: usize,
+}
+
+// An end of a burst, the jumps that led there, and the nodes read for every try.
 struct End {
     place: usize,
     jumps: usize,
+    read: usize,
 }
 
 // Two neighbouring changes, after how far the nearer one is from the place asked.
 enum Side {
     Pair(usize, usize, usize),
     Nothing,
+}
+
+// A side, and the nodes read for it.
+struct Sided {
+    side: Side,
+    read: usize,
 }
 
 // Above 2^64 − 1 a sum counts as that.
@@ -77,14 +91,23 @@ fn pick(start: bool, x: usize, y: usize) -> usize
     if start { x } else { y }
 }
 
-// The place of an answer that is no refusal.
-fn change_of(found: Found) -> Change
-    ensures { λ r. ⌜ changeAs r ≡ placeOf (foundOf found) ⌝ }
+// The answer of a search that refuses nothing.
+fn sought_of(found: Found) -> Sought
+    ensures { λ r. ⌜ soughtAs r ≡ walkedOf (foundOf found) ⌝ }
 {
     match found {
-        Found::At(i) => Change::At(i),
-        Found::Nothing => Change::Nothing,
-        Found::Refused(_) => Change::Nothing,
+        Found::At(i, read) => Sought {
+            change: Change::At(i),
+            read,
+        },
+        Found::Nothing(read) => Sought {
+            change: Change::Nothing,
+            read,
+        },
+        Found::Refused(_) => Sought {
+            change: Change::Nothing,
+            read: 0,
+        },
     }
 }
 
@@ -99,11 +122,11 @@ fn previous<'a>(
     len: usize,
     mask: Mask,
     from: usize,
-) -> Change
+) -> Sought
     requires { ⌜ Stored unitsize len (now samples) (levelOf (now l1) (now l2) (now l3) (now l4)) ⌝ }
-    ensures { λ r. ⌜ changeAs r ≡ back unitsize len (now (samples .entry)) (levelOf (now (l1 .entry)) (now (l2 .entry)) (now (l3 .entry)) (now (l4 .entry))) mask from ⌝ }
+    ensures { λ r. ⌜ soughtAs r ≡ back unitsize len (now (samples .entry)) (levelOf (now (l1 .entry)) (now (l2 .entry)) (now (l3 .entry)) (now (l4 .entry))) mask from ⌝ }
 {
-    change_of(prev_in(samples, l1, l2, l3, l4, unitsize, len, mask, from))
+    sought_of(prev_in(samples, l1, l2, l3, l4, unitsize, len, mask, from))
 }
 
 // The next change.
@@ -117,11 +140,11 @@ fn next<'a>(
     len: usize,
     mask: Mask,
     from: usize,
-) -> Change
+) -> Sought
     requires { ⌜ Stored unitsize len (now samples) (levelOf (now l1) (now l2) (now l3) (now l4)) ⌝ }
-    ensures { λ r. ⌜ changeAs r ≡ fore unitsize len (now (samples .entry)) (levelOf (now (l1 .entry)) (now (l2 .entry)) (now (l3 .entry)) (now (l4 .entry))) mask from ⌝ }
+    ensures { λ r. ⌜ soughtAs r ≡ fore unitsize len (now (samples .entry)) (levelOf (now (l1 .entry)) (now (l2 .entry)) (now (l3 .entry)) (now (l4 .entry))) mask from ⌝ }
 {
-    change_of(next_in(samples, l1, l2, l3, l4, unitsize, len, mask, from))
+    sought_of(next_in(samples, l1, l2, l3, l4, unitsize, len, mask, from))
 }
 
 // The next change or the previous one.
@@ -136,9 +159,9 @@ fn seek<'a>(
     mask: Mask,
     forward: bool,
     from: usize,
-) -> Change
+) -> Sought
     requires { ⌜ Stored unitsize len (now samples) (levelOf (now l1) (now l2) (now l3) (now l4)) ⌝ }
-    ensures { λ r. ⌜ changeAs r ≡ cond forward (fore unitsize len (now (samples .entry)) (levelOf (now (l1 .entry)) (now (l2 .entry)) (now (l3 .entry)) (now (l4 .entry))) mask) (back unitsize len (now (samples .entry)) (levelOf (now (l1 .entry)) (now (l2 .entry)) (now (l3 .entry)) (now (l4 .entry))) mask) from ⌝ }
+    ensures { λ r. ⌜ soughtAs r ≡ cond forward (fore unitsize len (now (samples .entry)) (levelOf (now (l1 .entry)) (now (l2 .entry)) (now (l3 .entry)) (now (l4 .entry))) mask) (back unitsize len (now (samples .entry)) (levelOf (now (l1 .entry)) (now (l2 .entry)) (now (l3 .entry)) (now (l4 .entry))) mask) from ⌝ }
 {
     if forward {
         return next(samples, l1, l2, l3, l4, unitsize, len, mask, from);
@@ -181,23 +204,26 @@ fn end_of<'a>(
     from: usize,
 ) -> End
     requires { ⌜ Stored unitsize len (now samples) (levelOf (now l1) (now l2) (now l3) (now l4)) × (2 ≤ gap) ⌝ }
-    ensures { λ r. ⌜ endAs r ≡ jump (reachOf (back unitsize len (now (samples .entry)) (levelOf (now (l1 .entry)) (now (l2 .entry)) (now (l3 .entry)) (now (l4 .entry))) mask) (fore unitsize len (now (samples .entry)) (levelOf (now (l1 .entry)) (now (l2 .entry)) (now (l3 .entry)) (now (l4 .entry))) mask) gap start) (furtherOf start) budget from 0 ⌝ }
+    ensures { λ r. ⌜ Jumped (reachOf (back unitsize len (now (samples .entry)) (levelOf (now (l1 .entry)) (now (l2 .entry)) (now (l3 .entry)) (now (l4 .entry))) mask) (fore unitsize len (now (samples .entry)) (levelOf (now (l1 .entry)) (now (l2 .entry)) (now (l3 .entry)) (now (l4 .entry))) mask) gap start) (furtherOf start) budget from r ⌝ }
 {
     let mut place = from;
     let mut jumps = 0;
+    let mut read = 0;
     while jumps < budget {
         let reach = far(gap, start, place);
-        let change = seek(samples, l1, l2, l3, l4, unitsize, len, mask, start, reach);
+        let sought = seek(samples, l1, l2, l3, l4, unitsize, len, mask, start, reach);
+        read += sought.read;
+        let change = sought.change;
         let Change::At(e) = change else {
-            return End { place, jumps };
+            return End { place, jumps, read };
         };
         if !further(start, place, e) {
-            return End { place, jumps };
+            return End { place, jumps, read };
         }
         place = e;
         jumps += 1;
     }
-    End { place, jumps }
+    End { place, jumps, read }
 }
 
 // Two neighbouring changes as a side, if their gap is below the bound.
@@ -238,23 +264,35 @@ fn one_side<'a>(
     start: bool,
     sample: usize,
     found: Change,
-) -> Side
+) -> Sided
     requires { ⌜ Stored unitsize len (now samples) (levelOf (now l1) (now l2) (now l3) (now l4)) ⌝ }
-    ensures { λ r. ⌜ sideAs r ≡ sideOf (back unitsize len (now (samples .entry)) (levelOf (now (l1 .entry)) (now (l2 .entry)) (now (l3 .entry)) (now (l4 .entry))) mask) (fore unitsize len (now (samples .entry)) (levelOf (now (l1 .entry)) (now (l2 .entry)) (now (l3 .entry)) (now (l4 .entry))) mask) start gap tolerance sample (changeAs found) ⌝ }
+    ensures { λ r. ⌜ sidedAs r ≡ sidedBy (back unitsize len (now (samples .entry)) (levelOf (now (l1 .entry)) (now (l2 .entry)) (now (l3 .entry)) (now (l4 .entry))) mask) (fore unitsize len (now (samples .entry)) (levelOf (now (l1 .entry)) (now (l2 .entry)) (now (l3 .entry)) (now (l4 .entry))) mask) start gap tolerance sample (changeAs found) ⌝ }
 {
     let Change::At(p) = found else {
-        return Side::Nothing;
+        return Sided {
+            side: Side::Nothing,
+            read: 0,
+        };
     };
     let distance = less(pick(start, sample, p), pick(start, p, sample));
     if tolerance < distance {
-        return Side::Nothing;
+        return Sided {
+            side: Side::Nothing,
+            read: 0,
+        };
     }
     let from = pick(start, less(p, 1), p);
-    let change = seek(samples, l1, l2, l3, l4, unitsize, len, mask, !start, from);
+    let sought = seek(samples, l1, l2, l3, l4, unitsize, len, mask, !start, from);
+    let read = sought.read;
+    let change = sought.change;
     let Change::At(q) = change else {
-        return Side::Nothing;
+        return Sided {
+            side: Side::Nothing,
+            read,
+        };
     };
-    side_of(gap, distance, pick(start, q, p), pick(start, p, q))
+    let side = side_of(gap, distance, pick(start, q, p), pick(start, p, q));
+    Sided { side, read }
 }
 
 // The nearer side, left at equal distance.
@@ -288,15 +326,18 @@ fn pair_of<'a>(
     gap: usize,
     tolerance: usize,
     sample: usize,
-) -> Side
+) -> Sided
     requires { ⌜ Stored unitsize len (now samples) (levelOf (now l1) (now l2) (now l3) (now l4)) ⌝ }
-    ensures { λ r. ⌜ sideAs r ≡ pairOf (back unitsize len (now (samples .entry)) (levelOf (now (l1 .entry)) (now (l2 .entry)) (now (l3 .entry)) (now (l4 .entry))) mask) (fore unitsize len (now (samples .entry)) (levelOf (now (l1 .entry)) (now (l2 .entry)) (now (l3 .entry)) (now (l4 .entry))) mask) gap tolerance sample ((back unitsize len (now (samples .entry)) (levelOf (now (l1 .entry)) (now (l2 .entry)) (now (l3 .entry)) (now (l4 .entry))) mask) sample) ((fore unitsize len (now (samples .entry)) (levelOf (now (l1 .entry)) (now (l2 .entry)) (now (l3 .entry)) (now (l4 .entry))) mask) sample) ⌝ }
+    ensures { λ r. ⌜ sidedAs r ≡ pairedBy (back unitsize len (now (samples .entry)) (levelOf (now (l1 .entry)) (now (l2 .entry)) (now (l3 .entry)) (now (l4 .entry))) mask) (fore unitsize len (now (samples .entry)) (levelOf (now (l1 .entry)) (now (l2 .entry)) (now (l3 .entry)) (now (l4 .entry))) mask) gap tolerance sample ⌝ }
 {
-    let before = previous(samples, l1, l2, l3, l4, unitsize, len, mask, sample);
-    let after = next(samples, l1, l2, l3, l4, unitsize, len, mask, sample);
+    let p = previous(samples, l1, l2, l3, l4, unitsize, len, mask, sample);
+    let n = next(samples, l1, l2, l3, l4, unitsize, len, mask, sample);
+    let read = p.read + n.read;
+    let before = p.change;
+    let after = n.change;
     let near = between(gap, before, after);
     if let Side::Pair(_, _, _) = near {
-        return near;
+        return Sided { side: near, read };
     }
     let l = one_side(
         samples,
@@ -328,11 +369,16 @@ fn pair_of<'a>(
         sample,
         after,
     );
-    nearer_of(l, r)
+    let left = l.side;
+    let right = r.side;
+    let side = nearer_of(left, right);
+    let read = read + l.read + r.read;
+    Sided { side, read }
 }
 
-// 01's burst_at: the burst at a place, none, or 1 or 2. Theorems, in proofs/Answers.antt: burst-right, that on right levels
-// it is the rules' burst; jumps-within, that neither count is above the budget.
+// 01's burst_at: the burst at a place or none, with the nodes that its searches read, or 1 or 2. Theorems, in
+// proofs/Answers.antt: burst-right, that on right levels both are the rules'; jumps-within, that neither end jumps more often
+// than the budget.
 pub fn burst_at<'a>(
     c: Capture,
     samples: &[u8],
@@ -355,12 +401,12 @@ pub fn burst_at<'a>(
     let unitsize = c.unitsize;
     let len = c.len;
     if len == 0 {
-        return Bursts::Nothing;
+        return Bursts::Nothing(0);
     }
     if max_gap < 2 {
-        return Bursts::Nothing;
+        return Bursts::Nothing(0);
     }
-    let side = pair_of(
+    let pair = pair_of(
         samples,
         l1,
         l2,
@@ -373,8 +419,9 @@ pub fn burst_at<'a>(
         least(tolerance, max_gap - 1),
         sample,
     );
+    let side = pair.side;
     let Side::Pair(_, first, last) = side else {
-        return Bursts::Nothing;
+        return Bursts::Nothing(pair.read);
     };
     let end = end_of(
         samples,
@@ -404,10 +451,14 @@ pub fn burst_at<'a>(
         true,
         first,
     );
-    Bursts::At(Burst {
-        first: start.place,
-        last: end.place,
-        jumps_end: end.jumps,
-        jumps_start: start.jumps,
-    })
+    let read = pair.read + end.read + start.read;
+    Bursts::At(
+        Burst {
+            first: start.place,
+            last: end.place,
+            jumps_end: end.jumps,
+            jumps_start: start.jumps,
+        },
+        read,
+    )
 }

@@ -25,6 +25,7 @@ ghost use Rattle.burst.specs.Answer.{burstAs};
 ghost use Rattle.render.specs.Render.{drawnOf};
 ghost use Rattle.codes.specs.Record.{captureIn, storeNumbers, lenNumber, lentNumbers, nodeNumbers, burstNumbers, number, flagNumber, placeLevel, placeNumber};
 ghost use Rattle.codes.specs.Code.{wrote, plain, perhaps, fault, Out};
+ghost use Rattle.codes.specs.Sought.{Sought};
 
 pub const NONE: u32 = 100;
 
@@ -180,32 +181,40 @@ pub fn summed_code(answer: Summed, node: &mut [Mask; 3]) -> u32
     }
 }
 
-pub fn found_code(answer: Found, place: &mut usize) -> u32
-    ensures { λ r. ⌜ Out number (perhaps (foundOf answer)) r (now (place .entry)) (now (place .exit)) ⌝ }
+pub fn found_code(answer: Found, place: &mut usize, read: &mut usize) -> u32
+    ensures { λ r. ⌜ Sought number (foundOf answer) r (now (place .entry)) (now (place .exit)) (now (read .entry)) (now (read .exit)) ⌝ }
 {
     match answer {
         Found::Refused(n) => code(n),
-        Found::At(i) => {
+        Found::At(i, n) => {
             *place = i;
+            *read = n;
             0
         }
-        Found::Nothing => NONE,
+        Found::Nothing(n) => {
+            *read = n;
+            NONE
+        }
     }
 }
 
-pub fn burst_code(answer: Bursts, ends: &mut [usize; 4]) -> u32
-    ensures { λ r. ⌜ Out burstNumbers (perhaps (burstAs answer)) r (now (ends .entry)) (now (ends .exit)) ⌝ }
+pub fn burst_code(answer: Bursts, ends: &mut [usize; 4], read: &mut usize) -> u32
+    ensures { λ r. ⌜ Sought burstNumbers (burstAs answer) r (now (ends .entry)) (now (ends .exit)) (now (read .entry)) (now (read .exit)) ⌝ }
 {
     match answer {
         Bursts::Refused(n) => code(n),
-        Bursts::At(b) => {
+        Bursts::At(b, n) => {
             ends[0] = b.first;
             ends[1] = b.last;
             ends[2] = b.jumps_end;
             ends[3] = b.jumps_start;
+            *read = n;
             0
         }
-        Bursts::Nothing => NONE,
+        Bursts::Nothing(n) => {
+            *read = n;
+            NONE
+        }
     }
 }
 

@@ -10,16 +10,16 @@ use summary::Summed;
 pub fn found_at(found: Found, place: usize) -> bool {
     match found {
         Found::Refused(_) => false,
-        Found::At(i) => i == place,
-        Found::Nothing => false,
+        Found::At(i, _) => i == place,
+        Found::Nothing(_) => false,
     }
 }
 
 pub fn found_nothing(found: Found) -> bool {
     match found {
         Found::Refused(_) => false,
-        Found::At(_) => false,
-        Found::Nothing => true,
+        Found::At(_, _) => false,
+        Found::Nothing(_) => true,
     }
 }
 
@@ -70,7 +70,7 @@ pub fn burst_is(
 ) -> bool {
     match found {
         Bursts::Refused(_) => false,
-        Bursts::At(b) => {
+        Bursts::At(b, _) => {
             if b.first != first {
                 return false;
             }
@@ -82,7 +82,7 @@ pub fn burst_is(
             }
             b.jumps_start == jumps_start
         }
-        Bursts::Nothing => false,
+        Bursts::Nothing(_) => false,
     }
 }
 

@@ -1,15 +1,15 @@
 -- A run of quiet nodes of one level is as many steps of the walk, at any level and in either direction.
 use Prim.Native.Nat.{ℕ, zero, suc, _+_, _-_, _*_, _≤_, _<_}
-use mathlib.Core.Path.{_≡_, sym, subst}
+use mathlib.Core.Path.{_≡_, refl, sym, subst, subst₂}
 use mathlib.Core.Bool.{Bool, true, false}
-use mathlib.Core.Option.{Option, some}
+use mathlib.Core.Option.{some}
 use native.Mathlib.Nat.{le-refl, suc-mul}
 use native.Mathlib.Omega.{arith}
 use Rattle.rules.specs.Node.{Node}
-use Rattle.rules.specs.Walk.{Way, best}
+use Rattle.rules.specs.Walk.{Walked, Way, best}
 use Rattle.find.specs.Run.{carried, Run}
 use Rattle.find.specs.Way.{wayIn, moved}
-use Rattle.find.proofs.Going.{Going, going-past, going-lower, going-found}
+use Rattle.find.proofs.Going.{told, Going, going-past, going-lower, going-found}
 use Rattle.find.proofs.Way.{Placed, Stretch, left-is, some-samples, room-for, placeAfter, placed-after, level-after}
 
 -- n places from p on at which the walk takes level l: place j is `at j` and has the node `nodes j`
@@ -21,26 +21,26 @@ pub record Line (w : Way) (p cap l : ℕ) (at : ℕ → ℕ) (nodes : ℕ → No
   pub falls : (j : ℕ) → j < n → w .left (at (suc j)) < w .left (at j)
   pub level : (j : ℕ) → j < n → l ≡ best (λ (l : ℕ). w .takes l (at j)) cap
 
-module _ {w : Way} {mask : ℕ} {finds : Option ℕ} {p cap v l : ℕ} {at : ℕ → ℕ} {nodes : ℕ → Node} {n k u : ℕ}
-    (g : Going w mask finds p cap v) (line : Line w p cap l at nodes n) (r : Run nodes mask v n k u) where
+module _ {w : Way} {mask : ℕ} {whole : Walked} {count p cap v l : ℕ} {at : ℕ → ℕ} {nodes : ℕ → Node} {n k u : ℕ}
+    (g : Going w mask whole count p cap v) (line : Line w p cap l at nodes n) (r : Run nodes mask v n k u) where
   -- after j of the nodes that are quiet
-  after : (j : ℕ) → j ≤ k → Going w mask finds (at j) cap (carried v nodes j)
-  after zero h = subst (λ (x : ℕ). Going w mask finds x cap v) (line .starts) g
-  after (suc j) h = going-past (after j (omega arith)) (line .some-left j below) (line .level j below) (line .reads j below) (line .moves j) (line .falls j below) (r .quiets .each j h)
+  after : (j : ℕ) → j ≤ k → Going w mask whole (count + j) (at j) cap (carried v nodes j)
+  after zero h = subst₂ (λ (y x : ℕ). Going w mask whole y x cap v) (omega arith) (line .starts) g
+  after (suc j) h = going-past (after j (omega arith)) (line .some-left j below) (line .level j below) (line .reads j below) (omega arith) (line .moves j) (line .falls j below) (r .quiets .each j h)
     where
       below : j < n
       below = omega (arith, r .most)
 
   -- after all of them
-  pub run-past : Going w mask finds (at k) cap u
-  run-past = subst (λ (x : ℕ). Going w mask finds (at k) cap x) (sym (r .quiets .carries)) (after k (le-refl k))
+  pub run-past : Going w mask whole (count + k) (at k) cap u
+  run-past = subst (λ (x : ℕ). Going w mask whole (count + k) (at k) cap x) (sym (r .quiets .carries)) (after k (le-refl k))
 
-  -- the first node that is not quiet is the find at level 0, and lowers the cap at the others
-  pub run-found : k < n → l ≡ 0 → some (at k) ≡ finds
-  run-found h z = going-found run-past (line .some-left k h) (line .level k h) (line .reads k h) (r .stops h) z
+  -- the first node that is not quiet is the find at level 0, and lowers the cap at the others; it is read too
+  pub run-found : k < n → l ≡ 0 → told (some (at k)) (count + k + 1) ≡ whole
+  run-found h z = going-found run-past (line .some-left k h) (line .level k h) (line .reads k h) refl (r .stops h) z
 
-  pub run-lower : k < n → l ≤ cap → (l ≡ 0 → ⊥) → Going w mask finds (at k) (l - 1) u
-  run-lower h c z = going-lower run-past (line .some-left k h) (line .level k h) (line .reads k h) c (r .stops h) z
+  pub run-lower : k < n → l ≤ cap → (l ≡ 0 → ⊥) → Going w mask whole (count + k + 1) (at k) (l - 1) u
+  run-lower h c z = going-lower run-past (line .some-left k h) (line .level k h) (line .reads k h) refl c (r .stops h) z
 
 -- a stretch is such a line, over any reader that has its nodes
 module _ (back : Bool) (reader : ℕ → ℕ → Node) (base hi pos room cap l s n : ℕ) (p : Placed back base hi pos room) (t : Stretch back pos room cap l s n) where

@@ -1,24 +1,24 @@
 -- The next few samples, none of them at a border of a level above 0, are a stretch of level 0 of the walk in their chunk.
 use Prim.Native.Nat.{ℕ, _+_, _-_, _*_, _%_, _≤_, _<_, min}
-use mathlib.Core.Path.{_≡_, refl, sym, ap, _∙_, subst}
+use mathlib.Core.Path.{_≡_, refl, sym, ap, ap₂, _∙_, subst}
 use mathlib.Core.Bool.{Bool, true, false, cond, true≢false, false≢true}
 use mathlib.Core.List.{List}
-use mathlib.Core.Option.{Option, none, some}
+use mathlib.Core.Option.{none, some}
 use native.Mathlib.Nat.{div-one}
 use native.Mathlib.Decide.{decLt, ℕ-discrete}
 use native.Mathlib.Omega.{arith}
 use borrow.Author.Tests.{eq-eqb, ne-eqb, lt-ltb, le-ltb}
 use Rattle.rules.specs.Sample.{sampleOf}
 use Rattle.rules.specs.Node.{leaf, mirror, chunk, topLevel}
-use Rattle.rules.specs.Walk.{walkFrom}
+use Rattle.rules.specs.Walk.{Walked, nothing, walkFrom}
 use Rattle.node.specs.Memory.{readerOf}
 use Rattle.node.proofs.Memory.{reads-sample}
 use Rattle.find.specs.Part.{Bytes}
 use Rattle.find.specs.Run.{nodeAt, nthNode, NthHeld, RunHeld, Run}
 use Rattle.find.specs.Way.{wayIn, moved, leftIn, toBorder}
-use Rattle.find.specs.Near.{few, fewStored, Near}
+use Rattle.find.specs.Near.{few, fewStored, foundAfter, Near}
 use Rattle.find.proofs.Node.{at-sample}
-use Rattle.find.proofs.Going.{going-starts}
+use Rattle.find.proofs.Going.{told, going-starts}
 use Rattle.find.proofs.Way.{Placed, Stretch, best-within}
 use Rattle.find.proofs.Line.{run-found, stretch-line}
 use Rattle.find.proofs.Part.{bytes-held}
@@ -28,11 +28,11 @@ module _ (unit len : ℕ) (samples level : List ℕ) (back : Bool) (p mask v m k
   asked : Run (nthNode back (nodeAt unit samples level 0) p) mask v (fewStored back len p) k u
   asked = subst (λ (x : ℕ). Run (nthNode back (nodeAt unit samples level 0) p) mask v x k u) em r
 
-  pub near-found : k < m → {q : ℕ} → q ≡ moved back p k → Near unit len samples level back mask p v (some q)
-  near-found h eq = record { count = k; value = u; passed = asked; found-is = ap some eq ∙ sym (ap (λ (b : Bool). cond b (some (moved back p k)) none) (lt-ltb k (fewStored back len p) (omega arith))) }
+  pub near-found : k < m → {q : ℕ} → q ≡ moved back p k → Near unit len samples level back mask p v (told (some q) (k + 1))
+  near-found h eq = record { count = k; value = u; passed = asked; answer-is = ap (λ (x : ℕ). told (some x) (k + 1)) eq ∙ sym (ap (λ (b : Bool). cond b (foundAfter back p k) nothing) (lt-ltb k (fewStored back len p) (omega arith))) }
 
-  pub near-none : m ≤ k → Near unit len samples level back mask p v none
-  near-none h = record { count = k; value = u; passed = asked; found-is = sym (ap (λ (b : Bool). cond b (some (moved back p k)) none) (le-ltb k (fewStored back len p) (omega arith))) }
+  pub near-none : m ≤ k → Near unit len samples level back mask p v nothing
+  near-none h = record { count = k; value = u; passed = asked; answer-is = sym (ap (λ (b : Bool). cond b (foundAfter back p k) nothing) (le-ltb k (fewStored back len p) (omega arith))) }
 
 -- ---- the walk
 -- what few says of n samples
@@ -67,9 +67,15 @@ module _ (unit len : ℕ) (samples level : List ℕ) (back : Bool) (p : ℕ) (hp
       inside true i j = let z : p % 32 ≡ 0 → ⊥ = free back p n (omega arith) .between (omega arith) in omega arith
       inside false i j = let z : p % 32 ≡ 0 → ⊥ = free back p n (omega arith) .between (omega arith) in omega arith
 
-      found-there : some (moved back p k) ≡ walkFrom (wayIn back (readerOf unit samples levels) (c * chunk) hi) mask p v .found
-      found-there = ap (λ (x : ℕ). some (moved back p x)) (omega arith) ∙ run-found (going-starts (wayIn back (readerOf unit samples levels) (c * chunk) hi) mask p v) (stretch-line back (readerOf unit samples levels) (c * chunk) hi p (leftIn back (c * chunk) hi p) topLevel 0 1 n placed taken (nthNode back (nodeAt unit samples level 0) p) (λ j _. reads j back)) r h refl
+      found-there : foundAfter back p k ≡ walkFrom (wayIn back (readerOf unit samples levels) (c * chunk) hi) mask p v
+      found-there = ap₂ (λ (x n : ℕ). told (some (moved back p x)) n) place counts ∙ run-found (going-starts (wayIn back (readerOf unit samples levels) (c * chunk) hi) mask p v) (stretch-line back (readerOf unit samples levels) (c * chunk) hi p (leftIn back (c * chunk) hi p) topLevel 0 1 n placed taken (nthNode back (nodeAt unit samples level 0) p) (λ j _. reads j back)) r h refl
         where
+          place : k ≡ k * 1
+          place = omega arith
+
+          counts : k + 1 ≡ 0 + k + 1
+          counts = omega arith
+
           fits : n ≤ leftIn back (c * chunk) hi p
           fits = inside back (omega arith) (free back p n (omega arith) .border)
 
@@ -88,11 +94,14 @@ module _ (unit len : ℕ) (samples level : List ℕ) (back : Bool) (p : ℕ) (hp
           reads j true = ap mirror (at-sample unit samples level 0 (p - (j + 1)) refl ∙ ap (λ (x : ℕ). leaf (sampleOf unit samples x)) (omega arith) ∙ sym (reads-sample unit samples levels 0 (p - j * 1 - 1) refl))
           reads j false = at-sample unit samples level 0 (p + j) refl ∙ ap (λ (x : ℕ). leaf (sampleOf unit samples x)) (omega arith) ∙ sym (reads-sample unit samples levels 0 (p + j * 1) refl)
 
-  -- what is found is what the walk in p's chunk finds, whatever levels hold
-  pub near-finds : {mask v : ℕ} {found : Option ℕ} → Near unit len samples level back mask p v found → (found ≡ none → ⊥) → (levels : ℕ → List ℕ) (c : ℕ) → c * chunk ≤ p → p ≤ (c + 1) * chunk
-      → found ≡ walkFrom (wayIn back (readerOf unit samples levels) (c * chunk) (min ((c + 1) * chunk) len)) mask p v .found
-  near-finds {mask} {v} {found} r t levels c low high = go (decLt (r .count) n)
+  -- what is found is what the walk in p's chunk finds, in as many steps, whatever levels hold
+  pub near-finds : {mask v : ℕ} {answer : Walked} → Near unit len samples level back mask p v answer → (answer .found ≡ none → ⊥) → (levels : ℕ → List ℕ) (c : ℕ) → c * chunk ≤ p → p ≤ (c + 1) * chunk
+      → answer ≡ walkFrom (wayIn back (readerOf unit samples levels) (c * chunk) (min ((c + 1) * chunk) len)) mask p v
+  near-finds {mask} {v} {answer} r t levels c low high = go (decLt (r .count) n)
     where
-      go : Dec (r .count < n) → found ≡ walkFrom (wayIn back (readerOf unit samples levels) (c * chunk) (min ((c + 1) * chunk) len)) mask p v .found
-      go (yes h) = r .found-is ∙ ap (λ (b : Bool). cond b (some (moved back p (r .count))) none) (lt-ltb (r .count) n h) ∙ found-there mask v (r .count) (r .value) (r .passed) h levels c low high
-      go (no h) = absurd (t (r .found-is ∙ ap (λ (b : Bool). cond b (some (moved back p (r .count))) none) (le-ltb (r .count) n (omega arith))))
+      answers : Bool → Walked
+      answers b = cond b (foundAfter back p (r .count)) nothing
+
+      go : Dec (r .count < n) → answer ≡ walkFrom (wayIn back (readerOf unit samples levels) (c * chunk) (min ((c + 1) * chunk) len)) mask p v
+      go (yes h) = r .answer-is ∙ ap answers (lt-ltb (r .count) n h) ∙ found-there mask v (r .count) (r .value) (r .passed) h levels c low high
+      go (no h) = absurd (t (ap (λ (w : Walked). w .found) (r .answer-is ∙ ap answers (le-ltb (r .count) n (omega arith)))))

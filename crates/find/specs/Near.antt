@@ -2,9 +2,10 @@
 use mathlib.Core.Path.{_≡_}
 use mathlib.Core.Bool.{Bool, cond}
 use mathlib.Core.List.{List}
-use mathlib.Core.Option.{Option, none, some}
-use Prim.Native.Nat.{ℕ, _%_, min}
+use mathlib.Core.Option.{some}
+use Prim.Native.Nat.{ℕ, _+_, _%_, min}
 use lib.Dec.{ltb, eqb}
+use Rattle.rules.specs.Walk.{Walked, nothing}
 use Rattle.find.specs.Run.{nodeAt, nthNode, Run}
 use Rattle.find.specs.Way.{moved, leftIn, toBorder}
 
@@ -16,9 +17,13 @@ few back p = cond (eqb (p % 32) 0) 0 (min (toBorder back p) 8)
 abbrev pub fewStored : Bool → ℕ → ℕ → ℕ
 fewStored back len p = min (few back p) (leftIn back 0 len p)
 
--- the first of them that is not quiet, found, or none
-pub record Near (unit len : ℕ) (samples level : List ℕ) (back : Bool) (mask p v : ℕ) (found : Option ℕ) : Type 0 where
+-- the walk to the one after k of them, which is read too
+abbrev pub foundAfter : Bool → ℕ → ℕ → Walked
+foundAfter back p k = record { found = some (moved back p k); steps = k + 1 }
+
+-- the first of them that is not quiet, found, or nothing
+pub record Near (unit len : ℕ) (samples level : List ℕ) (back : Bool) (mask p v : ℕ) (answer : Walked) : Type 0 where
   pub count : ℕ
   pub value : ℕ
   pub passed : Run (nthNode back (nodeAt unit samples level 0) p) mask v (fewStored back len p) count value
-  pub found-is : found ≡ cond (ltb count (fewStored back len p)) (some (moved back p count)) none
+  pub answer-is : answer ≡ cond (ltb count (fewStored back len p)) (foundAfter back p count) nothing

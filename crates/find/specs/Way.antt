@@ -1,10 +1,10 @@
 -- The two ways of a search within a chunk that is stored from base to hi, by whether it goes back.
 use mathlib.Core.Bool.{Bool, true, false, cond}
-use mathlib.Core.Option.{Option, none, some}
+use mathlib.Core.Option.{none, some}
 use Prim.Native.Nat.{ℕ, _+_, _-_, _/_, _%_}
 use lib.Dec.{eqb}
 use Rattle.rules.specs.Node.{Node}
-use Rattle.rules.specs.Walk.{Way, forward, backward, allLevels}
+use Rattle.rules.specs.Walk.{Walked, Way, forward, backward, allLevels}
 use Rattle.find.specs.declared.Place.{Place}
 use Rattle.find.specs.declared.Place.the-variants.{At, Nothing}
 
@@ -13,10 +13,10 @@ abbrev pub wayIn : Bool → (ℕ → ℕ → Node) → ℕ → ℕ → Way
 wayIn true reader base hi = backward allLevels reader base
 wayIn false reader base hi = forward allLevels reader hi
 
--- a chunk's answer
-abbrev pub placeOf : Place → Option ℕ
-placeOf (At i) = some i
-placeOf Nothing = none
+-- a chunk's answer: what is found, and "the count of nodes read, samples at level 0 included, equal to the steps of 01's walk" (02, CR 3)
+abbrev pub placeOf : Place → Walked
+placeOf (At i n) = record { found = some i; steps = n }
+placeOf (Nothing n) = record { found = none; steps = n }
 
 -- the place d samples on
 abbrev pub moved : Bool → ℕ → ℕ → ℕ

@@ -6,7 +6,7 @@ use node::Node;
 ghost use mathlib.Core.Path.{_≡_};
 ghost use mathlib.Core.Bool.{true, false};
 ghost use Prim.Native.Nat.{_+_, _-_, _*_, _/_, _≤_, _<_, min};
-ghost use Rattle.rules.specs.Node.{mirror, topLevel};
+ghost use Rattle.rules.specs.Node.{mirror, topLevel, chunk};
 ghost use Rattle.rules.specs.Walk.{walkFrom};
 ghost use Rattle.node.specs.Memory.{asNode, levelOf};
 ghost use Rattle.find.specs.Part.{readerFrom, Bytes, Part};
@@ -18,10 +18,11 @@ ghost use Rattle.find.specs.Near.{few, Near};
 // A node has this many of the level below.
 const FAN: usize = 32;
 
-// The answer of a chunk.
+// The answer of a chunk: a place and the nodes read, or these alone.
+// 02, CR 3: "Every forward and backward search returns the count of nodes read, samples at level 0 included".
 pub enum Place {
-    At(usize),
-    Nothing,
+    At(usize, usize),
+    Nothing(usize),
 }
 
 // Nodes passed: how many, and the value that the last of them ends with.
@@ -187,7 +188,7 @@ fn take<'a>(
 }
 
 // The first place of the part from start on at which a masked line changes, before being the value before it;
-// backward the last one up to start and above base, before being the value at start.
+// backward the last one up to start and above base, before being the value at start. The part is a chunk's, so the count fits.
 pub fn find<'a>(
     part: &[u8],
     l1: &'a [Mask],
@@ -202,13 +203,14 @@ pub fn find<'a>(
     start: usize,
     before: Mask,
 ) -> Place
-    requires { ⌜ Part unitsize base hi (now part) (levelOf (now l1) (now l2) (now l3) (now l4)) × (base ≤ start) × (start ≤ hi) ⌝ }
-    ensures { λ r. ⌜ placeOf r ≡ walkFrom (wayIn back (readerFrom base unitsize (now (part .entry)) (levelOf (now (l1 .entry)) (now (l2 .entry)) (now (l3 .entry)) (now (l4 .entry)))) base hi) mask start before .found ⌝ }
+    requires { ⌜ Part unitsize base hi (now part) (levelOf (now l1) (now l2) (now l3) (now l4)) × (base ≤ start) × (start ≤ hi) × (hi ≤ base + chunk) ⌝ }
+    ensures { λ r. ⌜ placeOf r ≡ walkFrom (wayIn back (readerFrom base unitsize (now (part .entry)) (levelOf (now (l1 .entry)) (now (l2 .entry)) (now (l3 .entry)) (now (l4 .entry)))) base hi) mask start before ⌝ }
 {
     let mut pos = start;
     let mut room = left(back, base, hi, start);
     let mut maxl = level::LEVELS;
     let mut value = before;
+    let mut count = 0;
     while 0 < room {
         let t = take(
             part,
@@ -229,14 +231,16 @@ pub fn find<'a>(
         pos = moved(back, pos, d);
         room -= d;
         value = t.value;
+        count += t.count;
         if t.count < t.n {
+            count += 1; // the node that stopped the run was read too
             if t.l == 0 {
-                return Place::At(pos);
+                return Place::At(pos, count);
             }
             maxl = t.l - 1; // never raised again in this chunk
         }
     }
-    Place::Nothing
+    Place::Nothing(count)
 }
 
 // How many samples are looked at before anything else.
@@ -253,7 +257,8 @@ fn few(back: bool, pos: usize) -> usize
 }
 
 // The find of a capture of len samples, where it is one of the next few: with dense changes nothing more is looked at.
-// What it finds is the walk's (proofs/Samples.antt, near-finds). level is any level's slice.
+// What it finds is the walk's, and so is the count (proofs/Samples.antt, near-finds); where it finds nothing the walk starts anew, and it
+// counts nothing. level is any level's slice.
 pub fn near(
     samples: &[u8],
     level: &[Mask],
@@ -270,7 +275,8 @@ pub fn near(
     let n = least(few(back, start), left(back, 0, len, start));
     let r = run(samples, level, unitsize, 0, back, start, n, before, mask);
     if r.count < n {
-        return Place::At(moved(back, start, r.count));
+        let count = r.count + 1; // the sample that is found was read too
+        return Place::At(moved(back, start, r.count), count);
     }
-    Place::Nothing
+    Place::Nothing(0)
 }

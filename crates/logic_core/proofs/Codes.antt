@@ -9,6 +9,7 @@ use lib.Ieee.{Float}
 use lib.ListN.{length, getD, set}
 use lib.Seq.{set-getD}
 use Rattle.rules.specs.Answer.{Answer, unless}
+use Rattle.rules.specs.Walk.{Counted}
 use Rattle.rules.specs.Sample.{sampleOf, countOf}
 use Rattle.rules.specs.Refusal.{copied, renderRefusal}
 use Rattle.capture.specs.declared.Capture.{Capture}
@@ -21,6 +22,7 @@ use Rattle.render.specs.Render.{drawnOf, drawn, Draws}
 use Rattle.append.specs.declared.Appended.{Appended}
 use Rattle.append.specs.Append.{numberOf, recordOf, refusalOf, takenOf, Appends}
 use Rattle.codes.specs.Code.{Reply, wrote, plain, Out}
+use Rattle.codes.specs.Sought.{Sought}
 use Rattle.codes.specs.Record.{captureIn, lenNumber, number}
 use Rattle.logic_core.specs.Asked.{viewOf, copyRefusal, copiedFor, drawRefusal, CopiesOut, AppendsOut, DrawsOut}
 
@@ -36,6 +38,12 @@ module _ {A B X R : Type 0} (write : A → B → B) (reply : Answer X → Reply 
       → c ≡ c′ → answerOf r ≡ asks c → Out write (reply (answerOf r)) code old new
       → Out write (reply (asks c′)) code old new
   told-by asks r code old new d e o = told r code old new (e ∙ ap asks d) o
+
+-- The same of a search, which says how many nodes it read too.
+pub sought-by : {A B R : Type 0} (write : A → B → B) (answerOf : R → Answer (Counted A)) (asks : Capture → Answer (Counted A)) {c c′ : Capture} (r : R) {code : ℕ} {old new : B} {read read′ : ℕ}
+    → c ≡ c′ → answerOf r ≡ asks c → Sought write (answerOf r) code old new read read′
+    → Sought write (asks c′) code old new read read′
+sought-by {A} write answerOf asks r {code} {old} {new} {read} {read′} d e o = subst (λ (x : Answer (Counted A)). Sought write x code old new read read′) (e ∙ ap asks d) o
 
 module _ (bytes : List ℕ) (levels : ℕ → List ℕ) (start count : ℕ) (output output′ : List ℕ) where
   pub copies-told : {c c′ : Capture} (r : Copied) (code old new : ℕ)

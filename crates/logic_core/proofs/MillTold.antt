@@ -1,5 +1,5 @@
--- From a mill's answer of samples or render to what the boundary says.
-use mathlib.Core.Path.{_≡_, ap, subst, _∙_}
+-- From a mill's answer of samples, render or burst to what the boundary says.
+use mathlib.Core.Path.{_≡_, ap, ap₂, subst, _∙_}
 use mathlib.Core.List.{List}
 use Prim.Native.Nat.{ℕ}
 use lib.Bits.{bitAnd}
@@ -8,7 +8,8 @@ use lib.IntN.{ℤ}
 use Rattle.rules.specs.Sample.{sampleOf}
 use Rattle.rules.specs.Answer.{Answer}
 use Rattle.rules.specs.Refusal.{copied}
-use Rattle.rules.specs.Mill.{placeAt}
+use Rattle.rules.specs.Walk.{Counted}
+use Rattle.rules.specs.Mill.{placeAt, MillBurst}
 use Rattle.capture.specs.declared.Capture.{Capture}
 use Rattle.capture.specs.declared.Copied.{Copied}
 use Rattle.capture.specs.Record.{storeOf, lentOf}
@@ -18,7 +19,10 @@ use Rattle.render.specs.declared.Drawn.{Drawn}
 use Rattle.render.specs.Render.{drawnOf}
 use Rattle.mill.specs.Reader.{originIn}
 use Rattle.mill_read.specs.Read.{MillCopies}
+use Rattle.mill_search.specs.declared.Bursts.{Bursts}
+use Rattle.mill_search.specs.Answer.{burstAs}
 use Rattle.mill_render.specs.Render.{MillDraws}
+use Rattle.mill_codes.specs.Written.{BurstOut}
 use Rattle.codes.specs.Code.{plain, Out}
 use Rattle.codes.specs.Record.{number}
 use Rattle.logic_core.specs.Asked.{viewOf, drawRefusal}
@@ -48,3 +52,10 @@ module _ (bytes : List ℕ) (levels : ℕ → List ℕ) (grant : ℕ) (output ou
     code-is = h ∙ ap (λ (x : Answer Unit). plain x .code) (e .answer-is) ∙ unless-code (drawRefusal c bytes levels start spp width output) tt;
     output-is = e .output-is;
   })
+
+-- a burst, asked of the capture c and the place at, which are c′ and start in the contract
+pub burst-by : (asks : Capture → ℤ → Answer (Counted MillBurst)) {c c′ : Capture} {at start : ℤ} (r : Bursts) {code : ℕ} {first first′ last last′ : ℤ} {jumps jumps′ : List ℕ} {read read′ : ℕ}
+    → c ≡ c′ → at ≡ start → burstAs r ≡ asks c at → BurstOut (burstAs r) code first first′ last last′ jumps jumps′ read read′
+    → BurstOut (asks c′ start) code first first′ last last′ jumps jumps′ read read′
+burst-by asks r {code} {first} {first′} {last} {last′} {jumps} {jumps′} {read} {read′} d z e o =
+    subst (λ (x : Answer (Counted MillBurst)). BurstOut x code first first′ last last′ jumps jumps′ read read′) (e ∙ ap₂ asks d z) o

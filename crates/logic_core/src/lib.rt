@@ -15,6 +15,7 @@ ghost use Rattle.search.specs.Answer.{nextOf, previousOf};
 ghost use Rattle.burst.specs.Answer.{burstOf};
 ghost use Rattle.codes.specs.Record.{captureIn, storeNumbers, lentNumbers, nodeNumbers, burstNumbers, number, placeLevel, placeNumber};
 ghost use Rattle.codes.specs.Code.{plain, perhaps, fault, Out};
+ghost use Rattle.codes.specs.Sought.{Sought};
 ghost use Rattle.logic_core.specs.Asked.{neededFor, startedFor, gotFor, summedFor, wrongFor, CopiesOut, AppendsOut, DrawsOut};
 
 // How much memory a store needs: bytes of samples, and numbers of the levels 1 to 4. Refuses with 1.
@@ -167,7 +168,7 @@ pub extern "C" fn lc_summary<'a>(
     codes::summed_code(answer, node)
 }
 
-// 01's Next: the place, or 100 where there is none. Refuses with 1 and 2.
+// 01's Next: the place, or 100 where there is none, and the nodes read. Refuses with 1 and 2.
 #[no_mangle]
 pub extern "C" fn lc_next_change<'a>(
     numbers: &[usize; 5],
@@ -179,14 +180,15 @@ pub extern "C" fn lc_next_change<'a>(
     mask: Mask,
     from: usize,
     place: &mut usize,
+    read: &mut usize,
 ) -> u32
-    ensures { λ r. ⌜ Out number (perhaps (nextOf (captureIn (now (numbers .entry))) (now (samples .entry)) (levelOf (now (l1 .entry)) (now (l2 .entry)) (now (l3 .entry)) (now (l4 .entry))) mask from)) r (now (place .entry)) (now (place .exit)) ⌝ }
+    ensures { λ r. ⌜ Sought number (nextOf (captureIn (now (numbers .entry))) (now (samples .entry)) (levelOf (now (l1 .entry)) (now (l2 .entry)) (now (l3 .entry)) (now (l4 .entry))) mask from) r (now (place .entry)) (now (place .exit)) (now (read .entry)) (now (read .exit)) ⌝ }
 {
     let answer = search::next_change(capture_in(numbers), samples, l1, l2, l3, l4, mask, from);
-    codes::found_code(answer, place)
+    codes::found_code(answer, place, read)
 }
 
-// 01's Previous: the place, or 100 where there is none. Refuses with 1 and 2.
+// 01's Previous: the place, or 100 where there is none, and the nodes read. Refuses with 1 and 2.
 #[no_mangle]
 pub extern "C" fn lc_prev_change<'a>(
     numbers: &[usize; 5],
@@ -198,14 +200,15 @@ pub extern "C" fn lc_prev_change<'a>(
     mask: Mask,
     from: usize,
     place: &mut usize,
+    read: &mut usize,
 ) -> u32
-    ensures { λ r. ⌜ Out number (perhaps (previousOf (captureIn (now (numbers .entry))) (now (samples .entry)) (levelOf (now (l1 .entry)) (now (l2 .entry)) (now (l3 .entry)) (now (l4 .entry))) mask from)) r (now (place .entry)) (now (place .exit)) ⌝ }
+    ensures { λ r. ⌜ Sought number (previousOf (captureIn (now (numbers .entry))) (now (samples .entry)) (levelOf (now (l1 .entry)) (now (l2 .entry)) (now (l3 .entry)) (now (l4 .entry))) mask from) r (now (place .entry)) (now (place .exit)) (now (read .entry)) (now (read .exit)) ⌝ }
 {
     let answer = search::prev_change(capture_in(numbers), samples, l1, l2, l3, l4, mask, from);
-    codes::found_code(answer, place)
+    codes::found_code(answer, place, read)
 }
 
-// 01's burst_at: first, last, the jumps at the end and at the start, or 100 where there is none. Refuses with 1 and 2.
+// 01's burst_at: first, last, the jumps at the end and at the start, or 100 where there is none, and the nodes that its searches read. Refuses with 1 and 2.
 #[no_mangle]
 pub extern "C" fn lc_burst_at<'a>(
     numbers: &[usize; 5],
@@ -220,8 +223,9 @@ pub extern "C" fn lc_burst_at<'a>(
     tolerance: usize,
     budget: usize,
     ends: &mut [usize; 4],
+    read: &mut usize,
 ) -> u32
-    ensures { λ r. ⌜ Out burstNumbers (perhaps (burstOf (captureIn (now (numbers .entry))) (now (samples .entry)) (levelOf (now (l1 .entry)) (now (l2 .entry)) (now (l3 .entry)) (now (l4 .entry))) mask sample «max_gap» tolerance budget)) r (now (ends .entry)) (now (ends .exit)) ⌝ }
+    ensures { λ r. ⌜ Sought burstNumbers (burstOf (captureIn (now (numbers .entry))) (now (samples .entry)) (levelOf (now (l1 .entry)) (now (l2 .entry)) (now (l3 .entry)) (now (l4 .entry))) mask sample «max_gap» tolerance budget) r (now (ends .entry)) (now (ends .exit)) (now (read .entry)) (now (read .exit)) ⌝ }
 {
     let answer = burst::burst_at(
         capture_in(numbers),
@@ -236,7 +240,7 @@ pub extern "C" fn lc_burst_at<'a>(
         tolerance,
         budget,
     );
-    codes::burst_code(answer, ends)
+    codes::burst_code(answer, ends, read)
 }
 
 // 01's render: width pixels, two numbers each, at the start of output. Refuses with 1, 2, 10 and 11.

@@ -8,7 +8,8 @@ ghost use Rattle.node.specs.Memory.{levelOf};
 ghost use Rattle.mill_search.specs.Answer.{nextOf, previousOf, burstOf};
 ghost use Rattle.codes.specs.Record.{captureIn, nodeNumbers, number};
 ghost use Rattle.codes.specs.Code.{plain, perhaps, Out};
-ghost use Rattle.mill_codes.specs.Written.{firstPlace, endPlace, markedNumber, place, burstFirst, burstLast, jumpNumbers};
+ghost use Rattle.codes.specs.Sought.{Sought};
+ghost use Rattle.mill_codes.specs.Written.{firstPlace, endPlace, markedNumber, place, BurstOut};
 ghost use Rattle.logic_core.specs.Mill.{boundedFor, gotFor, summedFor, CopiesOut, DrawsOut};
 
 // The places that the run has, from first on and below end, and whether place 0 is a mark. Refuses with 1 and 2.
@@ -114,8 +115,9 @@ pub extern "C" fn lc_mill_next_change<'a>(
     mask: Mask,
     from: i64,
     at: &mut i64,
+    read: &mut usize,
 ) -> u32
-    ensures { λ r. ⌜ Out place (perhaps (nextOf (captureIn (now (numbers .entry))) (now (samples .entry)) (levelOf (now (l1 .entry)) (now (l2 .entry)) (now (l3 .entry)) (now (l4 .entry))) grant mask from)) r (now (at .entry)) (now (at .exit)) ⌝ }
+    ensures { λ r. ⌜ Sought place (nextOf (captureIn (now (numbers .entry))) (now (samples .entry)) (levelOf (now (l1 .entry)) (now (l2 .entry)) (now (l3 .entry)) (now (l4 .entry))) grant mask from) r (now (at .entry)) (now (at .exit)) (now (read .entry)) (now (read .exit)) ⌝ }
 {
     let answer = mill_search::next_change(
         capture_in(numbers),
@@ -128,7 +130,7 @@ pub extern "C" fn lc_mill_next_change<'a>(
         mask,
         from,
     );
-    mill_codes::found_code(answer, at)
+    mill_codes::found_code(answer, at, read)
 }
 
 // 01's Previous: the place, or 100 where there is none. Refuses with 1, 2, 12 and 13.
@@ -144,8 +146,9 @@ pub extern "C" fn lc_mill_prev_change<'a>(
     mask: Mask,
     from: i64,
     at: &mut i64,
+    read: &mut usize,
 ) -> u32
-    ensures { λ r. ⌜ Out place (perhaps (previousOf (captureIn (now (numbers .entry))) (now (samples .entry)) (levelOf (now (l1 .entry)) (now (l2 .entry)) (now (l3 .entry)) (now (l4 .entry))) grant mask from)) r (now (at .entry)) (now (at .exit)) ⌝ }
+    ensures { λ r. ⌜ Sought place (previousOf (captureIn (now (numbers .entry))) (now (samples .entry)) (levelOf (now (l1 .entry)) (now (l2 .entry)) (now (l3 .entry)) (now (l4 .entry))) grant mask from) r (now (at .entry)) (now (at .exit)) (now (read .entry)) (now (read .exit)) ⌝ }
 {
     let answer = mill_search::prev_change(
         capture_in(numbers),
@@ -158,7 +161,7 @@ pub extern "C" fn lc_mill_prev_change<'a>(
         mask,
         from,
     );
-    mill_codes::found_code(answer, at)
+    mill_codes::found_code(answer, at, read)
 }
 
 // 01's burst_at: first, last, and the jumps at the end and at the start, or 100 where there is none. Refuses with 1, 2, 12 and 13.
@@ -179,8 +182,9 @@ pub extern "C" fn lc_mill_burst_at<'a>(
     first: &mut i64,
     last: &mut i64,
     jumps: &mut [usize; 2],
+    read: &mut usize,
 ) -> u32
-    ensures { λ r. ⌜ Out burstFirst (perhaps (burstOf (captureIn (now (numbers .entry))) (now (samples .entry)) (levelOf (now (l1 .entry)) (now (l2 .entry)) (now (l3 .entry)) (now (l4 .entry))) grant mask sample «max_gap» tolerance budget)) r (now (first .entry)) (now (first .exit)) × Out burstLast (perhaps (burstOf (captureIn (now (numbers .entry))) (now (samples .entry)) (levelOf (now (l1 .entry)) (now (l2 .entry)) (now (l3 .entry)) (now (l4 .entry))) grant mask sample «max_gap» tolerance budget)) r (now (last .entry)) (now (last .exit)) × Out jumpNumbers (perhaps (burstOf (captureIn (now (numbers .entry))) (now (samples .entry)) (levelOf (now (l1 .entry)) (now (l2 .entry)) (now (l3 .entry)) (now (l4 .entry))) grant mask sample «max_gap» tolerance budget)) r (now (jumps .entry)) (now (jumps .exit)) ⌝ }
+    ensures { λ r. ⌜ BurstOut (burstOf (captureIn (now (numbers .entry))) (now (samples .entry)) (levelOf (now (l1 .entry)) (now (l2 .entry)) (now (l3 .entry)) (now (l4 .entry))) grant mask sample «max_gap» tolerance budget) r (now (first .entry)) (now (first .exit)) (now (last .entry)) (now (last .exit)) (now (jumps .entry)) (now (jumps .exit)) (now (read .entry)) (now (read .exit)) ⌝ }
 {
     let answer = mill_search::burst_at(
         capture_in(numbers),
@@ -196,7 +200,7 @@ pub extern "C" fn lc_mill_burst_at<'a>(
         tolerance,
         budget,
     );
-    mill_codes::burst_code(answer, first, last, jumps)
+    mill_codes::burst_code(answer, first, last, jumps, read)
 }
 
 // 01's render; start is a place as the mill counts. Refuses with 1, 2, 10 and 11.

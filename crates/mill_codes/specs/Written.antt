@@ -3,7 +3,11 @@ use mathlib.Core.List.{List, [], _∷_}
 use Prim.Native.Nat.{ℕ}
 use lib.IntN.{ℤ}
 use lib.Seq.{sets}
+use Rattle.rules.specs.Answer.{Answer}
+use Rattle.rules.specs.Walk.{Counted}
 use Rattle.rules.specs.Mill.{MillBurst}
+use Rattle.codes.specs.Code.{Out}
+use Rattle.codes.specs.Sought.{foundReply, Sought}
 use Rattle.codes.specs.Record.{flagNumber}
 use Rattle.mill_read.specs.Read.{Extent}
 
@@ -29,3 +33,9 @@ burstLast b old = b .last
 -- the jumps at the end, and at the start
 abbrev pub jumpNumbers : MillBurst → List ℕ → List ℕ
 jumpNumbers b old = sets old 0 (b .jumps-end ∷ b .jumps-start ∷ [])
+
+-- a burst: its code, its two places behind pointers of their own, its jumps, and the nodes read
+pub record BurstOut (answer : Answer (Counted MillBurst)) (code : ℕ) (first first′ last last′ : ℤ) (jumps jumps′ : List ℕ) (read read′ : ℕ) : Type 0 where
+  pub first-is : Out burstFirst (foundReply answer) code first first′
+  pub last-is : Out burstLast (foundReply answer) code last last′
+  pub jumps-are : Sought jumpNumbers answer code jumps jumps′ read read′

@@ -7,10 +7,11 @@ use mill_search::Bursts;
 use mill_search::Found;
 ghost use mathlib.Core.Path.{_≡_};
 ghost use lib.IntN.{ℤ};
-ghost use Rattle.codes.specs.Code.{plain, perhaps, Out};
+ghost use Rattle.codes.specs.Code.{plain, Out};
+ghost use Rattle.codes.specs.Sought.{Sought};
 ghost use Rattle.mill_read.specs.Read.{boundedOf};
 ghost use Rattle.mill_search.specs.Answer.{foundOf, burstAs};
-ghost use Rattle.mill_codes.specs.Written.{firstPlace, endPlace, markedNumber, place, burstFirst, burstLast, jumpNumbers};
+ghost use Rattle.mill_codes.specs.Written.{firstPlace, endPlace, markedNumber, place, BurstOut};
 
 pub fn bounded_code(answer: Bounded, first: &mut i64, end: &mut i64, marked: &mut usize) -> u32
     ensures { λ r. ⌜ Out firstPlace (plain (boundedOf answer)) r (now (first .entry)) (now (first .exit)) × Out endPlace (plain (boundedOf answer)) r (now (end .entry)) (now (end .exit)) × Out markedNumber (plain (boundedOf answer)) r (now (marked .entry)) (now (marked .exit)) ⌝ }
@@ -28,33 +29,47 @@ pub fn bounded_code(answer: Bounded, first: &mut i64, end: &mut i64, marked: &mu
     }
 }
 
-pub fn found_code(answer: Found, at: &mut i64) -> u32
-    ensures { λ r. ⌜ Out place (perhaps (foundOf answer)) r (now (at .entry)) (now (at .exit)) ⌝ }
+pub fn found_code(answer: Found, at: &mut i64, read: &mut usize) -> u32
+    ensures { λ r. ⌜ Sought place (foundOf answer) r (now (at .entry)) (now (at .exit)) (now (read .entry)) (now (read .exit)) ⌝ }
 {
     match answer {
         Found::Refused(n) => code(n),
-        Found::At(p) => {
+        Found::At(p, n) => {
             *at = p;
+            *read = n;
             0
         }
-        Found::Nothing => NONE,
+        Found::Nothing(n) => {
+            *read = n;
+            NONE
+        }
     }
 }
 
-pub fn burst_code(answer: Bursts, first: &mut i64, last: &mut i64, jumps: &mut [usize; 2]) -> u32
-    ensures { λ r. ⌜ Out burstFirst (perhaps (burstAs answer)) r (now (first .entry)) (now (first .exit)) × Out burstLast (perhaps (burstAs answer)) r (now (last .entry)) (now (last .exit)) × Out jumpNumbers (perhaps (burstAs answer)) r (now (jumps .entry)) (now (jumps .exit)) ⌝ }
+pub fn burst_code(
+    answer: Bursts,
+    first: &mut i64,
+    last: &mut i64,
+    jumps: &mut [usize; 2],
+    read: &mut usize,
+) -> u32
+    ensures { λ r. ⌜ BurstOut (burstAs answer) r (now (first .entry)) (now (first .exit)) (now (last .entry)) (now (last .exit)) (now (jumps .entry)) (now (jumps .exit)) (now (read .entry)) (now (read .exit)) ⌝ }
 {
     match answer {
         Bursts::Refused(n) => code(n),
-        Bursts::At(b) => {
+        Bursts::At(b, n) => {
             let start = b.first;
             let stop = b.last;
             *first = start;
             *last = stop;
             jumps[0] = b.jumps_end;
             jumps[1] = b.jumps_start;
+            *read = n;
             0
         }
-        Bursts::Nothing => NONE,
+        Bursts::Nothing(n) => {
+            *read = n;
+            NONE
+        }
     }
 }

@@ -12,8 +12,9 @@ use lib.ListN.{length}
 use borrow.Author.Tests.{eqb-true}
 use Rattle.rules.specs.Sample.{listFrom}
 use Rattle.rules.specs.Node.{nodeOf}
-use Rattle.rules.specs.Search.{next, previous, summary, cutSummary}
-use Rattle.rules.specs.Burst.{burst}
+use Rattle.rules.specs.Search.{summary, cutSummary}
+use Rattle.rules.specs.Walk.{through, nextSearch, previousSearch}
+use Rattle.rules.specs.Burst.{burstSearch}
 use Rattle.rules.specs.Pixel.{rowBy, rangeFrom, cutPixels}
 use Rattle.rules.specs.Refusal.{Row, firstOf, viewRows, copied}
 use Rattle.rules.specs.Mill.{originOf, placeAt, beyond, shownPlace, shownBurst, millGetRows, millSamplesRows, millSummaryRows, millSearchRows}
@@ -75,16 +76,16 @@ module _ (grant : ℕ) (one two : Recording) (same : Same grant one two) where
         (both (λ x n. millSummaryRows x a b) (λ f x n. cutSummary grant (summary f n (placeAt (originOf x) a) (placeAt (originOf x) b))) (λ z. rules .summaries (at a) (at b)));
     nexts = λ mask p.
         agreed (λ x. x) (a₁ .next-is mask p) (a₂ .next-is mask p)
-        (both (λ x n. millSearchRows grant mask x p) (λ f x n. shownPlace (originOf x) (next f n mask (placeAt (originOf x) p)))
-        (λ z. ap (shownPlace (originOf (mark one))) (rules .nexts mask (within grant mask (mark one) p z) (at p))));
+        (both (λ x n. millSearchRows grant mask x p) (λ f x n. through (shownPlace (originOf x)) (nextSearch f n mask (placeAt (originOf x) p)))
+        (λ z. ap (through (shownPlace (originOf (mark one)))) (rules .nexts mask (within grant mask (mark one) p z) (at p))));
     previouses = λ mask p.
         agreed (λ x. x) (a₁ .previous-is mask p) (a₂ .previous-is mask p)
-        (both (λ x n. millSearchRows grant mask x p) (λ f x n. shownPlace (originOf x) (previous f n mask (placeAt (originOf x) p)))
-        (λ z. ap (shownPlace (originOf (mark one))) (rules .previouses mask (within grant mask (mark one) p z) (at p))));
+        (both (λ x n. millSearchRows grant mask x p) (λ f x n. through (shownPlace (originOf x)) (previousSearch f n mask (placeAt (originOf x) p)))
+        (λ z. ap (through (shownPlace (originOf (mark one)))) (rules .previouses mask (within grant mask (mark one) p z) (at p))));
     bursts = λ mask p gap tolerance budget.
         agreed (λ x. x) (a₁ .burst-is mask p gap tolerance budget) (a₂ .burst-is mask p gap tolerance budget)
-        (both (λ x n. millSearchRows grant mask x p) (λ f x n. shownBurst (originOf x) (burst f n mask (placeAt (originOf x) p) gap tolerance budget))
-        (λ z. ap (shownBurst (originOf (mark one))) (rules .bursts mask (within grant mask (mark one) p z) (at p) gap tolerance budget)));
+        (both (λ x n. millSearchRows grant mask x p) (λ f x n. through (shownBurst (originOf x)) (burstSearch f n mask (placeAt (originOf x) p) gap tolerance budget))
+        (λ z. ap (through (shownBurst (originOf (mark one)))) (rules .bursts mask (within grant mask (mark one) p z) (at p) gap tolerance budget)));
     pixels = λ view width output₁ output₂ e.
         agreed (λ x. x) (a₁ .render-is view width output₁) (a₂ .render-is view width output₂)
         (both (λ x n. viewRows (viewAs view) width (length output₁)) (λ f x n. cutPixels grant (rowBy (nodeOf f) (rangeFrom (originOf x) (viewAs view) n) 0 width))

@@ -1,5 +1,5 @@
 -- Asked with what a recording leaves, each of a mill's calls is told the run's granted lines, counted from its mark, and nothing else.
-use mathlib.Core.Path.{_≡_, refl, ap, ap₂, _∙_}
+use mathlib.Core.Path.{_≡_, refl, sym, ap, ap₂, _∙_}
 use mathlib.Core.Bool.{Bool, true, false}
 use mathlib.Core.List.{List, [], _++_}
 use mathlib.Core.Option.{Option, none, some}
@@ -15,8 +15,9 @@ use borrow.Author.Tests.{leb-false}
 use denote.Ref.{at-last}
 use Rattle.rules.specs.Sample.{sampleOf, listFrom}
 use Rattle.rules.specs.Node.{nodeOf}
-use Rattle.rules.specs.Search.{next, previous, summary, cutSummary}
-use Rattle.rules.specs.Burst.{burst}
+use Rattle.rules.specs.Search.{summary, cutSummary}
+use Rattle.rules.specs.Walk.{Counted, through, nextSearch, previousSearch}
+use Rattle.rules.specs.Burst.{burstSearch}
 use Rattle.rules.specs.Pixel.{rowBy, rangeFrom, cutPixels}
 use Rattle.rules.specs.Refusal.{Row, Lent, firstOf, storeRows, viewRows, renderRefusal, copied}
 use Rattle.rules.specs.Mill.{MillBurst, originOf, placeAt, before, shownPlace, shownBurst, millGetRows, millSamplesRows, millSummaryRows, millSearchRows, millSamplesRefusal}
@@ -65,15 +66,22 @@ copied-for : (x : Answer ℕ) → (v : Copied) × (copiedOf v ≡ x)
 copied-for (refused n) = (copies.Refused n, refl)
 copied-for (given k) = (copies.Count k, refl)
 
-found-for : (x : Answer (Option ℤ)) → (v : Found) × (foundOf v ≡ x)
+-- a search's by what it found
+found-for : (x : Answer (Counted ℤ)) → (v : Found) × (foundOf v ≡ x)
 found-for (refused n) = (found.Refused n, refl)
-found-for (given none) = (found.Nothing, refl)
-found-for (given (some p)) = (found.At p, refl)
+found-for (given w) = go (w .found) refl
+  where
+    go : (o : Option ℤ) → w .found ≡ o → (v : Found) × (foundOf v ≡ given w)
+    go none e = (found.Nothing (w .steps), ap (λ (x : Option ℤ). given (record { found = x; steps = w .steps })) (sym e))
+    go (some p) e = (found.At p (w .steps), ap (λ (x : Option ℤ). given (record { found = x; steps = w .steps })) (sym e))
 
-burst-for : (x : Answer (Option MillBurst)) → (v : Bursts) × (burstAs v ≡ x)
+burst-for : (x : Answer (Counted MillBurst)) → (v : Bursts) × (burstAs v ≡ x)
 burst-for (refused n) = (bursts.Refused n, refl)
-burst-for (given none) = (bursts.Nothing, refl)
-burst-for (given (some b)) = (bursts.At (record { first = b .first; last = b .last; «jumps_end» = b .jumps-end; «jumps_start» = b .jumps-start }), refl)
+burst-for (given w) = go (w .found) refl
+  where
+    go : (o : Option MillBurst) → w .found ≡ o → (v : Bursts) × (burstAs v ≡ given w)
+    go none e = (bursts.Nothing (w .steps), ap (λ (x : Option MillBurst). given (record { found = x; steps = w .steps })) (sym e))
+    go (some b) e = (bursts.At (record { first = b .first; last = b .last; «jumps_end» = b .jumps-end; «jumps_start» = b .jumps-start }) (w .steps), ap (λ (x : Option MillBurst). given (record { found = x; steps = w .steps })) (sym e))
 
 -- ---- rows
 -- what is refused need not be the same
@@ -150,28 +158,28 @@ module _ (r : Recording) where
         ∙ asked-run (λ x n. millSummaryRows x a b) (λ f x n. cutSummary grant (summary f n (placeAt (originOf x) a) (placeAt (originOf x) b)))
         (λ z. ap (cutSummary grant) (summary-below t (s r) (c .len) (agree r) (placeAt (originOf k) a) (placeAt (originOf k) b))))
 
-    next-is : (mask : ℕ) (p : ℤ) → Answered (MayNext c m grant mask p) foundOf (unless (firstOf (millSearchRows grant mask (mark r) p)) (shownPlace (origin r) (next (s r) (len r) mask (place r p))))
+    next-is : (mask : ℕ) (p : ℤ) → Answered (MayNext c m grant mask p) foundOf (unless (firstOf (millSearchRows grant mask (mark r) p)) (through (shownPlace (origin r)) (nextSearch (s r) (len r) mask (place r p))))
     next-is mask p =
         allowing foundOf found-for
         (λ v e. next-right ([], ([], tt)) c ms m1 m2 m3 m4 grant mask p v e (right r)
-        ∙ asked-run (λ x n. millSearchRows grant mask x p) (λ f x n. shownPlace (originOf x) (next f n mask (placeAt (originOf x) p)))
-        (λ z. ap (shownPlace (originOf k)) (next-below t (s r) (c .len) (agree r) mask (placeAt (originOf k) p))))
+        ∙ asked-run (λ x n. millSearchRows grant mask x p) (λ f x n. through (shownPlace (originOf x)) (nextSearch f n mask (placeAt (originOf x) p)))
+        (λ z. ap (through (shownPlace (originOf k))) (next-below t (s r) (c .len) (agree r) mask (placeAt (originOf k) p))))
 
-    previous-is : (mask : ℕ) (p : ℤ) → Answered (MayPrevious c m grant mask p) foundOf (unless (firstOf (millSearchRows grant mask (mark r) p)) (shownPlace (origin r) (previous (s r) (len r) mask (place r p))))
+    previous-is : (mask : ℕ) (p : ℤ) → Answered (MayPrevious c m grant mask p) foundOf (unless (firstOf (millSearchRows grant mask (mark r) p)) (through (shownPlace (origin r)) (previousSearch (s r) (len r) mask (place r p))))
     previous-is mask p =
         allowing foundOf found-for
         (λ v e. previous-right ([], ([], tt)) c ms m1 m2 m3 m4 grant mask p v e (right r)
-        ∙ asked-run (λ x n. millSearchRows grant mask x p) (λ f x n. shownPlace (originOf x) (previous f n mask (placeAt (originOf x) p)))
-        (λ z. ap (shownPlace (originOf k)) (previous-below t (s r) (c .len) (agree r) mask (placeAt (originOf k) p))))
+        ∙ asked-run (λ x n. millSearchRows grant mask x p) (λ f x n. through (shownPlace (originOf x)) (previousSearch f n mask (placeAt (originOf x) p)))
+        (λ z. ap (through (shownPlace (originOf k))) (previous-below t (s r) (c .len) (agree r) mask (placeAt (originOf k) p))))
 
     burst-is : (mask : ℕ) (p : ℤ) (gap tolerance budget : ℕ)
         → Answered (MayBurst c m grant mask p gap tolerance budget) burstAs
-        (unless (firstOf (millSearchRows grant mask (mark r) p)) (shownBurst (origin r) (burst (s r) (len r) mask (place r p) gap tolerance budget)))
+        (unless (firstOf (millSearchRows grant mask (mark r) p)) (through (shownBurst (origin r)) (burstSearch (s r) (len r) mask (place r p) gap tolerance budget)))
     burst-is mask p gap tolerance budget =
         allowing burstAs burst-for
         (λ v e. burst-right ([], ([], tt)) c ms m1 m2 m3 m4 grant mask p gap tolerance budget v e (right r)
-        ∙ asked-run (λ x n. millSearchRows grant mask x p) (λ f x n. shownBurst (originOf x) (burst f n mask (placeAt (originOf x) p) gap tolerance budget))
-        (λ z. ap (shownBurst (originOf k)) (burst-below t (s r) (c .len) (agree r) mask (placeAt (originOf k) p) gap tolerance budget)))
+        ∙ asked-run (λ x n. millSearchRows grant mask x p) (λ f x n. through (shownBurst (originOf x)) (burstSearch f n mask (placeAt (originOf x) p) gap tolerance budget))
+        (λ z. ap (through (shownBurst (originOf k))) (burst-below t (s r) (c .len) (agree r) mask (placeAt (originOf k) p) gap tolerance budget)))
 
     -- ---- samples
     module _ (p : ℤ) (n : ℕ) (output : List ℕ) where

@@ -11,8 +11,9 @@ use contract.Lifetimes.{Lfts}
 use denote.Ref.{at-last}
 use Rattle.rules.specs.Sample.{listFrom}
 use Rattle.rules.specs.Node.{nodeOf}
-use Rattle.rules.specs.Search.{next, previous, summary, cutSummary}
-use Rattle.rules.specs.Burst.{burst}
+use Rattle.rules.specs.Search.{summary, cutSummary}
+use Rattle.rules.specs.Walk.{through, nextSearch, previousSearch}
+use Rattle.rules.specs.Burst.{burstSearch}
 use Rattle.rules.specs.Pixel.{rowBy, rangeFrom, cutPixels}
 use Rattle.rules.specs.Refusal.{firstOf, viewRows, copied}
 use Rattle.rules.specs.Mill.{originOf, placeAt, shownPlace, shownBurst, millGetRows, millSamplesRows, millSummaryRows, millSearchRows}
@@ -102,11 +103,11 @@ pub record MillAnswers (grant : ℕ) (r : Recording) : Type 0 where
       → Answered (MaySamples (store r) (r .memory) grant p n output) samplesIn
       (unless (firstOf (millSamplesRows (mark r) (len r) p n (length output))) (listFrom (λ i. bitAnd (s r i) grant) (place r p) (copied (len r) (place r p) n)))
   pub summary-is : (a b : ℤ) → Answered (MaySummary (store r) (r .memory) grant a b) summedOf (unless (firstOf (millSummaryRows (mark r) a b)) (cutSummary grant (summary (s r) (len r) (place r a) (place r b))))
-  pub next-is : (mask : ℕ) (p : ℤ) → Answered (MayNext (store r) (r .memory) grant mask p) foundOf (unless (firstOf (millSearchRows grant mask (mark r) p)) (shownPlace (origin r) (next (s r) (len r) mask (place r p))))
-  pub previous-is : (mask : ℕ) (p : ℤ) → Answered (MayPrevious (store r) (r .memory) grant mask p) foundOf (unless (firstOf (millSearchRows grant mask (mark r) p)) (shownPlace (origin r) (previous (s r) (len r) mask (place r p))))
+  pub next-is : (mask : ℕ) (p : ℤ) → Answered (MayNext (store r) (r .memory) grant mask p) foundOf (unless (firstOf (millSearchRows grant mask (mark r) p)) (through (shownPlace (origin r)) (nextSearch (s r) (len r) mask (place r p))))
+  pub previous-is : (mask : ℕ) (p : ℤ) → Answered (MayPrevious (store r) (r .memory) grant mask p) foundOf (unless (firstOf (millSearchRows grant mask (mark r) p)) (through (shownPlace (origin r)) (previousSearch (s r) (len r) mask (place r p))))
   pub burst-is : (mask : ℕ) (p : ℤ) (gap tolerance budget : ℕ)
       → Answered (MayBurst (store r) (r .memory) grant mask p gap tolerance budget) burstAs
-      (unless (firstOf (millSearchRows grant mask (mark r) p)) (shownBurst (origin r) (burst (s r) (len r) mask (place r p) gap tolerance budget)))
+      (unless (firstOf (millSearchRows grant mask (mark r) p)) (through (shownBurst (origin r)) (burstSearch (s r) (len r) mask (place r p) gap tolerance budget)))
   pub render-is : (view : View) (width : ℕ) (output : List ℕ)
       → Answered (MayRender (store r) (r .memory) grant view width output) (pixelsIn width)
       (unless (firstOf (viewRows (viewAs view) width (length output))) (cutPixels grant (rowBy (nodeOf (s r)) (rangeFrom (origin r) (viewAs view) (len r)) 0 width)))

@@ -3,13 +3,12 @@
 use Prim.Native.Nat.{ℕ}
 use mathlib.Core.Path.{_≡_, ap, ap₂, _∙_}
 use mathlib.Core.List.{List}
-use mathlib.Core.Option.{Option}
 use lib.IntN.{ℤ}
 use contract.Lifetimes.{Lfts}
 use denote.Ref.{RefT, now}
 use Rattle.rules.specs.Sample.{sampleOf}
-use Rattle.rules.specs.Search.{next, previous}
-use Rattle.rules.specs.Burst.{burst, burstBy}
+use Rattle.rules.specs.Walk.{Walked, through, nextSearch, previousSearch}
+use Rattle.rules.specs.Burst.{burstedBy, burstSearch}
 use Rattle.rules.specs.Mill.{placeAt, shownPlace, shownBurst}
 use Rattle.node.specs.Memory.{levelOf, Right}
 use Rattle.capture.specs.declared.Capture.{Capture}
@@ -17,7 +16,7 @@ use Rattle.burst.proofs.Answers.{back-right, fore-right}
 use Rattle.mill.specs.Reader.{originIn}
 use Rattle.mill_search.specs.declared.Found.{Found}
 use Rattle.mill_search.specs.declared.Bursts.{Bursts}
-use Rattle.mill_search.specs.Answer.{foundOf, burstAs, asked, nextOf, previousOf, burstOf}
+use Rattle.mill_search.specs.Answer.{foundOf, burstAs, asked, changeOf, burstOf}
 use Rattle.mill_search.proofs.next_change.Reads as next-change
 use Rattle.mill_search.proofs.prev_change.Reads as prev-change
 use Rattle.mill_search.proofs.burst_at.Reads as burst-at
@@ -38,20 +37,20 @@ module _ (κs : Lfts 2) (c : Capture) (samples l1 l2 l3 l4 : RefT (List ℕ)) (g
   module _ (r : Found) where
     pub next-right : next-change.Post κs (c, (samples, (l1, (l2, (l3, (l4, (grant, (mask, (from, tt))))))))) r (c, (samples, (l1, (l2, (l3, (l4, (grant, (mask, (from, tt)))))))))
         → Right s (c .len) levels
-        → foundOf r ≡ asked c (now samples) levels grant mask from (shownPlace (originIn c) (next s (c .len) mask i))
-    unfolding nextOf
-    next-right p h = p ∙ ap (λ (f : ℕ → Option ℕ). asked c (now samples) levels grant mask from (shownPlace (originIn c) (f i))) (fore-right (c .unitsize) (c .len) (now samples) levels mask h)
+        → foundOf r ≡ asked c (now samples) levels grant mask from (through (shownPlace (originIn c)) (nextSearch s (c .len) mask i))
+    unfolding changeOf
+    next-right p h = p ∙ ap (λ (f : ℕ → Walked). asked c (now samples) levels grant mask from (through (shownPlace (originIn c)) (f i))) (fore-right (c .unitsize) (c .len) (now samples) levels mask h)
 
     pub previous-right : prev-change.Post κs (c, (samples, (l1, (l2, (l3, (l4, (grant, (mask, (from, tt))))))))) r (c, (samples, (l1, (l2, (l3, (l4, (grant, (mask, (from, tt)))))))))
         → Right s (c .len) levels
-        → foundOf r ≡ asked c (now samples) levels grant mask from (shownPlace (originIn c) (previous s (c .len) mask i))
-    unfolding previousOf
-    previous-right p h = p ∙ ap (λ (f : ℕ → Option ℕ). asked c (now samples) levels grant mask from (shownPlace (originIn c) (f i))) (back-right (c .unitsize) (c .len) (now samples) levels mask h)
+        → foundOf r ≡ asked c (now samples) levels grant mask from (through (shownPlace (originIn c)) (previousSearch s (c .len) mask i))
+    unfolding changeOf
+    previous-right p h = p ∙ ap (λ (f : ℕ → Walked). asked c (now samples) levels grant mask from (through (shownPlace (originIn c)) (f i))) (back-right (c .unitsize) (c .len) (now samples) levels mask h)
 
   module _ (gap tolerance budget : ℕ) (r : Bursts) where
     pub burst-right : burst-at.Post κs (c, (samples, (l1, (l2, (l3, (l4, (grant, (mask, (from, (gap, (tolerance, (budget, tt)))))))))))) r (c, (samples, (l1, (l2, (l3, (l4, (grant, (mask, (from, (gap, (tolerance, (budget, tt))))))))))))
         → Right s (c .len) levels
-        → burstAs r ≡ asked c (now samples) levels grant mask from (shownBurst (originIn c) (burst s (c .len) mask i gap tolerance budget))
+        → burstAs r ≡ asked c (now samples) levels grant mask from (through (shownBurst (originIn c)) (burstSearch s (c .len) mask i gap tolerance budget))
     unfolding burstOf
     burst-right p h =
-        p ∙ ap₂ (λ (b f : ℕ → Option ℕ). asked c (now samples) levels grant mask from (shownBurst (originIn c) (burstBy b f (c .len) i gap tolerance budget))) (back-right (c .unitsize) (c .len) (now samples) levels mask h) (fore-right (c .unitsize) (c .len) (now samples) levels mask h)
+        p ∙ ap₂ (λ (b f : ℕ → Walked). asked c (now samples) levels grant mask from (through (shownBurst (originIn c)) (burstedBy b f (c .len) i gap tolerance budget))) (back-right (c .unitsize) (c .len) (now samples) levels mask h) (fore-right (c .unitsize) (c .len) (now samples) levels mask h)

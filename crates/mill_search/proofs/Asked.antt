@@ -1,7 +1,7 @@
 -- A mill's search in front of the service's: the mill's answer is the service's, shown to the mill, wherever none of the mill's rows refuses.
 use Prim.Native.Nat.{ℕ, _≤_, _<_}
 use mathlib.Core.Path.{_≡_, refl, sym, ap, _∙_}
-use mathlib.Core.Bool.{Bool, false}
+use mathlib.Core.Bool.{Bool, true, false}
 use mathlib.Core.List.{List, []}
 use mathlib.Core.Option.{Option, some}
 use native.Mathlib.Omega.{arith}
@@ -10,10 +10,10 @@ use lib.ListN.{length}
 use mir.Syntax.{w64}
 use mir.Val.{SFits, toZ, ofZ}
 use Rattle.rules.specs.Answer.{Answer, refused, given, unless, seen}
-use Rattle.rules.specs.Burst.{Burst, burstBy}
+use Rattle.rules.specs.Burst.{Burst, places, burstedBy}
 use Rattle.rules.specs.Refusal.{Lent, firstOf, storeRows, storeRefusal, mostSamples}
 use Rattle.rules.specs.Mill.{placeAt, before, beyond}
-use Rattle.rules.specs.Walk.{allLevels}
+use Rattle.rules.specs.Walk.{Counted, Walked, through, allLevels}
 use Rattle.node.specs.Memory.{levelOf, readerOf}
 use Rattle.capture.specs.declared.Capture.{Capture}
 use Rattle.capture.specs.Record.{storeOf, lentNumbers, lentOf}
@@ -27,7 +27,7 @@ use Rattle.burst.proofs.Ends.{burst-ends}
 use Rattle.mill.specs.Reader.{originIn, millRows}
 use Rattle.mill.proofs.Places.{read-is}
 use Rattle.mill.proofs.Under.{Passed, passed, first-placed, under-refused, under-given, given-under}
-use Rattle.mill_search.specs.Answer.{asked, Counts, SmallPlace, SmallBurst}
+use Rattle.mill_search.specs.Answer.{asked, sought, Counts, SmallPlace, SmallBurst}
 
 -- ---- the rows
 -- a call for a mask, at a place that the code reads from its bits; the number n of the mill's rows
@@ -68,52 +68,50 @@ module _ (c : Capture) (samples l1 l2 l3 l4 : List ℕ) (grant mask : ℕ) (plac
     asked-placed = first-placed let-pass origin origin-is
 
     -- the service's answer to the question `find`, at a place i
-    module _ {A : Type 0} (find : ℕ → Option A) (i : ℕ) (i-is : i ≡ placeAt origin p) (answer : Answer (Option A)) (answer-is : answer ≡ unless (storeRefusal (storeOf c) lent) (find i)) where
+    module _ {A : Type 0} (find : ℕ → Counted A) (i : ℕ) (i-is : i ≡ placeAt origin p) (answer : Answer (Counted A)) (answer-is : answer ≡ unless (storeRefusal (storeOf c) lent) (find i)) where
       -- a place that is found can be counted
-      pub asked-counts : (Small : A → Type 0) → ((x : ℕ) (a : A) → c .len ≤ mostSamples → find x ≡ some a → Small a) → Counts Small origin answer
-      asked-counts Small h = (asked-placed .0, λ a e. h i a (omega (arith, let-pass .sound .len-most, let-pass .sound .capacity-most)) (unless-given (find i) (storeRefusal (storeOf c) lent) (some a) (sym answer-is ∙ e) .1))
+      pub asked-counts : (Small : A → Type 0) → ((x : ℕ) (a : A) → c .len ≤ mostSamples → find x .found ≡ some a → Small a) → Counts Small origin answer
+      asked-counts Small h = (asked-placed .0, λ a k e. h i a (omega (arith, let-pass .sound .len-most, let-pass .sound .capacity-most)) (ap (λ (x : Counted A). x .found) (unless-given (find i) (storeRefusal (storeOf c) lent) (record { found = some a; steps = k }) (sym answer-is ∙ e) .1)))
 
       -- what the mill is shown of it
-      pub asked-shown : {B : Type 0} (show : ℕ → Option A → Option B) (shown : Answer (Option B)) → shown ≡ seen (show origin) answer
-          → shown ≡ asked c samples levels grant mask place (show (originIn c) (find (placeAt (originIn c) place)))
+      pub asked-shown : {B : Type 0} (show : ℕ → Option A → Option B) (shown : Answer (Counted B)) → shown ≡ seen (through (show origin)) answer
+          → shown ≡ asked c samples levels grant mask place (through (show (originIn c)) (find (placeAt (originIn c) place)))
       asked-shown {B} show shown e =
           e
-          ∙ (λ j. seen (show (origin-is j)) (answer-at j))
-          ∙ under-given (storeOf c) samples l1 l2 l3 l4 (beyond grant mask) p (pos 0) n rows-are [] (show (originIn c)) (find (placeAt (originIn c) p)) z
-          ∙ at-place (λ (y : ℤ). show (originIn c) (find (placeAt (originIn c) y)))
+          ∙ (λ j. seen (through (show (origin-is j))) (answer-at j))
+          ∙ under-given (storeOf c) samples l1 l2 l3 l4 (beyond grant mask) p (pos 0) n rows-are [] (through (show (originIn c))) (find (placeAt (originIn c) p)) z
+          ∙ at-place (λ (y : ℤ). through (show (originIn c)) (find (placeAt (originIn c) y)))
         where
           answer-at : answer ≡ unless (storeRefusal (storeOf c) lent) (find (placeAt (originIn c) p))
           answer-at = answer-is ∙ ap (λ (x : ℕ). unless (storeRefusal (storeOf c) lent) (find x)) (i-is ∙ ap (λ (o : ℕ). placeAt o p) origin-is)
 
 -- ---- the service's three questions, and that what they find is small
 module _ (c : Capture) (samples : List ℕ) (levels : ℕ → List ℕ) (mask : ℕ) where
-  abbrev next-place : ℕ → Option ℕ
-  next-place = fore (c .unitsize) (c .len) samples levels mask
+  abbrev next-walk : ℕ → Walked
+  next-walk = fore (c .unitsize) (c .len) samples levels mask
 
-  abbrev previous-place : ℕ → Option ℕ
-  previous-place = back (c .unitsize) (c .len) samples levels mask
+  abbrev previous-walk : ℕ → Walked
+  previous-walk = back (c .unitsize) (c .len) samples levels mask
 
-  next-below : (x i : ℕ) → next-place x ≡ some i → i < c .len
+  next-below : (x i : ℕ) → next-walk x .found ≡ some i → i < c .len
   next-below x i e = next-within allLevels (readerOf (c .unitsize) samples levels) (c .len) mask x i e .below
 
-  previous-below : (x i : ℕ) → previous-place x ≡ some i → i < c .len
+  previous-below : (x i : ℕ) → previous-walk x .found ≡ some i → i < c .len
   previous-below x i e = previous-within allLevels (readerOf (c .unitsize) samples levels) (c .len) mask x i e .below
 
-  pub next-small : (x i : ℕ) → c .len ≤ mostSamples → next-place x ≡ some i → SmallPlace i
-  next-small x i h e = omega (arith, next-below x i e)
-
-  pub previous-small : (x i : ℕ) → c .len ≤ mostSamples → previous-place x ≡ some i → SmallPlace i
-  previous-small x i h e = omega (arith, previous-below x i e)
+  pub change-small : (backward : Bool) (x i : ℕ) → c .len ≤ mostSamples → sought backward (c .unitsize) (c .len) samples levels mask x .found ≡ some i → SmallPlace i
+  change-small true x i h e = omega (arith, previous-below x i e)
+  change-small false x i h e = omega (arith, next-below x i e)
 
   module _ (gap tolerance budget : ℕ) where
-    abbrev burst-in : ℕ → Option Burst
-    burst-in sample = burstBy previous-place next-place (c .len) sample gap tolerance budget
+    abbrev burst-in : ℕ → Counted Burst
+    burst-in sample = burstedBy previous-walk next-walk (c .len) sample gap tolerance budget
 
     pub burst-asked : (sample : ℕ) → bursts.burstOf c samples levels mask sample gap tolerance budget ≡ unless (storeRefusal (storeOf c) (lentOf samples levels)) (burst-in sample)
     unfolding bursts.burstOf
     burst-asked sample = refl
 
-    pub burst-small : (x : ℕ) (b : Burst) → c .len ≤ mostSamples → burst-in x ≡ some b → SmallBurst b
+    pub burst-small : (x : ℕ) (b : Burst) → c .len ≤ mostSamples → burst-in x .found ≡ some b → SmallBurst b
     burst-small x b h e =
-        let t = burst-ends (λ (i : ℕ). i < c .len) previous-place next-place previous-below next-below (c .len) x gap tolerance budget b e in
+        let t = burst-ends (λ (i : ℕ). i < c .len) (places previous-walk) (places next-walk) previous-below next-below (c .len) x gap tolerance budget b e in
         (omega (arith, t .at-first), omega (arith, t .at-last))

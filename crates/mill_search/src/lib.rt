@@ -10,17 +10,18 @@ use search::next_in;
 use search::prev_in;
 ghost use mathlib.Core.Path.{_≡_};
 ghost use Rattle.rules.specs.Answer.{seen};
+ghost use Rattle.rules.specs.Walk.{through};
 ghost use Rattle.rules.specs.Mill.{shownPlace, shownBurst};
 ghost use Rattle.node.specs.Memory.{levelOf};
 ghost use Rattle.search.specs.Answer as service;
 ghost use Rattle.burst.specs.Answer as bursts;
-ghost use Rattle.mill_search.specs.Answer.{foundOf, burstAs, SmallPlace, SmallBurst, Counts, nextOf, previousOf, burstOf};
+ghost use Rattle.mill_search.specs.Answer.{foundOf, burstAs, SmallPlace, SmallBurst, Counts, changeOf, nextOf, previousOf, burstOf};
 
-// The number of a refusal, a place, or none.
+// The number of a refusal, a place and the nodes read, or none and the nodes read.
 pub enum Found {
     Refused(u8),
-    At(i64),
-    Nothing,
+    At(i64, usize),
+    Nothing(usize),
 }
 
 // The first and last change of a burst, and the jumps made at its end and at its start.
@@ -33,23 +34,63 @@ pub struct Burst {
 
 pub enum Bursts {
     Refused(u8),
-    At(Burst),
-    Nothing,
+    At(Burst, usize),
+    Nothing(usize),
 }
 
 // A place that was found, as the mill counts it.
 fn found_from(from: usize, found: search::Found) -> Found
     requires { ⌜ Counts SmallPlace from (service.foundOf found) ⌝ }
-    ensures { λ r. ⌜ foundOf r ≡ seen (shownPlace from) (service.foundOf found) ⌝ }
+    ensures { λ r. ⌜ foundOf r ≡ seen (through (shownPlace from)) (service.foundOf found) ⌝ }
 {
     match found {
         search::Found::Refused(n) => Found::Refused(n),
-        search::Found::At(i) => Found::At(counted_from(from, i)),
-        search::Found::Nothing => Found::Nothing,
+        search::Found::At(i, n) => Found::At(counted_from(from, i), n),
+        search::Found::Nothing(n) => Found::Nothing(n),
     }
 }
 
-// The next change after a place, none, or 1, 2, 12 or 13.
+// The next change after a place, or, backward, the last one up to it.
+fn change<'a>(
+    c: Capture,
+    samples: &[u8],
+    l1: &'a [Mask],
+    l2: &'a [Mask],
+    l3: &'a [Mask],
+    l4: &'a [Mask],
+    grant: Mask,
+    mask: Mask,
+    from: i64,
+    backward: bool,
+) -> Found
+    ensures { λ r. ⌜ foundOf r ≡ changeOf backward c (now (samples .entry)) (levelOf (now (l1 .entry)) (now (l2 .entry)) (now (l3 .entry)) (now (l4 .entry))) grant mask from ⌝ }
+{
+    let outside = beyond(grant, mask);
+    let number = mill::refusal(
+        c,
+        samples.len(),
+        l1.len(),
+        l2.len(),
+        l3.len(),
+        l4.len(),
+        outside,
+        from,
+        0,
+    );
+    if number != 0 {
+        return Found::Refused(number);
+    }
+    let base = origin(c);
+    let i = place_at(base, from);
+    if backward {
+        let found = prev_in(samples, l1, l2, l3, l4, c.unitsize, c.len, mask, i);
+        return found_from(base, found);
+    }
+    let found = next_in(samples, l1, l2, l3, l4, c.unitsize, c.len, mask, i);
+    found_from(base, found)
+}
+
+// The next change after a place, none, or 1, 2, 12 or 13, and the nodes read.
 // Theorems, in proofs/Answers.antt: next-right, that on right levels it is the rules' next.
 pub fn next_change<'a>(
     c: Capture,
@@ -64,30 +105,10 @@ pub fn next_change<'a>(
 ) -> Found
     ensures { λ r. ⌜ foundOf r ≡ nextOf c (now (samples .entry)) (levelOf (now (l1 .entry)) (now (l2 .entry)) (now (l3 .entry)) (now (l4 .entry))) grant mask from ⌝ }
 {
-    let outside = beyond(grant, mask);
-    let number = mill::refusal(
-        c,
-        samples.len(),
-        l1.len(),
-        l2.len(),
-        l3.len(),
-        l4.len(),
-        outside,
-        from,
-        0,
-    );
-    if number != 0 {
-        return Found::Refused(number);
-    }
-    let base = origin(c);
-    let i = place_at(base, from);
-    found_from(
-        base,
-        next_in(samples, l1, l2, l3, l4, c.unitsize, c.len, mask, i),
-    )
+    change(c, samples, l1, l2, l3, l4, grant, mask, from, false)
 }
 
-// The last change up to a place, none, or 1, 2, 12 or 13.
+// The last change up to a place, none, or 1, 2, 12 or 13, and the nodes read.
 // Theorems, in proofs/Answers.antt: previous-right, that on right levels it is the rules' previous.
 pub fn prev_change<'a>(
     c: Capture,
@@ -102,43 +123,26 @@ pub fn prev_change<'a>(
 ) -> Found
     ensures { λ r. ⌜ foundOf r ≡ previousOf c (now (samples .entry)) (levelOf (now (l1 .entry)) (now (l2 .entry)) (now (l3 .entry)) (now (l4 .entry))) grant mask from ⌝ }
 {
-    let outside = beyond(grant, mask);
-    let number = mill::refusal(
-        c,
-        samples.len(),
-        l1.len(),
-        l2.len(),
-        l3.len(),
-        l4.len(),
-        outside,
-        from,
-        0,
-    );
-    if number != 0 {
-        return Found::Refused(number);
-    }
-    let base = origin(c);
-    let i = place_at(base, from);
-    found_from(
-        base,
-        prev_in(samples, l1, l2, l3, l4, c.unitsize, c.len, mask, i),
-    )
+    change(c, samples, l1, l2, l3, l4, grant, mask, from, true)
 }
 
 // A burst, its places as the mill counts them.
 fn burst_from(from: usize, found: burst::Bursts) -> Bursts
     requires { ⌜ Counts SmallBurst from (bursts.burstAs found) ⌝ }
-    ensures { λ r. ⌜ burstAs r ≡ seen (shownBurst from) (bursts.burstAs found) ⌝ }
+    ensures { λ r. ⌜ burstAs r ≡ seen (through (shownBurst from)) (bursts.burstAs found) ⌝ }
 {
     match found {
         burst::Bursts::Refused(n) => Bursts::Refused(n),
-        burst::Bursts::At(b) => Bursts::At(Burst {
-            first: counted_from(from, b.first),
-            last: counted_from(from, b.last),
-            jumps_end: b.jumps_end,
-            jumps_start: b.jumps_start,
-        }),
-        burst::Bursts::Nothing => Bursts::Nothing,
+        burst::Bursts::At(b, n) => Bursts::At(
+            Burst {
+                first: counted_from(from, b.first),
+                last: counted_from(from, b.last),
+                jumps_end: b.jumps_end,
+                jumps_start: b.jumps_start,
+            },
+            n,
+        ),
+        burst::Bursts::Nothing(n) => Bursts::Nothing(n),
     }
 }
 

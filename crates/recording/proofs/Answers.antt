@@ -1,5 +1,5 @@
 -- 2. answers: asked with what a recording leaves, each question's contract allows 01's answer for the run, and no other.
-use mathlib.Core.Path.{_≡_, refl, ap, _∙_}
+use mathlib.Core.Path.{_≡_, refl, sym, ap, _∙_}
 use mathlib.Core.List.{List, [], _++_}
 use mathlib.Core.Option.{Option, none, some}
 use Prim.Native.Nat.{ℕ, zero, suc, _*_, _<_}
@@ -11,8 +11,9 @@ use denote.Ref.{at-last}
 use Rattle.rules.specs.Sample.{sampleOf}
 use Rattle.rules.specs.Node.{nodeOf}
 use Rattle.rules.specs.Node as rule
-use Rattle.rules.specs.Search.{next, previous, summary}
-use Rattle.rules.specs.Burst.{burst}
+use Rattle.rules.specs.Search.{summary}
+use Rattle.rules.specs.Walk.{Counted, Walked, nextSearch, previousSearch}
+use Rattle.rules.specs.Burst.{burstSearch}
 use Rattle.rules.specs.Burst as rule-burst
 use Rattle.rules.specs.Pixel.{pixelRange, render}
 use Rattle.rules.specs.Refusal.{firstOf, storeRefusal, viewRows, renderRefusal}
@@ -51,15 +52,22 @@ summed-for (refused n) = (summed-as.Refused n, refl)
 summed-for (given none) = (summed-as.Nothing, refl)
 summed-for (given (some n)) = (summed-as.Node (record { first = n .first; last = n .last; mask = n .toggles }), refl)
 
-found-for : (x : Answer (Option ℕ)) → (v : Found) × (foundOf v ≡ x)
+-- a search's by what it found
+found-for : (x : Answer Walked) → (v : Found) × (foundOf v ≡ x)
 found-for (refused n) = (found.Refused n, refl)
-found-for (given none) = (found.Nothing, refl)
-found-for (given (some i)) = (found.At i, refl)
+found-for (given w) = go (w .found) refl
+  where
+    go : (o : Option ℕ) → w .found ≡ o → (v : Found) × (foundOf v ≡ given w)
+    go none e = (found.Nothing (w .steps), ap (λ (x : Option ℕ). given (record { found = x; steps = w .steps })) (sym e))
+    go (some p) e = (found.At p (w .steps), ap (λ (x : Option ℕ). given (record { found = x; steps = w .steps })) (sym e))
 
-burst-for : (x : Answer (Option rule-burst.Burst)) → (v : Bursts) × (burstAs v ≡ x)
+burst-for : (x : Answer (Counted rule-burst.Burst)) → (v : Bursts) × (burstAs v ≡ x)
 burst-for (refused n) = (bursts.Refused n, refl)
-burst-for (given none) = (bursts.Nothing, refl)
-burst-for (given (some b)) = (bursts.At (record { first = b .first; last = b .last; «jumps_end» = b .jumps-end; «jumps_start» = b .jumps-start }), refl)
+burst-for (given w) = go (w .found) refl
+  where
+    go : (o : Option rule-burst.Burst) → w .found ≡ o → (v : Bursts) × (burstAs v ≡ given w)
+    go none e = (bursts.Nothing (w .steps), ap (λ (x : Option rule-burst.Burst). given (record { found = x; steps = w .steps })) (sym e))
+    go (some b) e = (bursts.At (record { first = b .first; last = b .last; «jumps_end» = b .jumps-end; «jumps_start» = b .jumps-start }) (w .steps), ap (λ (x : Option rule-burst.Burst). given (record { found = x; steps = w .steps })) (sym e))
 
 pub drawn-for : (x : Answer (Unit {0})) → (v : Drawn) × (drawnOf v ≡ x)
 drawn-for (refused n) = (drawn-as.Refused n, refl)
@@ -134,20 +142,20 @@ module _ (r : Recording) where
       answered summedOf summed-for (unless rows (summaryOf (levels m) t (c .len) a b)) (λ f n. summary f n a b)
       (λ v e. summary-right ([], ([], tt)) c ms m1 m2 m3 m4 a b v e (right r)) (summary-below t (s r) (c .len) agree a b)
 
-  next-is : (mask from : ℕ) → Answered (MayNext (store r) (r .memory) mask from) foundOf (given (next (s r) (len r) mask from))
+  next-is : (mask from : ℕ) → Answered (MayNext (store r) (r .memory) mask from) foundOf (given (nextSearch (s r) (len r) mask from))
   next-is mask from =
-      answered foundOf found-for (nextOf c (m .samples) (levels m) mask from) (λ f n. next f n mask from)
+      answered foundOf found-for (nextOf c (m .samples) (levels m) mask from) (λ f n. nextSearch f n mask from)
       (λ v e. next-right ([], ([], tt)) c ms m1 m2 m3 m4 mask from v e (right r)) (next-below t (s r) (c .len) agree mask from)
 
-  previous-is : (mask from : ℕ) → Answered (MayPrevious (store r) (r .memory) mask from) foundOf (given (previous (s r) (len r) mask from))
+  previous-is : (mask from : ℕ) → Answered (MayPrevious (store r) (r .memory) mask from) foundOf (given (previousSearch (s r) (len r) mask from))
   previous-is mask from =
-      answered foundOf found-for (previousOf c (m .samples) (levels m) mask from) (λ f n. previous f n mask from)
+      answered foundOf found-for (previousOf c (m .samples) (levels m) mask from) (λ f n. previousSearch f n mask from)
       (λ v e. previous-right ([], ([], tt)) c ms m1 m2 m3 m4 mask from v e (right r)) (previous-below t (s r) (c .len) agree mask from)
 
   burst-is : (mask sample gap tolerance budget : ℕ)
-      → Answered (MayBurst (store r) (r .memory) mask sample gap tolerance budget) burstAs (given (burst (s r) (len r) mask sample gap tolerance budget))
+      → Answered (MayBurst (store r) (r .memory) mask sample gap tolerance budget) burstAs (given (burstSearch (s r) (len r) mask sample gap tolerance budget))
   burst-is mask sample gap tolerance budget =
-      answered burstAs burst-for (burstOf c (m .samples) (levels m) mask sample gap tolerance budget) (λ f n. burst f n mask sample gap tolerance budget)
+      answered burstAs burst-for (burstOf c (m .samples) (levels m) mask sample gap tolerance budget) (λ f n. burstSearch f n mask sample gap tolerance budget)
       (λ v e. burst-right ([], ([], tt)) c ms m1 m2 m3 m4 mask sample gap tolerance budget v e (right r)) (burst-below t (s r) (c .len) agree mask sample gap tolerance budget)
 
   -- ---- render

@@ -13,8 +13,9 @@ use lib.ListN.{length, take, getD}
 use contract.Lifetimes.{Lfts}
 use denote.Ref.{RefT, at-last}
 use Rattle.rules.specs.Sample.{sampleOf}
-use Rattle.rules.specs.Search.{next, previous, summary, cutSummary}
-use Rattle.rules.specs.Burst.{burst}
+use Rattle.rules.specs.Search.{summary, cutSummary}
+use Rattle.rules.specs.Walk.{nextSearch, previousSearch}
+use Rattle.rules.specs.Burst.{burstSearch}
 use Rattle.rules.specs.Pixel.{render, cutPixels}
 use Rattle.rules.specs.Trigger.{Masks, waiting}
 use Rattle.rules.specs.Selection.{Settings, Rule, ruleOf, accepted, runOf, Reply, repliesOf}
@@ -210,14 +211,14 @@ pub record Answered {X A : Type 0} (may : X → Type 0) (told : X → A) (x : A)
   pub allowed : may answer
 
 -- "Each of these answers, from either recording, is 01's for its run", asked "with the record and whole memory that the list leaves".
--- Length and mark are in `selects`. After a recording rows 1 and 2 refuse no question; 10 and 11, `viewRows`, do
+-- A search's count of nodes read is the steps of 01's walk over the run (02, CR 3). Length and mark are in `selects`. After a recording rows 1 and 2 refuse no question; 10 and 11, `viewRows`, do
 pub record Answers (r : Recording) : Type 0 where
   pub selects : Selects r
   pub summary-is : (a b : ℕ) → Answered (MaySummary (store r) (r .memory) a b) summedOf (given (summary (s r) (len r) a b))
-  pub next-is : (mask from : ℕ) → Answered (MayNext (store r) (r .memory) mask from) foundOf (given (next (s r) (len r) mask from))
-  pub previous-is : (mask from : ℕ) → Answered (MayPrevious (store r) (r .memory) mask from) foundOf (given (previous (s r) (len r) mask from))
+  pub next-is : (mask from : ℕ) → Answered (MayNext (store r) (r .memory) mask from) foundOf (given (nextSearch (s r) (len r) mask from))
+  pub previous-is : (mask from : ℕ) → Answered (MayPrevious (store r) (r .memory) mask from) foundOf (given (previousSearch (s r) (len r) mask from))
   pub burst-is : (mask sample gap tolerance budget : ℕ)
-      → Answered (MayBurst (store r) (r .memory) mask sample gap tolerance budget) burstAs (given (burst (s r) (len r) mask sample gap tolerance budget))
+      → Answered (MayBurst (store r) (r .memory) mask sample gap tolerance budget) burstAs (given (burstSearch (s r) (len r) mask sample gap tolerance budget))
   pub render-is : (view : View) (width : ℕ) (output : List ℕ)
       → Answered (MayRender (store r) (r .memory) view width output) (pixelsIn width)
       (unless (firstOf (viewRows (viewAs view) width (length output))) (render (s r) (len r) (viewAs view) width))
@@ -247,7 +248,8 @@ pub record LookAlike (v : ℕ) (c₁ : Capture) (m₁ : Memory) (c₂ : Capture)
   pub pixels : (view : View) (width : ℕ) → F64 (view .start) → F64 (view .spp) → Usize width
       → (output₁ output₂ : List ℕ) → length output₁ ≡ length output₂ → Usize (length output₁)
       → Agree (MayRender c₁ m₁ view width output₁) (MayRender c₂ m₂ view width output₂) (λ x. seen (cutPixels v) (pixelsIn width x))
-  -- "and the same next, previous and burst answers, jumps included, for every mask within them"
+  -- "and the same next, previous and burst answers, jumps included, for every mask within them"; each has its count of nodes read (02, CR 3:
+  -- "two recordings that look alike to a viewer also give equal counts for every mask within the viewer's lines")
   pub nexts : (mask from : ℕ) → U16 mask → Within mask v → Usize from → Agree (MayNext c₁ m₁ mask from) (MayNext c₂ m₂ mask from) foundOf
   pub previouses : (mask from : ℕ) → U16 mask → Within mask v → Usize from → Agree (MayPrevious c₁ m₁ mask from) (MayPrevious c₂ m₂ mask from) foundOf
   pub bursts : (mask sample gap tolerance budget : ℕ) → U16 mask → Within mask v → Usize sample → Usize gap → Usize tolerance → Usize budget

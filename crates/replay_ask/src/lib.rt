@@ -54,8 +54,8 @@ fn checked(r: Checked) -> Answer {
 fn found(r: Found) -> Answer {
     match r {
         Found::Refused(n) => refused(n),
-        Found::Nothing => one(0),
-        Found::At(i) => given(2, [1, i, 0, 0, 0]),
+        Found::Nothing(_) => one(0),
+        Found::At(i, _) => given(2, [1, i, 0, 0, 0]),
     }
 }
 
@@ -73,8 +73,8 @@ fn summed(r: Summed) -> Answer {
 fn burst(r: Bursts) -> Answer {
     match r {
         Bursts::Refused(n) => refused(n),
-        Bursts::Nothing => one(0),
-        Bursts::At(b) => given(5, [1, b.first, b.last, b.jumps_end, b.jumps_start]),
+        Bursts::Nothing(_) => one(0),
+        Bursts::At(b, _) => given(5, [1, b.first, b.last, b.jumps_end, b.jumps_start]),
     }
 }
 

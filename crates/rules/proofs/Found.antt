@@ -1,28 +1,27 @@
 -- Over true nodes the walks of next and previous find what next and previous are: each direction sees the samples, and chunk follows chunk.
-use Prim.Native.Nat.{ℕ, zero, suc, _+_, _-_, _*_, _/_, _%_, _^_, _≤_, _<_, min, zero-le}
-use mathlib.Core.Path.{_≡_, refl, sym, ap, ap₂, _∙_, subst, subst⁻¹}
-use mathlib.Core.Bool.{Bool, true, false, cond, not, _&&_, false≢true}
+use Prim.Native.Nat.{ℕ, zero, suc, _+_, _-_, _*_, _/_, _%_, _≤_, _<_, min, zero-le}
+use mathlib.Core.Path.{_≡_, refl, sym, ap, _∙_, subst⁻¹}
+use mathlib.Core.Bool.{Bool, true, false, cond, not, _&&_}
 use mathlib.Core.Logic.{_⊎_, inl, inr}
-use mathlib.Core.Option.{Option, none, some}
-use native.Mathlib.Nat.{le-refl, zero-lt-suc, mod-one, add-zero, dvd-of-mod-eq-zero, mod-eq-zero-of-dvd, dvd-sub, dvd-refl}
+use native.Mathlib.Nat.{le-refl, zero-lt-suc, mod-one, dvd-of-mod-eq-zero, mod-eq-zero-of-dvd, dvd-sub, dvd-refl}
 use native.Mathlib.Decide.{decLt, ℕ-discrete}
 use native.Mathlib.Omega.{arith}
-use lib.Bits.{bitAnd, bitOr, bitXor, or-zero-r, xor-comm}
-use lib.Dec.{eqb, leb, ltb}
+use lib.Bits.{bitAnd, bitXor, xor-comm}
+use lib.Dec.{eqb, leb}
 use borrow.Author.Tests.{eqb-true, eq-eqb, ne-eqb, leb-true, lt-ltb, le-ltb}
-use Rattle.rules.specs.Node.{Node, changes, togglesOf, nodeOf, leaf, mirror, quiet, span, chunk, topLevel}
+use Rattle.rules.specs.Node.{Node, changes, nodeOf, leaf, mirror, quiet, span, chunk, topLevel}
 use Rattle.rules.specs.Search.{changed, seek, up, down, next, previous}
-use Rattle.rules.specs.Walk.{Walked, nothing, Way, forward, backward, walkFrom, Course, ahead, behind, orFound, chunks, chunksFor, nextWalk, previousFrom, previousWalk}
-use Rattle.rules.proofs.Node.{node-one, Quiet, quiet-true}
-use Rattle.rules.proofs.Search.{times, times-up, times-down, seek-append}
-use Rattle.rules.proofs.Walk.{span-pos, Taken, Sees, walked, total, Joint, Linked, end, link, chunks-find}
+use Rattle.rules.specs.Walk.{nothing, forward, backward, ahead, behind, chunks, chunksFor, nextWalk, previousFrom, previousWalk}
+use Rattle.rules.proofs.Node.{node-one, Quiet, quiet-true, true-quiet}
+use Rattle.rules.proofs.Search.{times, times-up, times-down}
+use Rattle.rules.proofs.Walk.{span-pos, Taken, Sees, total, Joint, Linked, end, link, chunks-find}
 
 -- every node that a walk can read is the node of its range
 pub record TrueNodes (has : ℕ → Bool) (reader : ℕ → ℕ → Node) (s : ℕ → ℕ) (len : ℕ) : Type 0 where
   pub is : (l p : ℕ) → l ≤ topLevel → (l ≡ 0) ⊎ (has l ≡ true) → p % span l ≡ 0 → p + span l ≤ len → reader l p ≡ nodeOf s p (p + span l)
 
 -- ---- what taking a level says
-both : (a b : Bool) → (a && b) ≡ true → (a ≡ true) × (b ≡ true)
+pub both : (a b : Bool) → (a && b) ≡ true → (a ≡ true) × (b ≡ true)
 both true b e = (refl, e)
 both false b e = (cc, cc)
 
@@ -38,14 +37,27 @@ fits has l p x y h (inr t) =
     let b = both (eqb (p % span l) 0) (leb x y) (a .1) in
     record { aligned = eqb-true _ _ (b .0); room = leb-true _ _ (b .1); in-set = inr (a .0) }
 
+pub ahead-fits : (has : ℕ → Bool) (reader : ℕ → ℕ → Node) (hi l p : ℕ) → Taken (forward has reader hi) l p → Fits has l p (p + span l) hi
+ahead-fits has reader hi l p t = fits has l p (p + span l) hi (λ z. subst⁻¹ (λ (k : ℕ). p + span k ≤ hi) z (omega (arith, t .some-left))) (t .how)
+
+pub behind-fits : (has : ℕ → Bool) (reader : ℕ → ℕ → Node) (lo l p : ℕ) → Taken (backward has reader lo) l p → Fits has l p (lo + span l) p
+behind-fits has reader lo l p t = fits has l p (lo + span l) p (λ z. subst⁻¹ (λ (k : ℕ). lo + span k ≤ p) z (omega (arith, t .some-left))) (t .how)
+
+-- the node that ends at an aligned place starts at one
+pub aligned-before : (l p : ℕ) → p % span l ≡ 0 → (p - span l) % span l ≡ 0
+aligned-before l p e = mod-eq-zero-of-dvd (span l) (dvd-sub (span l) (dvd-of-mod-eq-zero (span l) e) (dvd-refl (span l)))
+
 -- ---- places
+-- the test fails at a place exactly where no masked line changes there
 same-place : (s : ℕ → ℕ) (m i j : ℕ) → i ≡ j → bitAnd (changes s i) m ≡ 0 → changed s m j ≡ false
 same-place s m i j e h = ap not (eq-eqb _ _ (ap (λ (k : ℕ). bitAnd (changes s k) m) (sym e) ∙ h))
 
--- the test at level 0 is the test of the place, for a node with no toggles
-loud-place : (s : ℕ → ℕ) (n : Node) (v m p : ℕ) → n .toggles ≡ 0 → bitXor (n .first) v ≡ changes s p → quiet n v m ≡ false → changed s m p ≡ true
-loud-place s n v m p t x q =
-    ap not (ap (λ (y : ℕ). eqb (bitAnd y m) 0) (sym x ∙ sym (or-zero-r (bitXor (n .first) v)) ∙ ap (bitOr (bitXor (n .first) v)) (sym t)) ∙ q)
+place-same : (s : ℕ → ℕ) (m i j : ℕ) → i ≡ j → changed s m i ≡ false → bitAnd (changes s j) m ≡ 0
+place-same s m i j e h = ap (λ (k : ℕ). bitAnd (changes s k) m) (sym e) ∙ eqb-true _ _ (go (eqb (bitAnd (changes s i) m) 0) h)
+  where
+    go : (b : Bool) → not b ≡ false → b ≡ true
+    go true h = refl
+    go false h = sym h
 
 module _ (has : ℕ → Bool) (reader : ℕ → ℕ → Node) (s : ℕ → ℕ) (len m : ℕ) (r : TrueNodes has reader s len) where
   pub sample-read : (p : ℕ) → p < len → reader 0 p ≡ leaf (s p)
@@ -53,27 +65,21 @@ module _ (has : ℕ → Bool) (reader : ℕ → ℕ → Node) (s : ℕ → ℕ) 
 
   -- ---- forward
   module _ (hi : ℕ) (inside : hi ≤ len) where
-    ahead-fits : (l p : ℕ) → Taken (forward has reader hi) l p → Fits has l p (p + span l) hi
-    ahead-fits l p t = fits has l p (p + span l) hi (λ z. subst⁻¹ (λ (k : ℕ). p + span k ≤ hi) z (omega (arith, t .some-left))) (t .how)
-
     node-ahead : (l p : ℕ) → Taken (forward has reader hi) l p → reader l p ≡ nodeOf s p (p + span l)
-    node-ahead l p t = let f = ahead-fits l p t in r .is l p (t .level) (f .in-set) (f .aligned) (omega (arith, f .room))
+    node-ahead l p t = let f = ahead-fits has reader hi l p t in r .is l p (t .level) (f .in-set) (f .aligned) (omega (arith, f .room))
 
     pub forward-sees : Sees (forward has reader hi) (λ (p : ℕ). Unit {0}) up (changed s m) m (λ (p : ℕ). s (p - 1))
     unfolding nodeOf
     forward-sees = record {
-      room = λ l p t. omega (arith, ahead-fits l p t .room);
+      room = λ l p t. omega (arith, ahead-fits has reader hi l p t .room);
       moves = λ l p t. sym (times-up (span l) p);
       leaves = λ l p t. omega arith;
       stays = λ l p t i. tt;
       passes = λ l p t i. passes l p t;
-      stops = λ p t i. loud-place s (reader 0 p) (s (p - 1)) m p (ap (λ (n : Node). n .toggles) (leaf-here p t)) (ap (λ (n : Node). bitXor (n .first) (s (p - 1))) (leaf-here p t));
+      shows = λ l p t i. shows l p t;
       carries = λ l p t i. ap (λ (n : Node). n .last) (node-ahead l p t);
     }
       where
-        leaf-here : (p : ℕ) → Taken (forward has reader hi) 0 p → reader 0 p ≡ leaf (s p)
-        leaf-here p t = sample-read p (omega (arith, t .some-left))
-
         passes : (l p : ℕ) → Taken (forward has reader hi) l p → quiet (reader l p) (s (p - 1)) m ≡ true → (j : ℕ) → j < span l → changed s m (times up j p) ≡ false
         passes l p t q j h = same-place s m (p + j) (times up j p) (sym (times-up j p)) (pick (ℕ-discrete j 0))
           where
@@ -84,16 +90,22 @@ module _ (has : ℕ → Bool) (reader : ℕ → ℕ → Node) (s : ℕ → ℕ) 
             pick (yes z) = ap (λ (k : ℕ). bitAnd (changes s k) m) (omega arith) ∙ ap (λ (x : ℕ). bitAnd (bitXor x (s (p - 1))) m) (sym (ap (λ (n : Node). n .first) (node-ahead l p t))) ∙ told .border
             pick (no z) = told .inside (p + j) (omega arith) (omega arith)
 
+        shows : (l p : ℕ) → Taken (forward has reader hi) l p → ((j : ℕ) → j < span l → changed s m (times up j p) ≡ false) → quiet (reader l p) (s (p - 1)) m ≡ true
+        shows l p t none-here = true-quiet s (reader l p) (s (p - 1)) m p (p + span l) (ap (λ (n : Node). n .toggles) (node-ahead l p t)) (omega (arith, span-pos l)) (record {
+          border = ap (λ (n : Node). bitAnd (bitXor (n .first) (s (p - 1))) m) (node-ahead l p t) ∙ here p (le-refl p) (omega (arith, span-pos l));
+          inside = λ i a b. here i (omega arith) b;
+        })
+          where
+            here : (i : ℕ) → p ≤ i → i < p + span l → bitAnd (changes s i) m ≡ 0
+            here i a b = place-same s m (times up (i - p) p) i (times-up (i - p) p ∙ omega arith) (none-here (i - p) (omega arith))
+
   -- ---- backward
   module _ (lo : ℕ) where
-    behind-fits : (l p : ℕ) → Taken (backward has reader lo) l p → Fits has l p (lo + span l) p
-    behind-fits l p t = fits has l p (lo + span l) p (λ z. subst⁻¹ (λ (k : ℕ). lo + span k ≤ p) z (omega (arith, t .some-left))) (t .how)
-
     -- a place up to len, as every place of a backward walk is
     node-behind : (l p : ℕ) → p ≤ len → Taken (backward has reader lo) l p → reader l (p - span l) ≡ nodeOf s (p - span l) p
     node-behind l p hp t =
-        let f = behind-fits l p t in
-        r .is l (p - span l) (t .level) (f .in-set) (mod-eq-zero-of-dvd (span l) (dvd-sub (span l) (dvd-of-mod-eq-zero (span l) (f .aligned)) (dvd-refl (span l)))) (omega (arith, f .room))
+        let f = behind-fits has reader lo l p t in
+        r .is l (p - span l) (t .level) (f .in-set) (aligned-before l p (f .aligned)) (omega (arith, f .room))
         ∙ ap (nodeOf s (p - span l)) (back (f .room))
       where
         back : lo + span l ≤ p → p - span l + span l ≡ p
@@ -102,18 +114,15 @@ module _ (has : ℕ → Bool) (reader : ℕ → ℕ → Node) (s : ℕ → ℕ) 
     pub backward-sees : Sees (backward has reader lo) (λ (p : ℕ). p ≤ len) down (changed s m) m s
     unfolding nodeOf
     backward-sees = record {
-      room = λ l p t. omega (arith, behind-fits l p t .room);
+      room = λ l p t. omega (arith, behind-fits has reader lo l p t .room);
       moves = λ l p t. sym (times-down (span l) p);
       leaves = λ l p t. omega arith;
       stays = λ l p t i. omega arith;
       passes = passes;
-      stops = λ p t i. loud-place s (mirror (reader 0 (p - 1))) (s p) m p (ap (λ (n : Node). n .toggles) (leaf-here p t i)) (ap (λ (n : Node). bitXor (n .last) (s p)) (leaf-here p t i) ∙ xor-comm (s (p - 1)) (s p));
+      shows = shows;
       carries = λ l p t i. ap (λ (n : Node). n .first) (node-behind l p i t);
     }
       where
-        leaf-here : (p : ℕ) → Taken (backward has reader lo) 0 p → p ≤ len → reader 0 (p - 1) ≡ leaf (s (p - 1))
-        leaf-here p t i = sample-read (p - 1) (omega (arith, t .some-left))
-
         passes : (l p : ℕ) → Taken (backward has reader lo) l p → p ≤ len → quiet (mirror (reader l (p - span l))) (s p) m ≡ true → (j : ℕ) → j < span l → changed s m (times down j p) ≡ false
         passes l p t i q j h = same-place s m (p - j) (times down j p) (sym (times-down j p)) (pick (ℕ-discrete j 0))
           where
@@ -125,7 +134,19 @@ module _ (has : ℕ → Bool) (reader : ℕ → ℕ → Node) (s : ℕ → ℕ) 
                 ap (λ (k : ℕ). bitAnd (changes s k) m) (omega arith)
                 ∙ ap (λ (x : ℕ). bitAnd x m) (xor-comm (s p) (s (p - 1)) ∙ ap (λ (x : ℕ). bitXor x (s p)) (sym (ap (λ (n : Node). n .last) (node-behind l p i t))))
                 ∙ told .border
-            pick (no z) = told .inside (p - j) (omega (arith, behind-fits l p t .room)) (omega (arith, t .some-left))
+            pick (no z) = told .inside (p - j) (omega (arith, behind-fits has reader lo l p t .room)) (omega (arith, t .some-left))
+
+        shows : (l p : ℕ) → Taken (backward has reader lo) l p → p ≤ len → ((j : ℕ) → j < span l → changed s m (times down j p) ≡ false) → quiet (mirror (reader l (p - span l))) (s p) m ≡ true
+        shows l p t i none-here = true-quiet s (mirror (reader l (p - span l))) (s p) m (p - span l) p (ap (λ (n : Node). n .toggles) (node-behind l p i t)) (omega (arith, room, span-pos l)) (record {
+          border = ap (λ (n : Node). bitAnd (bitXor (n .last) (s p)) m) (node-behind l p i t) ∙ ap (λ (x : ℕ). bitAnd x m) (xor-comm (s (p - 1)) (s p)) ∙ here p (omega (arith, room, span-pos l)) (le-refl p);
+          inside = λ i a b. here i a (omega arith);
+        })
+          where
+            room : lo + span l ≤ p
+            room = behind-fits has reader lo l p t .room
+
+            here : (i : ℕ) → p - span l < i → i ≤ p → bitAnd (changes s i) m ≡ 0
+            here i a b = place-same s m (times down (p - i) p) i (times-down (p - i) p ∙ omega arith) (none-here (p - i) (omega (arith, room)))
 
   -- ---- over chunks
   abbrev AheadLinked : ℕ → ℕ → ℕ → Type 0

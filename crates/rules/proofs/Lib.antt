@@ -6,6 +6,9 @@ pub mod Node
 pub mod Search
 pub mod Walk
 pub mod Found
+pub mod Steps
+pub mod Wholes
+pub mod Effort
 pub mod Floor
 pub mod Round
 pub mod Pixel

@@ -9,7 +9,7 @@ use native.Mathlib.Omega.{arith}
 use lib.Bits.{bitAnd, bitOr, bitXor, or-zero-r, xor-comm}
 use borrow.Author.Tests.{eqb-true, eq-eqb}
 use Rattle.rules.specs.Node.{Node, changes, togglesOf, nodeOf, join, leaf, mirror, cut, quiet}
-use Rattle.rules.proofs.Bits.{and-or, and-xor, and-assoc, or-zero, or-zero-left, or-zero-right, or-sort}
+use Rattle.rules.proofs.Bits.{and-or, and-xor, or-zero, or-zero-left, or-zero-right, or-sort}
 
 -- ---- join
 node : ℕ → ℕ → ℕ → Node
@@ -133,7 +133,3 @@ toggles-cut m s a (suc n) = ap₂ bitOr (toggles-cut m s a n) (changes-cut m s (
 pub node-cut : (m : ℕ) (s : ℕ → ℕ) (a b : ℕ) → nodeOf (cutTo m s) a b ≡ cut m (nodeOf s a b)
 unfolding nodeOf node
 node-cut m s a b = ap (node (bitAnd (s a) m) (bitAnd (s (b - 1)) m)) (toggles-cut m s a (b - 1 - a))
-
--- a mask within the chosen lines sees the same changes
-pub change-cut : (m k : ℕ) (s : ℕ → ℕ) (i : ℕ) → bitAnd m k ≡ k → bitAnd (changes (cutTo m s) i) k ≡ bitAnd (changes s i) k
-change-cut m k s i e = ap (λ (x : ℕ). bitAnd x k) (changes-cut m s i) ∙ and-assoc (changes s i) m k ∙ ap (bitAnd (changes s i)) e

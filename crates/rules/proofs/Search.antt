@@ -18,6 +18,11 @@ pub times-zero : (step : ℕ → ℕ) (p : ℕ) → times step 0 p ≡ p
 unfolding times
 times-zero step p = refl
 
+pub times-add : (step : ℕ → ℕ) (k j p : ℕ) → times step (k + j) p ≡ times step j (times step k p)
+unfolding times
+times-add step zero j p = ap (λ (n : ℕ). times step n p) (zero-add j)
+times-add step (suc k) j p = ap (λ (n : ℕ). times step n p) (suc-add k j) ∙ times-add step k j (step p)
+
 pub times-up : (k p : ℕ) → times up k p ≡ p + k
 unfolding times
 times-up zero p = sym (add-zero p)

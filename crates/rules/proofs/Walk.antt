@@ -1,21 +1,19 @@
 -- The walk of "Search" over true nodes finds what next and previous find, forward and backward, for any level set.
 -- Within a chunk and over chunks the two directions share one proof: what a direction brings to it is the record `Sees`.
-use Prim.Native.Nat.{ℕ, zero, suc, _+_, _-_, _*_, _/_, _%_, _^_, _≤_, _<_, min, zero-le}
-use mathlib.Core.Path.{_≡_, refl, sym, ap, ap₂, _∙_, subst, subst⁻¹}
-use mathlib.Core.Bool.{Bool, true, false, cond, not, _&&_, false≢true}
+use Prim.Native.Nat.{ℕ, zero, suc, _+_, _-_, _≤_, _<_, zero-le}
+use mathlib.Core.Path.{_≡_, refl, sym, ap, ap₂, _∙_, subst}
+use mathlib.Core.Bool.{Bool, true, false, cond}
 use mathlib.Core.Logic.{_⊎_, inl, inr}
-use mathlib.Core.Option.{Option, none, some}
-use native.Mathlib.Nat.{le-refl, not-suc-le-zero, zero-lt-suc, one-le-pow, eq-or-lt-of-le, mod-one, add-zero}
+use mathlib.Core.Option.{some}
+use native.Mathlib.Nat.{le-refl, le-of-suc-le-suc, not-suc-le-zero, zero-lt-suc, one-le-pow, eq-or-lt-of-le}
 use native.Mathlib.Decide.{decLt, ℕ-discrete}
 use native.Mathlib.Omega.{arith}
-use lib.Bits.{bitAnd, bitOr, bitXor, or-zero-r, xor-comm}
-use lib.Dec.{eqb, leb}
-use borrow.Author.Tests.{eqb-true, eqb-false, eq-eqb, ne-eqb, leb-true, lt-ltb, le-ltb}
-use Rattle.rules.specs.Node.{Node, changes, togglesOf, nodeOf, leaf, mirror, quiet, span, chunk, topLevel}
-use Rattle.rules.specs.Search.{changed, seek, up, down, next, previous}
-use Rattle.rules.specs.Walk.{Walked, nothing, Way, forward, backward, best, Step, ended, found-at, on, taking, step, after, walk, walkFrom, Course, ahead, behind, orFound, orElse, chunks, chunksFor, nextWalk, previousFrom, previousWalk}
-use Rattle.rules.proofs.Node.{node-one, Quiet, quiet-true}
-use Rattle.rules.proofs.Search.{times, times-zero, times-up, times-down, seek-skip, seek-here, seek-append}
+use lib.Dec.{eqb}
+use borrow.Author.Tests.{eq-eqb, ne-eqb}
+use Rattle.rules.specs.Node.{Node, quiet, span, topLevel}
+use Rattle.rules.specs.Search.{seek}
+use Rattle.rules.specs.Walk.{Walked, nothing, Way, best, Step, ended, found-at, on, taking, after, walk, walkFrom, Course, orFound, chunks}
+use Rattle.rules.proofs.Search.{times, times-zero, seek-skip, seek-here, seek-append}
 
 pub span-pos : (l : ℕ) → 1 ≤ span l
 span-pos l = one-le-pow l 32 (zero-lt-suc 31)
@@ -39,6 +37,21 @@ best-taken takes (suc cap) = go (takes (suc cap)) refl (best-taken takes cap)
         → (cond b (suc cap) (best takes cap) ≡ 0) ⊎ (takes (cond b (suc cap) (best takes cap)) ≡ true)
     go true e h = inr e
     go false e h = h
+
+pub best-top : (takes : ℕ → Bool) (cap : ℕ) → takes cap ≡ true → best takes cap ≡ cap
+unfolding best
+best-top takes zero h = refl
+best-top takes (suc cap) h = ap (λ (b : Bool). cond b (suc cap) (best takes cap)) h
+
+pub best-above : (takes : ℕ → Bool) (cap l : ℕ) → best takes cap < l → l ≤ cap → takes l ≡ false
+unfolding best
+best-above takes zero l h k = absurd (omega arith)
+best-above takes (suc cap) l h k = go (takes (suc cap)) refl h (λ h′ k′. best-above takes cap l h′ k′) (eq-or-lt-of-le k)
+  where
+    go : (b : Bool) → takes (suc cap) ≡ b → cond b (suc cap) (best takes cap) < l → (best takes cap < l → l ≤ cap → takes l ≡ false) → (l ≡ suc cap) ⊎ (l < suc cap) → takes l ≡ false
+    go true e h ih s = absurd (omega arith)
+    go false e h ih (inl s) = ap takes s ∙ e
+    go false e h ih (inr s) = ih h (le-of-suc-le-suc s)
 
 -- level l is one that a walk can take at p
 pub record Taken (w : Way) (l p : ℕ) : Type 0 where
@@ -88,16 +101,25 @@ module _ (w : Way) (m : ℕ) where
 
 -- ---- what a walk finds
 -- a way sees samples: it goes by `unit` steps over places that are `in`, at which `test` asks, and `value p` is the sample before p
+-- a node is quiet exactly where the test fails at each of its places: then it is passed, else it shows a change
 pub record Sees (w : Way) (In : ℕ → Type 0) (unit : ℕ → ℕ) (test : ℕ → Bool) (m : ℕ) (value : ℕ → ℕ) : Type 0 where
   pub room : (l p : ℕ) → Taken w l p → span l ≤ w .left p
   pub moves : (l p : ℕ) → Taken w l p → w .past l p ≡ times unit (span l) p
   pub leaves : (l p : ℕ) → Taken w l p → w .left (w .past l p) ≡ w .left p - span l
   pub stays : (l p : ℕ) → Taken w l p → In p → In (w .past l p)
   pub passes : (l p : ℕ) → Taken w l p → In p → quiet (w .node l p) (value p) m ≡ true → (j : ℕ) → j < span l → test (times unit j p) ≡ false
-  pub stops : (p : ℕ) → Taken w 0 p → In p → quiet (w .node 0 p) (value p) m ≡ false → test p ≡ true
+  pub shows : (l p : ℕ) → Taken w l p → In p → ((j : ℕ) → j < span l → test (times unit j p) ≡ false) → quiet (w .node l p) (value p) m ≡ true
   pub carries : (l p : ℕ) → Taken w l p → In p → w .node l p .last ≡ value (w .past l p)
 
 module _ (w : Way) (In : ℕ → Type 0) (unit : ℕ → ℕ) (test : ℕ → Bool) (m : ℕ) (value : ℕ → ℕ) (g : Sees w In unit test m value) where
+  -- a sample that is not quiet is a place of the test
+  stops : (p : ℕ) → Taken w 0 p → In p → quiet (w .node 0 p) (value p) m ≡ false → test p ≡ true
+  stops p t i q = go (test p) refl
+    where
+      go : (b : Bool) → test p ≡ b → b ≡ true
+      go true e = refl
+      go false e = sym q ∙ g .shows 0 p t i (λ j h. ap (λ (k : ℕ). test (times unit k p)) (omega arith) ∙ ap test (times-zero unit p) ∙ e)
+
   abbrev Goal : ℕ → Type 0
   Goal f = (p cap v : ℕ) → In p → cap ≤ topLevel → w .left p + cap < f → v ≡ value p → walk w m f p cap v .found ≡ seek unit test p (w .left p)
 
@@ -117,7 +139,7 @@ module _ (w : Way) (In : ℕ → Type 0) (unit : ℕ → ℕ) (test : ℕ → Bo
     case-found : quiet (w .node l p) v m ≡ false → l ≡ 0 → walk w m (suc f) p cap v .found ≡ seek unit test p (w .left p)
     case-found q z =
         ap (λ (r : Walked). r .found) (walk-found w m f p cap v l (w .node l p) h el refl q z)
-        ∙ sym (seek-here unit test p (w .left p) (g .stops p (subst (λ (k : ℕ). Taken w k p) z t) i loud) h)
+        ∙ sym (seek-here unit test p (w .left p) (stops p (subst (λ (k : ℕ). Taken w k p) z t) i loud) h)
       where
         loud : quiet (w .node 0 p) (value p) m ≡ false
         loud = ap (λ (k : ℕ). quiet (w .node k p) (value p) m) (sym z) ∙ ap (λ (x : ℕ). quiet (w .node l p) x m) (sym e) ∙ q

@@ -4,6 +4,7 @@ use mathlib.Core.Option.{Option, none, some}
 use Prim.Native.Nat.{ℕ, zero, suc, _+_, _-_, min}
 use lib.Dec.{ltb, leb, eqb}
 use Rattle.rules.specs.Search.{next, previous}
+use Rattle.rules.specs.Walk.{Counted, Walked, nextSearch, previousSearch}
 
 -- "sums of places above 2^64 − 1 count as that"
 abbrev pub most : ℕ
@@ -99,6 +100,64 @@ module _ (back fore : ℕ → Option ℕ) where
   burstBy len sample gap tolerance budget =
       cond (eqb len 0 || ltb gap 2) none (grown gap budget (pairOf gap (min tolerance (gap - 1)) sample (back sample) (fore sample)))
 
+-- ---- the nodes that its searches read
+-- "Burst, also when it finds none, returns the sum over the searches that `burst_at` makes." (02, CR 3)
+
+-- of the searches that an end makes, the failed last try among them
+abbrev pub onward : (ℕ → ℕ → Bool) → ℕ → Option ℕ → (ℕ → ℕ) → ℕ
+onward further p none rest = 0
+onward further p (some e) rest = cond (further p e) (rest e) 0
+
+unfoldable pub jumpSteps : (ℕ → Walked) → (ℕ → ℕ → Bool) → ℕ → ℕ → ℕ
+jumpSteps reach further zero p = 0
+jumpSteps reach further (suc budget) p = reach p .steps + onward further p (reach p .found) (jumpSteps reach further budget)
+
+-- what a search finds
+abbrev pub places : (ℕ → Walked) → ℕ → Option ℕ
+places search from = search from .found
+
+module _ (back fore : ℕ → Walked) where
+  -- a side's second change is searched for only within the tolerance
+  abbrev pub leftSteps : ℕ → ℕ → Option ℕ → ℕ
+  leftSteps tolerance sample none = 0
+  leftSteps tolerance sample (some p) = cond (leb (sample - p) tolerance) (back (p - 1) .steps) 0
+
+  abbrev pub rightSteps : ℕ → ℕ → Option ℕ → ℕ
+  rightSteps tolerance sample none = 0
+  rightSteps tolerance sample (some n) = cond (leb (n - sample) tolerance) (fore n .steps) 0
+
+  abbrev pub sidesSteps : ℕ → ℕ → Option ℕ → Option ℕ → ℕ
+  sidesSteps tolerance sample p n = leftSteps tolerance sample p + rightSteps tolerance sample n
+
+  -- none for a pair around the place
+  abbrev pub pairSteps : ℕ → ℕ → ℕ → Option ℕ → Option ℕ → ℕ
+  pairSteps gap tolerance sample none n = sidesSteps tolerance sample none n
+  pairSteps gap tolerance sample (some p) none = sidesSteps tolerance sample (some p) none
+  pairSteps gap tolerance sample (some p) (some n) = cond (ltb (n - p) gap) 0 (sidesSteps tolerance sample (some p) (some n))
+
+  abbrev pub grownSteps : ℕ → ℕ → Option Side → ℕ
+  grownSteps gap budget none = 0
+  grownSteps gap budget (some side) =
+      jumpSteps (λ p. back (sum p (gap - 1))) ltb budget (side .last) + jumpSteps (λ p. fore (p - gap)) (λ p e. ltb e p) budget (side .first)
+
+  abbrev pub pairFor : ℕ → ℕ → ℕ → Option Side
+  pairFor gap tolerance sample = pairOf (places back) (places fore) gap tolerance sample (back sample .found) (fore sample .found)
+
+  unfoldable pub stepsBy : ℕ → ℕ → ℕ → ℕ → ℕ → ℕ
+  stepsBy len sample gap tolerance budget =
+      cond (eqb len 0 || ltb gap 2) 0
+      (back sample .steps + fore sample .steps
+      + pairSteps gap (min tolerance (gap - 1)) sample (back sample .found) (fore sample .found)
+      + grownSteps gap budget (pairFor gap (min tolerance (gap - 1)) sample))
+
+  abbrev pub burstedBy : ℕ → ℕ → ℕ → ℕ → ℕ → Counted Burst
+  burstedBy len sample gap tolerance budget =
+      record { found = burstBy (places back) (places fore) len sample gap tolerance budget; steps = stepsBy len sample gap tolerance budget }
+
 -- the burst of a capture
 abbrev pub burst : (ℕ → ℕ) → ℕ → ℕ → ℕ → ℕ → ℕ → ℕ → Option Burst
 burst s len mask sample gap tolerance budget = burstBy (previous s len mask) (next s len mask) len sample gap tolerance budget
+
+-- and the nodes read for it
+abbrev pub burstSearch : (ℕ → ℕ) → ℕ → ℕ → ℕ → ℕ → ℕ → ℕ → Counted Burst
+burstSearch s len mask sample gap tolerance budget = burstedBy (previousSearch s len mask) (nextSearch s len mask) len sample gap tolerance budget

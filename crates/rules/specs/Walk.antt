@@ -4,13 +4,21 @@ use mathlib.Core.Bool.{Bool, true, cond, _&&_}
 use mathlib.Core.Option.{Option, none, some}
 use Prim.Native.Nat.{ℕ, zero, suc, _+_, _-_, _*_, _/_, _%_, min}
 use lib.Dec.{ltb, leb, eqb}
-use Rattle.rules.specs.Node.{Node, mirror, quiet, topLevel, span, chunk}
-use Rattle.rules.specs.Search.{up, down}
+use Rattle.rules.specs.Node.{Node, nodeOf, mirror, quiet, topLevel, span, chunk}
+use Rattle.rules.specs.Search.{up, down, next, previous}
 
--- what a walk found, and its steps: "A step is one taking of a level"
-pub record Walked : Type 0 where
-  pub found : Option ℕ
+-- what a search found, and its steps: "A step is one taking of a level" (02, CR 3)
+pub record Counted (A : Type 0) : Type 0 where
+  pub found : Option A
   pub steps : ℕ
+
+-- what was found seen through f, with the same count
+abbrev pub through : {A B : Type 0} → (Option A → Option B) → Counted A → Counted B
+through f c = record { found = f (c .found); steps = c .steps }
+
+-- a walk finds a place
+abbrev pub Walked : Type 0
+Walked = Counted ℕ
 
 abbrev pub nothing : Walked
 nothing = record { found = none; steps = 0 }
@@ -122,6 +130,19 @@ unfoldable pub chunks : Course → ℕ → ℕ → ℕ → ℕ → ℕ → Walke
 chunks k mask zero c p before = nothing
 chunks k mask (suc n) c p before = orElse (walkFrom (k .way c) mask p before) (chunks k mask n (k .next-chunk c) (k .entry c) (k .value c))
 
+-- how many of n chunks it enters, those up to the first that has a find (02, CR 3: "per chunk it enters"); one with no place left is not entered
+abbrev pub enters : ℕ → ℕ
+enters zero = 0
+enters (suc left) = 1
+
+abbrev pub orEntered : ℕ → Option ℕ → ℕ → ℕ
+orEntered left (some i) rest = enters left
+orEntered left none rest = enters left + rest
+
+unfoldable pub entered : Course → ℕ → ℕ → ℕ → ℕ → ℕ → ℕ
+entered k mask zero c p before = 0
+entered k mask (suc n) c p before = orEntered (k .way c .left p) (walkFrom (k .way c) mask p before .found) (entered k mask n (k .next-chunk c) (k .entry c) (k .value c))
+
 -- how many chunks hold len samples
 abbrev pub chunksFor : ℕ → ℕ
 chunksFor len = (len + (chunk - 1)) / chunk
@@ -133,6 +154,12 @@ nextWalk has reader len mask from =
     (chunks (ahead has reader len) mask (chunksFor len - (from + 1) / chunk) ((from + 1) / chunk) (from + 1) (reader 0 from .first))
     nothing
 
+abbrev pub nextEntered : (ℕ → Bool) → (ℕ → ℕ → Node) → ℕ → ℕ → ℕ → ℕ
+nextEntered has reader len mask from =
+    cond (ltb (from + 1) len)
+    (entered (ahead has reader len) mask (chunksFor len - (from + 1) / chunk) ((from + 1) / chunk) (from + 1) (reader 0 from .first))
+    0
+
 -- "from min(from, len−1) with the sample there as the value after"
 abbrev pub previousFrom : (ℕ → Bool) → (ℕ → ℕ → Node) → ℕ → ℕ → Walked
 previousFrom has reader mask p = chunks (behind has reader) mask (p / chunk + 1) (p / chunk) p (reader 0 p .first)
@@ -140,6 +167,22 @@ previousFrom has reader mask p = chunks (behind has reader) mask (p / chunk + 1)
 abbrev pub previousWalk : (ℕ → Bool) → (ℕ → ℕ → Node) → ℕ → ℕ → ℕ → Walked
 previousWalk has reader len mask from = cond (eqb len 0) nothing (previousFrom has reader mask (min from (len - 1)))
 
+abbrev pub previousEntered : (ℕ → Bool) → (ℕ → ℕ → Node) → ℕ → ℕ → ℕ → ℕ
+previousEntered has reader len mask from =
+    cond (eqb len 0) 0 (entered (behind has reader) mask (min from (len - 1) / chunk + 1) (min from (len - 1) / chunk) (min from (len - 1)) (reader 0 (min from (len - 1)) .first))
+
 -- the levels of a full store: all
 abbrev pub allLevels : ℕ → Bool
 allLevels l = true
+
+-- ---- of a run
+-- its true nodes
+abbrev pub runReader : (ℕ → ℕ) → ℕ → ℕ → Node
+runReader s l p = nodeOf s p (p + span l)
+
+-- "Every forward and backward search returns the count of nodes read, samples at level 0 included, equal to the steps of 01's walk." (02, CR 3)
+abbrev pub nextSearch : (ℕ → ℕ) → ℕ → ℕ → ℕ → Walked
+nextSearch s len mask from = record { found = next s len mask from; steps = nextWalk allLevels (runReader s) len mask from .steps }
+
+abbrev pub previousSearch : (ℕ → ℕ) → ℕ → ℕ → ℕ → Walked
+previousSearch s len mask from = record { found = previous s len mask from; steps = previousWalk allLevels (runReader s) len mask from .steps }

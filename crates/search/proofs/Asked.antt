@@ -3,7 +3,6 @@ use Prim.Native.Nat.{ℕ, suc, _+_, _-_, _*_, _/_, _≤_, _<_, min}
 use mathlib.Core.Path.{_≡_, refl, sym, ap, _∙_}
 use mathlib.Core.Bool.{Bool, cond}
 use mathlib.Core.List.{List}
-use mathlib.Core.Option.{Option, none}
 use native.Mathlib.Nat.{mul-le-mul-right, le-div-iff-mul-le, suc-mul}
 use native.Mathlib.Omega.{arith}
 use borrow.Author.Tests.{le-ltb, eq-eqb, ne-eqb}
@@ -11,7 +10,7 @@ use lib.ListN.{length}
 use Rattle.rules.specs.Node.{Node, span, nodesFor}
 use Rattle.rules.specs.Refusal.{storeRefusal, nodeSize}
 use Rattle.rules.specs.Answer.{refused, given}
-use Rattle.rules.specs.Walk.{nothing, nextWalk, previousFrom, previousWalk, ahead, chunks, chunksFor}
+use Rattle.rules.specs.Walk.{Walked, nothing, nextWalk, previousFrom, previousWalk, ahead, chunks, chunksFor}
 use Rattle.rules.proofs.Walk.{span-pos}
 use Rattle.rules.proofs.Refusal.{Sound}
 use Rattle.node.specs.Memory.{levelOf}
@@ -37,25 +36,25 @@ module _ (c : Capture) (samples a b d e : List ℕ) (number : ℕ) (is : number 
   refusal-is : storeRefusal (storeOf c) (lentOf samples (levelOf a b d e)) ≡ number
   refusal-is = rows-are (storeOf c) samples a b d e number is
 
-  pub asked-refused : (place : Option ℕ) → (number ≡ 0 → ⊥) → refused number ≡ asked c samples (levelOf a b d e) place
-  asked-refused place h = refused-is place _ number refusal-is h
+  pub asked-refused : (walked : Walked) → (number ≡ 0 → ⊥) → refused number ≡ asked c samples (levelOf a b d e) walked
+  asked-refused walked h = refused-is walked _ number refusal-is h
 
-  pub asked-given : (place : Option ℕ) → number ≡ 0 → given place ≡ asked c samples (levelOf a b d e) place
-  asked-given place z = given-is place _ place (refusal-is ∙ z) refl
+  pub asked-given : (walked : Walked) → number ≡ 0 → given walked ≡ asked c samples (levelOf a b d e) walked
+  asked-given walked z = given-is walked _ walked (refusal-is ∙ z) refl
 
   pub asked-stored : number ≡ 0 → Stored (c .unitsize) (c .len) samples (levelOf a b d e)
   asked-stored z = stored-of c samples (levelOf a b d e) (rows-sound (storeOf c) samples a b d e number is z)
 
 -- ---- questions with nothing to search
 module _ (has : ℕ → Bool) (reader : ℕ → ℕ → Node) (len mask from : ℕ) where
-  pub next-nothing : len ≤ from + 1 → none ≡ nextWalk has reader len mask from .found
+  pub next-nothing : len ≤ from + 1 → nothing ≡ nextWalk has reader len mask from
   next-nothing h =
-      sym (ap (λ (b : Bool). cond b (chunks (ahead has reader len) mask (chunksFor len - (from + 1) / 1048576) ((from + 1) / 1048576) (from + 1) (reader 0 from .first)) nothing .found) (le-ltb (from + 1) len h))
+      sym (ap (λ (b : Bool). cond b (chunks (ahead has reader len) mask (chunksFor len - (from + 1) / 1048576) ((from + 1) / 1048576) (from + 1) (reader 0 from .first)) nothing) (le-ltb (from + 1) len h))
 
-  pub previous-nothing : len ≡ 0 → none ≡ previousWalk has reader len mask from .found
-  previous-nothing h = sym (ap (λ (b : Bool). cond b nothing (previousFrom has reader mask (min from (len - 1))) .found) (eq-eqb len 0 h))
+  pub previous-nothing : len ≡ 0 → nothing ≡ previousWalk has reader len mask from
+  previous-nothing h = sym (ap (λ (b : Bool). cond b nothing (previousFrom has reader mask (min from (len - 1)))) (eq-eqb len 0 h))
 
-  pub previous-something : (len ≡ 0 → ⊥) → (p : ℕ) → p ≡ min from (len - 1) → previousFrom has reader mask p .found ≡ previousWalk has reader len mask from .found
+  pub previous-something : (len ≡ 0 → ⊥) → (p : ℕ) → p ≡ min from (len - 1) → previousFrom has reader mask p ≡ previousWalk has reader len mask from
   previous-something h p e =
-      ap (λ (x : ℕ). previousFrom has reader mask x .found) e
-      ∙ sym (ap (λ (b : Bool). cond b nothing (previousFrom has reader mask (min from (len - 1))) .found) (ne-eqb len 0 h))
+      ap (previousFrom has reader mask) e
+      ∙ sym (ap (λ (b : Bool). cond b nothing (previousFrom has reader mask (min from (len - 1)))) (ne-eqb len 0 h))

@@ -1,90 +1,81 @@
 -- The walk over chunks, in either direction: what a loop that follows it knows before each chunk.
-use Prim.Native.Nat.{ℕ, suc, _+_, _-_, _/_, _<_}
+use Prim.Native.Nat.{ℕ, suc, _+_, _-_, _/_, _≤_, _<_}
 use mathlib.Core.Path.{_≡_, refl, sym, ap, _∙_}
 use mathlib.Core.Bool.{Bool, cond}
-use mathlib.Core.Logic.{_⊎_, ⊎-elim}
-use mathlib.Core.Option.{Option, none, some}
+use mathlib.Core.Option.{Option, none, some, Option·none-ne-some}
 use native.Mathlib.Omega.{arith}
 use borrow.Author.Tests.{lt-ltb}
-use denote.Enum.Declared.{tagOf}
 use Rattle.rules.specs.Node.{Node, chunk}
-use Rattle.rules.specs.Walk.{Course, ahead, behind, orFound, chunks, chunksFor, nothing, nextWalk, previousFrom, walkFrom}
-use Rattle.rules.specs.Answer.{given}
-use Rattle.search.specs.declared.Found.{Found}
-use Rattle.search.specs.declared.Found.the-variants.{Refused, At, Nothing}
-use Rattle.search.specs.Answer.{foundOf}
-use Rattle.search.proofs.Found.{the-type}
-use Rattle.find.specs.declared.Place.{Place}
-use Rattle.find.specs.declared.Place.the-variants as chunk-found
-use Rattle.find.specs.Way.{placeOf}
-use Rattle.find.proofs.Place.{the-type as chunk-type}
+use Rattle.rules.specs.Refusal.{mostSamples}
+use Rattle.rules.specs.Walk.{Walked, Course, ahead, behind, orSteps, orElse, chunks, chunksFor, nothing, nextWalk, previousFrom, walkFrom}
+use Rattle.rules.proofs.Steps.{next-steps, previous-steps}
+use Rattle.find.proofs.Going.{told, counted-from, from-none, from-end, from-more}
+use Rattle.search.proofs.Asked.{previous-something}
 
--- the walk over n chunks from chunk c on finds what it would find from the start; v is the value before place p
-pub record Coursing (k : Course) (mask : ℕ) (finds : Option ℕ) (n c p v : ℕ) : Type 0 where
-  pub same : chunks k mask n c p v .found ≡ finds
+-- ---- a chunk's walk and the rest's
+-- a find ends the walk; without one the steps add
+some-first : (x : Option ℕ) (n : ℕ) (rest : Walked) → (x ≡ none → ⊥) → told x n ≡ orElse (told x n) rest
+some-first none n rest t = absurd (t refl)
+some-first (some i) n rest t = refl
 
-module _ (has : ℕ → Bool) (reader : ℕ → ℕ → Node) (mask : ℕ) where
-  pub next-starts : (len from : ℕ) → from + 1 < len
-      → Coursing (ahead has reader len) mask (nextWalk has reader len mask from .found) (chunksFor len - (from + 1) / chunk) ((from + 1) / chunk) (from + 1) (reader 0 (from + 1 - 1) .first)
-  next-starts len from h = record {
+none-first : (x : Option ℕ) (n : ℕ) (rest : Walked) → x ≡ none → counted-from n rest ≡ orElse (told x n) rest
+none-first none n rest z = refl
+none-first (some i) n rest z = absurd (Option·none-ne-some i (sym z))
+
+steps-first : (x : Option ℕ) (n rest : ℕ) → n ≤ orSteps x n rest
+steps-first none n rest = omega arith
+steps-first (some i) n rest = omega arith
+
+-- ---- a course
+-- the walk over n chunks from chunk c on, its steps counted on from those before, is the whole walk; v is the value before place p
+pub record Coursing (k : Course) (mask : ℕ) (whole : Walked) (count n c p v : ℕ) : Type 0 where
+  pub same : counted-from count (chunks k mask n c p v) ≡ whole
+  -- so no count wraps
+  pub few-steps : whole .steps < 18446744073709551616
+
+module _ (has : ℕ → Bool) (reader : ℕ → ℕ → Node) (mask len : ℕ) (most : len ≤ mostSamples) where
+  pub next-starts : (from : ℕ) → from + 1 < len
+      → Coursing (ahead has reader len) mask (nextWalk has reader len mask from) 0 (chunksFor len - (from + 1) / chunk) ((from + 1) / chunk) (from + 1) (reader 0 (from + 1 - 1) .first)
+  next-starts from h = record {
     same =
-        ap (λ (x : ℕ). chunks (ahead has reader len) mask (chunksFor len - (from + 1) / chunk) ((from + 1) / chunk) (from + 1) (reader 0 x .first) .found) back
-        ∙ sym (ap (λ (b : Bool). cond b (chunks (ahead has reader len) mask (chunksFor len - (from + 1) / chunk) ((from + 1) / chunk) (from + 1) (reader 0 from .first)) nothing .found) (lt-ltb (from + 1) len h));
+        from-none _
+        ∙ ap (λ (x : ℕ). chunks (ahead has reader len) mask (chunksFor len - (from + 1) / chunk) ((from + 1) / chunk) (from + 1) (reader 0 x .first)) back
+        ∙ sym (ap (λ (b : Bool). cond b (chunks (ahead has reader len) mask (chunksFor len - (from + 1) / chunk) ((from + 1) / chunk) (from + 1) (reader 0 from .first)) nothing) (lt-ltb (from + 1) len h));
+    few-steps = omega (arith, next-steps has reader len mask from);
   }
     where
       back : from + 1 - 1 ≡ from
       back = omega arith
 
   -- the chunk is one less than the chunks that are left
-  pub previous-starts : (p : ℕ) → Coursing (behind has reader) mask (previousFrom has reader mask p .found) (p / chunk + 1) (p / chunk + 1 - 1) p (reader 0 p .first)
-  previous-starts p = record { same = ap (λ (c : ℕ). chunks (behind has reader) mask (p / chunk + 1) c p (reader 0 p .first) .found) back }
+  pub previous-starts : (p : ℕ) → p < len → Coursing (behind has reader) mask (previousFrom has reader mask p) 0 (p / chunk + 1) (p / chunk + 1 - 1) p (reader 0 p .first)
+  previous-starts p h = record {
+    same = from-none _ ∙ ap (λ (c : ℕ). chunks (behind has reader) mask (p / chunk + 1) c p (reader 0 p .first)) back;
+    few-steps = omega (arith, ap (λ (r : Walked). r .steps) (previous-something has reader len mask p (λ z. omega arith) p (omega arith)), previous-steps has reader len mask p);
+  }
     where
       back : p / chunk + 1 - 1 ≡ p / chunk
       back = omega arith
 
--- the variants by their tags
-pub not-nothing : (f : Found) → (tagOf the-type f ≡ 0) ⊎ (tagOf the-type f ≡ 1) → f ≡ Nothing → ⊥
-not-nothing f t e = let n : tagOf the-type f ≡ 2 = ap (tagOf the-type) e in ⊎-elim (λ a. omega arith) (λ a. omega arith) t
-
--- a result that is not none has a place
-has-place : (f : Found) (x : Option ℕ) → (f ≡ Nothing → ⊥) → foundOf f ≡ given x → x ≡ none → ⊥
-has-place (Refused n) x t e z = let w : _≡_ {A = ℕ} 0 1 = cc in omega arith
-has-place (At i) x t e z = let w : _≡_ {A = ℕ} 0 1 = cc in omega arith
-has-place Nothing x t e z = t refl
-
--- so has a chunk's answer
-pub chunk-place : (p : Place) → tagOf chunk-type p ≡ 0 → placeOf p ≡ none → ⊥
-chunk-place (chunk-found.At i) t z = let w : _≡_ {A = ℕ} 0 1 = cc in omega arith
-chunk-place chunk-found.Nothing t z = omega arith
-
-first-found : (x rest : Option ℕ) → (x ≡ none → ⊥) → x ≡ orFound x rest
-first-found none rest h = absurd (h refl)
-first-found (some i) rest h = refl
-
-no-place : (x : Option ℕ) → foundOf Nothing ≡ given x → none ≡ x
-no-place x e = cc
-
-module _ {k : Course} {mask : ℕ} {finds : Option ℕ} {n c p v : ℕ} (g : Coursing k mask finds n c p v) where
-  pub coursing-end : n ≡ 0 → none ≡ finds
+module _ {k : Course} {mask : ℕ} {whole : Walked} {count n c p v : ℕ} (g : Coursing k mask whole count n c p v) where
+  pub coursing-end : n ≡ 0 → told none count ≡ whole
   unfolding chunks
-  coursing-end z = sym (ap (λ (x : ℕ). chunks k mask x c p v .found) z) ∙ g .same
+  coursing-end z = sym (from-end count) ∙ sym (ap (λ (x : ℕ). counted-from count (chunks k mask x c p v)) z) ∙ g .same
 
-  -- with m chunks left after chunk c
-  module _ (m : ℕ) (em : n ≡ suc m) where
-    abbrev rest : Option ℕ
-    rest = chunks k mask m (k .next-chunk c) (k .entry c) (k .value c) .found
+  -- with m chunks left after chunk c, for which r is the walk
+  module _ (m : ℕ) (em : n ≡ suc m) (r : Walked) (e : r ≡ walkFrom (k .way c) mask p v) where
+    abbrev rest : Walked
+    rest = chunks k mask m (k .next-chunk c) (k .entry c) (k .value c)
 
-    opened : orFound (walkFrom (k .way c) mask p v .found) rest ≡ finds
+    opened : counted-from count (orElse r rest) ≡ whole
     unfolding chunks
-    opened = sym (ap (λ (x : ℕ). chunks k mask x c p v .found) em) ∙ g .same
+    opened = ap (λ (x : Walked). counted-from count (orElse x rest)) e ∙ sym (ap (λ (x : ℕ). counted-from count (chunks k mask x c p v)) em) ∙ g .same
 
-    pub coursing-first : (walkFrom (k .way c) mask p v .found ≡ none → ⊥) → walkFrom (k .way c) mask p v .found ≡ finds
-    coursing-first h = first-found _ rest h ∙ opened
+    pub coursing-counts : count + r .steps < 18446744073709551616
+    coursing-counts = omega (arith, g .few-steps, ap (λ (x : Walked). x .steps) opened, steps-first (r .found) (r .steps) (rest .steps))
 
-    -- after f, the answer for chunk c
-    module _ (f : Found) (e : foundOf f ≡ given (walkFrom (k .way c) mask p v .found)) where
-      pub coursing-found : (f ≡ Nothing → ⊥) → foundOf f ≡ given finds
-      coursing-found t = e ∙ ap given (coursing-first (has-place f _ t e))
+    pub coursing-found : (r .found ≡ none → ⊥) → counted-from count r ≡ whole
+    coursing-found t = ap (counted-from count) (some-first (r .found) (r .steps) rest t) ∙ opened
 
-      pub coursing-on : f ≡ Nothing → Coursing k mask finds m (k .next-chunk c) (k .entry c) (k .value c)
-      coursing-on z = record { same = ap (λ (x : Option ℕ). orFound x rest) (no-place _ (ap foundOf (sym z) ∙ e)) ∙ opened }
+    pub coursing-on : r .found ≡ none → Coursing k mask whole (count + r .steps) m (k .next-chunk c) (k .entry c) (k .value c)
+    coursing-on z = record { same = from-more count (r .steps) rest ∙ ap (counted-from count) (none-first (r .found) (r .steps) rest z) ∙ opened; few-steps = g .few-steps }

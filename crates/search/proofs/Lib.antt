@@ -1,8 +1,7 @@
 pub mod Step
-pub mod Same
 pub mod Part
+pub mod Asked
 pub mod Chunks
 pub mod Near
-pub mod Asked
 pub mod Within
 pub mod Change

@@ -3,21 +3,21 @@ use Prim.Native.Nat.{ℕ, zero, suc, _+_, _-_, _*_, _≤_, _<_}
 use mathlib.Core.Path.{_≡_, refl, sym, ap, ap₂, _∙_}
 use mathlib.Core.Bool.{Bool, true, false}
 use mathlib.Core.List.{List}
-use native.Mathlib.Nat.{mul-le-mul-right, add-mul}
+use native.Mathlib.Nat.{le-refl, mul-le-mul-right, add-mul}
 use native.Mathlib.Decide.{ℕ-discrete}
 use native.Mathlib.Omega.{arith}
 use lib.ListN.{take, drop, length-take, length-drop}
 use lib.Seq.{getD-take, getD-drop}
 use Rattle.rules.specs.Sample.{little, sampleOf}
-use Rattle.rules.specs.Node.{Node, leaf, mirror, span}
+use Rattle.rules.specs.Node.{Node, leaf, mirror, cut, span, topLevel}
 use Rattle.rules.specs.Walk.{forward, backward, walkFrom, allLevels}
+use Rattle.rules.proofs.Steps.{walk-alike}
 use Rattle.node.specs.Memory.{readerOf}
 use Rattle.node.proofs.Memory.{reads-sample, reads-node}
 use Rattle.find.specs.Part.{readerFrom, Part}
 use Rattle.find.specs.Way.{wayIn}
 use Rattle.find.proofs.Part.{from-sample, from-node, bytes-less}
 use Rattle.search.specs.Part.{Stored}
-use Rattle.search.proofs.Same.{walked-same}
 
 -- ---- the part and the whole
 -- u bytes of a part are those of the whole
@@ -54,13 +54,15 @@ module _ (base hi unit : ℕ) (samples : List ℕ) (levels : ℕ → List ℕ) w
   module _ (has : ℕ → Bool) (mask p v : ℕ) where
     part-ahead : base ≤ p → walkFrom (forward has (readerFrom base unit partOf levels) hi) mask p v ≡ walkFrom (forward has (readerOf unit samples levels) hi) mask p v
     part-ahead h =
-        walked-same (forward has (readerFrom base unit partOf levels) hi) (λ (l q : ℕ). readerOf unit samples levels l q) (λ (q : ℕ). base ≤ q)
-        (record { same = λ l q t i. part-reads l q (λ z. (i, omega (arith, t .some-left))); stays = λ l q i. omega arith }) mask p v h
+        walk-alike (forward has (readerFrom base unit partOf levels) hi) (readerOf unit samples levels) (λ (q : ℕ). base ≤ q) mask
+        (record { stays = λ l q t i. omega arith; nodes = λ l q t i. ap (cut mask) (part-reads l q (λ z. (i, omega (arith, t .some-left)))) })
+        (suc (hi - p + topLevel)) p topLevel v v h (le-refl topLevel) refl
 
     part-behind : p ≤ hi → walkFrom (backward has (readerFrom base unit partOf levels) base) mask p v ≡ walkFrom (backward has (readerOf unit samples levels) base) mask p v
     part-behind h =
-        walked-same (backward has (readerFrom base unit partOf levels) base) (λ (l q : ℕ). mirror (readerOf unit samples levels l (q - span l))) (λ (q : ℕ). q ≤ hi)
-        (record { same = λ l q t i. ap mirror (part-reads l (q - span l) (λ z. inside l q z i (t .some-left))); stays = λ l q i. omega arith }) mask p v h
+        walk-alike (backward has (readerFrom base unit partOf levels) base) (λ (l q : ℕ). mirror (readerOf unit samples levels l (q - span l))) (λ (q : ℕ). q ≤ hi) mask
+        (record { stays = λ l q t i. omega arith; nodes = λ l q t i. ap (λ (n : Node). cut mask (mirror n)) (part-reads l (q - span l) (λ z. inside l q z i (t .some-left))) })
+        (suc (p - base + topLevel)) p topLevel v v h (le-refl topLevel) refl
       where
         inside : (l q : ℕ) → l ≡ 0 → q ≤ hi → 0 < q - base → (base ≤ q - span l) × (q - span l < hi)
         inside l q z i t = (omega (arith, ap span z), omega (arith, ap span z))

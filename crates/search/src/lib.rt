@@ -17,11 +17,12 @@ ghost use Rattle.search.specs.Answer.{foundOf, nextOf, previousOf};
 
 const CHUNK: usize = 1048576;
 
-// The answer: the number of a refusal, a place, or none.
+// The answer: the number of a refusal, a place and the nodes read, or these alone.
+// 02, CR 3: "Every forward and backward search returns the count of nodes read, samples at level 0 included".
 pub enum Found {
     Refused(u8),
-    At(usize),
-    Nothing,
+    At(usize, usize),
+    Nothing(usize),
 }
 
 fn least(a: usize, b: usize) -> usize
@@ -36,16 +37,6 @@ fn chunk_end(ci: usize, len: usize) -> usize
     ensures { λ r. ⌜ r ≡ min ((ci + 1) * chunk) len ⌝ }
 {
     least((ci + 1) * CHUNK, len)
-}
-
-// What a chunk answers is given.
-fn given(p: Place) -> Found
-    ensures { λ r. ⌜ foundOf r ≡ given (placeOf p) ⌝ }
-{
-    match p {
-        Place::At(i) => Found::At(i),
-        Place::Nothing => Found::Nothing,
-    }
 }
 
 // The search in chunk ci from `at` on, or back from there, with the sample at `seen` as the value next to it. Backward that is
@@ -63,16 +54,16 @@ fn in_chunk<'a>(
     ci: usize,
     at: usize,
     seen: usize,
-) -> Found
+) -> Place
     requires { ⌜ Stored unitsize len (now samples) (levelOf (now l1) (now l2) (now l3) (now l4)) × Entered len ci at seen ⌝ }
-    ensures { λ r. ⌜ foundOf r ≡ given (walkFrom (wayIn back (readerOf unitsize (now (samples .entry)) (levelOf (now (l1 .entry)) (now (l2 .entry)) (now (l3 .entry)) (now (l4 .entry)))) (ci * chunk) (min ((ci + 1) * chunk) len)) mask at (readerOf unitsize (now (samples .entry)) (levelOf (now (l1 .entry)) (now (l2 .entry)) (now (l3 .entry)) (now (l4 .entry))) 0 seen .first) .found) ⌝ }
+    ensures { λ r. ⌜ placeOf r ≡ walkFrom (wayIn back (readerOf unitsize (now (samples .entry)) (levelOf (now (l1 .entry)) (now (l2 .entry)) (now (l3 .entry)) (now (l4 .entry)))) (ci * chunk) (min ((ci + 1) * chunk) len)) mask at (readerOf unitsize (now (samples .entry)) (levelOf (now (l1 .entry)) (now (l2 .entry)) (now (l3 .entry)) (now (l4 .entry))) 0 seen .first) ⌝ }
 {
     let base = ci * CHUNK;
     let hi = chunk_end(ci, len);
     let value = lines::get(samples, unitsize, seen);
     let a = base * unitsize;
     let e = hi * unitsize;
-    given(find(
+    find(
         &samples[a..e],
         l1,
         l2,
@@ -85,7 +76,7 @@ fn in_chunk<'a>(
         mask,
         at,
         value,
-    ))
+    )
 }
 
 // The next change after from, chunk after chunk.
@@ -101,13 +92,14 @@ fn chunks_fwd<'a>(
     from: usize,
 ) -> Found
     requires { ⌜ Stored unitsize len (now samples) (levelOf (now l1) (now l2) (now l3) (now l4)) × (from + 1 < len) ⌝ }
-    ensures { λ r. ⌜ foundOf r ≡ given (nextWalk allLevels (readerOf unitsize (now (samples .entry)) (levelOf (now (l1 .entry)) (now (l2 .entry)) (now (l3 .entry)) (now (l4 .entry)))) len mask from .found) ⌝ }
+    ensures { λ r. ⌜ foundOf r ≡ given (nextWalk allLevels (readerOf unitsize (now (samples .entry)) (levelOf (now (l1 .entry)) (now (l2 .entry)) (now (l3 .entry)) (now (l4 .entry)))) len mask from) ⌝ }
 {
     let end = (len + (CHUNK - 1)) / CHUNK;
     let mut lo = from + 1;
     let mut ci = lo / CHUNK;
+    let mut count = 0;
     while ci < end {
-        let f = in_chunk(
+        let p = in_chunk(
             samples,
             l1,
             l2,
@@ -121,13 +113,19 @@ fn chunks_fwd<'a>(
             lo,
             lo - 1,
         );
-        let Found::Nothing = f else {
-            return f;
-        };
+        match p {
+            Place::At(i, n) => {
+                count += n;
+                return Found::At(i, count); // with those of the chunks before
+            }
+            Place::Nothing(n) => {
+                count += n;
+            }
+        }
         ci += 1;
         lo = ci * CHUNK;
     }
-    Found::Nothing
+    Found::Nothing(count)
 }
 
 // The next change after from. Where changes are dense it is one of the next few samples.
@@ -143,14 +141,14 @@ fn next_from<'a>(
     from: usize,
 ) -> Found
     requires { ⌜ Stored unitsize len (now samples) (levelOf (now l1) (now l2) (now l3) (now l4)) × (from + 1 < len) ⌝ }
-    ensures { λ r. ⌜ foundOf r ≡ given (nextWalk allLevels (readerOf unitsize (now (samples .entry)) (levelOf (now (l1 .entry)) (now (l2 .entry)) (now (l3 .entry)) (now (l4 .entry)))) len mask from .found) ⌝ }
+    ensures { λ r. ⌜ foundOf r ≡ given (nextWalk allLevels (readerOf unitsize (now (samples .entry)) (levelOf (now (l1 .entry)) (now (l2 .entry)) (now (l3 .entry)) (now (l4 .entry)))) len mask from) ⌝ }
 {
     let value = lines::get(samples, unitsize, from);
-    let n = near(samples, l1, unitsize, len, false, mask, from + 1, value);
-    let Place::Nothing = n else {
-        return given(n);
+    let p = near(samples, l1, unitsize, len, false, mask, from + 1, value);
+    let Place::At(i, n) = p else {
+        return chunks_fwd(samples, l1, l2, l3, l4, unitsize, len, mask, from);
     };
-    chunks_fwd(samples, l1, l2, l3, l4, unitsize, len, mask, from)
+    Found::At(i, n)
 }
 
 // The last change up to start, chunk before chunk; an earlier chunk is entered at its length.
@@ -166,13 +164,14 @@ fn chunks_back<'a>(
     start: usize,
 ) -> Found
     requires { ⌜ Stored unitsize len (now samples) (levelOf (now l1) (now l2) (now l3) (now l4)) × (start < len) ⌝ }
-    ensures { λ r. ⌜ foundOf r ≡ given (previousFrom allLevels (readerOf unitsize (now (samples .entry)) (levelOf (now (l1 .entry)) (now (l2 .entry)) (now (l3 .entry)) (now (l4 .entry)))) mask start .found) ⌝ }
+    ensures { λ r. ⌜ foundOf r ≡ given (previousFrom allLevels (readerOf unitsize (now (samples .entry)) (levelOf (now (l1 .entry)) (now (l2 .entry)) (now (l3 .entry)) (now (l4 .entry)))) mask start) ⌝ }
 {
     let mut at = start;
     let mut left = start / CHUNK + 1;
+    let mut count = 0;
     while 0 < left {
         let ci = left - 1;
-        let f = in_chunk(
+        let p = in_chunk(
             samples,
             l1,
             l2,
@@ -186,13 +185,19 @@ fn chunks_back<'a>(
             at,
             at,
         );
-        let Found::Nothing = f else {
-            return f;
-        };
+        match p {
+            Place::At(i, n) => {
+                count += n;
+                return Found::At(i, count);
+            }
+            Place::Nothing(n) => {
+                count += n;
+            }
+        }
         at = ci * CHUNK;
         left = ci;
     }
-    Found::Nothing
+    Found::Nothing(count)
 }
 
 // The last change up to start. Where changes are dense it is one of the few samples before it.
@@ -208,14 +213,14 @@ fn prev_from<'a>(
     start: usize,
 ) -> Found
     requires { ⌜ Stored unitsize len (now samples) (levelOf (now l1) (now l2) (now l3) (now l4)) × (start < len) ⌝ }
-    ensures { λ r. ⌜ foundOf r ≡ given (previousFrom allLevels (readerOf unitsize (now (samples .entry)) (levelOf (now (l1 .entry)) (now (l2 .entry)) (now (l3 .entry)) (now (l4 .entry)))) mask start .found) ⌝ }
+    ensures { λ r. ⌜ foundOf r ≡ given (previousFrom allLevels (readerOf unitsize (now (samples .entry)) (levelOf (now (l1 .entry)) (now (l2 .entry)) (now (l3 .entry)) (now (l4 .entry)))) mask start) ⌝ }
 {
     let value = lines::get(samples, unitsize, start);
-    let n = near(samples, l1, unitsize, len, true, mask, start, value);
-    let Place::Nothing = n else {
-        return given(n);
+    let p = near(samples, l1, unitsize, len, true, mask, start, value);
+    let Place::At(i, n) = p else {
+        return chunks_back(samples, l1, l2, l3, l4, unitsize, len, mask, start);
     };
-    chunks_back(samples, l1, l2, l3, l4, unitsize, len, mask, start)
+    Found::At(i, n)
 }
 
 // The next change after any place, of a capture that passed rows 1 and 2.
@@ -231,13 +236,13 @@ pub fn next_in<'a>(
     from: usize,
 ) -> Found
     requires { ⌜ Stored unitsize len (now samples) (levelOf (now l1) (now l2) (now l3) (now l4)) ⌝ }
-    ensures { λ r. ⌜ foundOf r ≡ given (nextWalk allLevels (readerOf unitsize (now (samples .entry)) (levelOf (now (l1 .entry)) (now (l2 .entry)) (now (l3 .entry)) (now (l4 .entry)))) len mask from .found) ⌝ }
+    ensures { λ r. ⌜ foundOf r ≡ given (nextWalk allLevels (readerOf unitsize (now (samples .entry)) (levelOf (now (l1 .entry)) (now (l2 .entry)) (now (l3 .entry)) (now (l4 .entry)))) len mask from) ⌝ }
 {
     if len <= from {
-        return Found::Nothing;
+        return Found::Nothing(0);
     }
     if len <= from + 1 {
-        return Found::Nothing;
+        return Found::Nothing(0);
     }
     next_from(samples, l1, l2, l3, l4, unitsize, len, mask, from)
 }
@@ -255,10 +260,10 @@ pub fn prev_in<'a>(
     from: usize,
 ) -> Found
     requires { ⌜ Stored unitsize len (now samples) (levelOf (now l1) (now l2) (now l3) (now l4)) ⌝ }
-    ensures { λ r. ⌜ foundOf r ≡ given (previousWalk allLevels (readerOf unitsize (now (samples .entry)) (levelOf (now (l1 .entry)) (now (l2 .entry)) (now (l3 .entry)) (now (l4 .entry)))) len mask from .found) ⌝ }
+    ensures { λ r. ⌜ foundOf r ≡ given (previousWalk allLevels (readerOf unitsize (now (samples .entry)) (levelOf (now (l1 .entry)) (now (l2 .entry)) (now (l3 .entry)) (now (l4 .entry)))) len mask from) ⌝ }
 {
     if len == 0 {
-        return Found::Nothing;
+        return Found::Nothing(0);
     }
     prev_from(
         samples,
@@ -273,8 +278,8 @@ pub fn prev_in<'a>(
     )
 }
 
-// 01's Next: the smallest place after from, and below len, at which a masked line changes.
-// Theorems, in proofs/Change.antt: next-right, that on right levels it is the rules' next; next-range, on any memory.
+// 01's Next: the smallest place after from, and below len, at which a masked line changes; and the nodes read.
+// Theorems, in proofs/Change.antt: next-right, that on right levels it is the rules' next, in the steps of 01's walk; next-range, on any memory.
 pub fn next_change<'a>(
     c: Capture,
     samples: &[u8],
@@ -294,8 +299,8 @@ pub fn next_change<'a>(
     next_in(samples, l1, l2, l3, l4, c.unitsize, c.len, mask, from)
 }
 
-// 01's Previous: the largest place up to from, from 1 on and below len, at which a masked line changes.
-// Theorems, in proofs/Change.antt: previous-right, that on right levels it is the rules' previous; previous-range, on any memory.
+// 01's Previous: the largest place up to from, from 1 on and below len, at which a masked line changes; and the nodes read.
+// Theorems, in proofs/Change.antt: previous-right, that on right levels it is the rules' previous, in the steps of 01's walk; previous-range, on any memory.
 pub fn prev_change<'a>(
     c: Capture,
     samples: &[u8],

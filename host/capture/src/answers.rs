@@ -15,6 +15,37 @@ pub struct Node {
     pub toggles: Lines,
 }
 
+/// What a search found, and how hard it worked for that.
+///
+/// ```
+/// use capture::{Capture, Counted};
+///
+/// let mut capture = Capture::start(8, 2000)?;
+/// capture.append(&[0; 1000])?;
+/// capture.append(&[1; 1000])?;
+/// // It passes 31 samples, and then 30 nodes of 32 samples each. The next node has a change: eight more samples pass, and
+/// // the one behind them differs.
+/// let answer = capture.next_change(0b1, 0);
+/// assert_eq!(answer, Counted { found: Some(1000), read: 31 + 30 + 1 + 8 + 1 });
+/// # Ok::<(), capture::Refusal>(())
+/// ```
+#[derive(Clone, Copy, Debug, PartialEq, Eq, Hash)]
+pub struct Counted<T> {
+    /// What was found.
+    pub found: Option<T>,
+    /// The nodes of the summary tree that were read for it, samples among them; the sample that a search starts from is
+    /// not counted. A search reads at most 384 for each [`CHUNK`](crate::CHUNK) that it enters; of a burst it is the sum
+    /// over its searches.
+    pub read: usize,
+}
+
+impl<T> Counted<T> {
+    /// The same count with what `change` makes of the find.
+    pub fn map<U>(self, change: impl FnOnce(T) -> U) -> Counted<U> {
+        Counted { found: self.found.map(change), read: self.read }
+    }
+}
+
 /// Changes that follow each other in less than a gap. Its places count as its reader does: from the first sample, or
 /// as `Burst<i64>` from the mark (see [`Mill`](crate::Mill)).
 #[derive(Clone, Copy, Debug, PartialEq, Eq, Hash)]

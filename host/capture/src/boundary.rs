@@ -6,7 +6,7 @@
 //! them apart.
 
 use crate::memory::Memory;
-use crate::{Extent, Lines, Node, Refusal};
+use crate::{Burst, Counted, Extent, Lines, Node, Refusal};
 
 /// unit, capacity, len, whether there is a mark, the mark
 pub type Record = [usize; 5];
@@ -45,11 +45,16 @@ declare! {
     fn lc_raw(record: *const usize; *const u8, *const u16; chunk: usize, from: *mut usize, to: *mut usize) -> ();
     fn lc_whole(record: *const usize; *const u8, *const u16; level: *mut usize, number: *mut usize) -> u32;
     fn lc_summary(record: *const usize; *const u8, *const u16; a: usize, b: usize, node: *mut u16) -> u32;
-    fn lc_next_change(record: *const usize; *const u8, *const u16; mask: u16, from: usize, place: *mut usize) -> u32;
-    fn lc_prev_change(record: *const usize; *const u8, *const u16; mask: u16, from: usize, place: *mut usize) -> u32;
+    fn lc_next_change(
+        record: *const usize; *const u8, *const u16; mask: u16, from: usize, place: *mut usize, read: *mut usize
+    ) -> u32;
+    fn lc_prev_change(
+        record: *const usize; *const u8, *const u16; mask: u16, from: usize, place: *mut usize, read: *mut usize
+    ) -> u32;
     fn lc_burst_at(
         record: *const usize; *const u8, *const u16;
-        mask: u16, sample: usize, max_gap: usize, tolerance: usize, budget: usize, ends: *mut usize
+        mask: u16, sample: usize, max_gap: usize, tolerance: usize, budget: usize,
+        ends: *mut usize, read: *mut usize
     ) -> u32;
     fn lc_render(
         record: *const usize; *const u8, *const u16;
@@ -67,15 +72,17 @@ declare! {
         record: *const usize; *const u8, *const u16; grant: u16, a: i64, b: i64, node: *mut u16
     ) -> u32;
     fn lc_mill_next_change(
-        record: *const usize; *const u8, *const u16; grant: u16, mask: u16, from: i64, place: *mut i64
+        record: *const usize; *const u8, *const u16;
+        grant: u16, mask: u16, from: i64, place: *mut i64, read: *mut usize
     ) -> u32;
     fn lc_mill_prev_change(
-        record: *const usize; *const u8, *const u16; grant: u16, mask: u16, from: i64, place: *mut i64
+        record: *const usize; *const u8, *const u16;
+        grant: u16, mask: u16, from: i64, place: *mut i64, read: *mut usize
     ) -> u32;
     fn lc_mill_burst_at(
         record: *const usize; *const u8, *const u16;
         grant: u16, mask: u16, sample: i64, max_gap: usize, tolerance: usize, budget: usize,
-        first: *mut i64, last: *mut i64, jumps: *mut usize
+        first: *mut i64, last: *mut i64, jumps: *mut usize, read: *mut usize
     ) -> u32;
     fn lc_mill_render(
         record: *const usize; *const u8, *const u16;
@@ -127,6 +134,11 @@ fn answered(code: u32) -> Answered {
             None => unreachable!("the header gives no code {code}"),
         },
     }
+}
+
+/// What a search says: what it wrote of its find, if it found one, and the nodes that it read in any case.
+fn counted<T>(code: u32, written: T, read: usize) -> Result<Counted<T>, Refusal> {
+    answered(code).map(|found| Counted { found: found.then_some(written), read })
 }
 
 pub fn needs(channels: usize, capacity: usize) -> Result<[usize; 5], Refusal> {
@@ -201,55 +213,50 @@ pub fn summary(
     Ok(found.then_some(Node { first, last, toggles }))
 }
 
-pub fn next_change(
-    record: &Record,
-    memory: &Memory,
-    mask: Lines,
-    from: usize,
-) -> Result<Option<usize>, Refusal> {
-    let mut place = 0;
-    let found = answered(call!(
-        lc_next_change,
-        (record.as_ptr()),
-        memory.as_ptr,
-        (mask, from, &mut place)
-    ))?;
-    Ok(found.then_some(place))
+/// Defines searches that write a place, and the nodes read, behind the arguments of their own.
+macro_rules! searches {
+    ($(fn $name:ident($($argument:ident: $a:ty),*) -> $place:ty = $call:ident;)*) => {
+        $(pub fn $name(
+            record: &Record,
+            memory: &Memory,
+            $($argument: $a),*
+        ) -> Result<Counted<$place>, Refusal> {
+            let (mut place, mut read) = (0, 0);
+            let code = call!(
+                $call,
+                (record.as_ptr()),
+                memory.as_ptr,
+                ($($argument,)* &mut place, &mut read)
+            );
+            counted(code, place, read)
+        })*
+    };
 }
 
-pub fn prev_change(
-    record: &Record,
-    memory: &Memory,
-    mask: Lines,
-    from: usize,
-) -> Result<Option<usize>, Refusal> {
-    let mut place = 0;
-    let found = answered(call!(
-        lc_prev_change,
-        (record.as_ptr()),
-        memory.as_ptr,
-        (mask, from, &mut place)
-    ))?;
-    Ok(found.then_some(place))
+searches! {
+    fn next_change(mask: Lines, from: usize) -> usize = lc_next_change;
+    fn prev_change(mask: Lines, from: usize) -> usize = lc_prev_change;
+    fn mill_next_change(grant: Lines, mask: Lines, from: i64) -> i64 = lc_mill_next_change;
+    fn mill_prev_change(grant: Lines, mask: Lines, from: i64) -> i64 = lc_mill_prev_change;
 }
 
-/// first, last, the jumps at the end, the jumps at the start
 pub fn burst_at(
     record: &Record,
     memory: &Memory,
     mask: Lines,
     sample: usize,
     [max_gap, tolerance, budget]: [usize; 3],
-) -> Result<Option<[usize; 4]>, Refusal> {
-    let mut ends = [0; 4];
+) -> Result<Counted<Burst>, Refusal> {
+    let (mut ends, mut read) = ([0; 4], 0);
     let out = ends.as_mut_ptr();
     let code = call!(
         lc_burst_at,
         (record.as_ptr()),
         memory.as_ptr,
-        (mask, sample, max_gap, tolerance, budget, out)
+        (mask, sample, max_gap, tolerance, budget, out, &mut read)
     );
-    Ok(answered(code)?.then_some(ends))
+    let [first, last, jumps_at_end, jumps_at_start] = ends;
+    counted(code, Burst { first, last, jumps_at_end, jumps_at_start }, read)
 }
 
 /// Two numbers of the output for each pixel.
@@ -326,43 +333,6 @@ pub fn mill_summary(
     Ok(found.then_some(Node { first, last, toggles }))
 }
 
-pub fn mill_next_change(
-    record: &Record,
-    memory: &Memory,
-    grant: Lines,
-    mask: Lines,
-    from: i64,
-) -> Result<Option<i64>, Refusal> {
-    let mut place = 0;
-    let found = answered(call!(
-        lc_mill_next_change,
-        (record.as_ptr()),
-        memory.as_ptr,
-        (grant, mask, from, &mut place)
-    ))?;
-    Ok(found.then_some(place))
-}
-
-pub fn mill_prev_change(
-    record: &Record,
-    memory: &Memory,
-    grant: Lines,
-    mask: Lines,
-    from: i64,
-) -> Result<Option<i64>, Refusal> {
-    let mut place = 0;
-    let found = answered(call!(
-        lc_mill_prev_change,
-        (record.as_ptr()),
-        memory.as_ptr,
-        (grant, mask, from, &mut place)
-    ))?;
-    Ok(found.then_some(place))
-}
-
-/// The first and the last place; then the jumps at the end and those at the start.
-pub type MillEnds = ([i64; 2], [usize; 2]);
-
 pub fn mill_burst_at(
     record: &Record,
     memory: &Memory,
@@ -370,16 +340,17 @@ pub fn mill_burst_at(
     mask: Lines,
     sample: i64,
     [max_gap, tolerance, budget]: [usize; 3],
-) -> Result<Option<MillEnds>, Refusal> {
-    let (mut first, mut last, mut jumps) = (0, 0, [0; 2]);
+) -> Result<Counted<Burst<i64>>, Refusal> {
+    let (mut first, mut last, mut jumps, mut read) = (0, 0, [0; 2], 0);
     let out = jumps.as_mut_ptr();
     let code = call!(
         lc_mill_burst_at,
         (record.as_ptr()),
         memory.as_ptr,
-        (grant, mask, sample, max_gap, tolerance, budget, &mut first, &mut last, out)
+        (grant, mask, sample, max_gap, tolerance, budget, &mut first, &mut last, out, &mut read)
     );
-    Ok(answered(code)?.then_some(([first, last], jumps)))
+    let [jumps_at_end, jumps_at_start] = jumps;
+    counted(code, Burst { first, last, jumps_at_end, jumps_at_start }, read)
 }
 
 /// Two numbers of the output for each pixel.

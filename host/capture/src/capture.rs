@@ -2,7 +2,7 @@
 
 use crate::boundary::{self, Record};
 use crate::memory::{Memory, Needs};
-use crate::{Burst, Changes, Lines, Node, Pixel, Refusal, View, WrongNode, MOST_PIXELS};
+use crate::{Burst, Changes, Counted, Lines, Node, Pixel, Refusal, View, WrongNode, MOST_PIXELS};
 use std::fmt;
 
 /// Samples of up to sixteen lines in order, with the tree of summaries over them by which questions hop.
@@ -17,8 +17,8 @@ use std::fmt;
 /// capture.append(&[0, 0, 1, 1, 0, 2, 2, 3])?;
 /// assert_eq!(capture.len(), 8);
 /// assert_eq!(capture.get(7)?, 3);
-/// assert_eq!(capture.next_change(0b01, 0), Some(2));
-/// assert_eq!(capture.prev_change(0b01, 6), Some(4));
+/// assert_eq!(capture.next_change(0b01, 0).found, Some(2));
+/// assert_eq!(capture.prev_change(0b01, 6).found, Some(4));
 /// # Ok::<(), capture::Refusal>(())
 /// ```
 #[derive(Clone)]
@@ -165,32 +165,40 @@ impl Capture {
         answer(boundary::summary(&self.record, &self.memory, a, b))
     }
 
-    /// The first place after `from` at which a line of the mask differs from the sample before.
+    /// The first place after `from` at which a line of the mask differs from the sample before, and the nodes read to
+    /// find it, or to find that there is none.
     ///
     /// ```
-    /// let mut capture = capture::Capture::start(8, 1000)?;
+    /// use capture::{Capture, Counted};
+    ///
+    /// let mut capture = Capture::start(8, 1000)?;
     /// capture.append(&[0, 0, 1, 1, 0, 2, 2, 3])?;
-    /// assert_eq!(capture.next_change(0b01, 2), Some(4));
-    /// assert_eq!(capture.next_change(0b11, 4), Some(5));
-    /// assert_eq!(capture.next_change(0b01, 7), None);
+    /// assert_eq!(capture.next_change(0b01, 2), Counted { found: Some(4), read: 2 });
+    /// assert_eq!(capture.next_change(0b11, 4).found, Some(5));
+    /// assert_eq!(capture.next_change(0b10, 5), Counted { found: None, read: 2 });
+    /// assert_eq!(capture.next_change(0b01, 7), Counted { found: None, read: 0 });
     /// # Ok::<(), capture::Refusal>(())
     /// ```
-    pub fn next_change(&self, mask: Lines, from: usize) -> Option<usize> {
+    pub fn next_change(&self, mask: Lines, from: usize) -> Counted<usize> {
         answer(boundary::next_change(&self.record, &self.memory, mask, from))
     }
 
-    /// The last place, at `from` or before, at which a line of the mask differs from the sample before.
+    /// The last place, at `from` or before, at which a line of the mask differs from the sample before, with the nodes
+    /// read as in [`next_change`](Capture::next_change).
     ///
     /// ```
-    /// let mut capture = capture::Capture::start(8, 1000)?;
+    /// use capture::{Capture, Counted};
+    ///
+    /// let mut capture = Capture::start(8, 1000)?;
     /// capture.append(&[0, 0, 1, 1, 0, 2, 2, 3])?;
-    /// assert_eq!(capture.prev_change(0b01, 4), Some(4));
-    /// assert_eq!(capture.prev_change(0b01, 1), None);
+    /// assert_eq!(capture.prev_change(0b01, 6), Counted { found: Some(4), read: 3 });
+    /// assert_eq!(capture.prev_change(0b01, 4).found, Some(4));
+    /// assert_eq!(capture.prev_change(0b01, 1).found, None);
     /// // from the end
-    /// assert_eq!(capture.prev_change(0b01, usize::MAX), Some(7));
+    /// assert_eq!(capture.prev_change(0b01, usize::MAX).found, Some(7));
     /// # Ok::<(), capture::Refusal>(())
     /// ```
-    pub fn prev_change(&self, mask: Lines, from: usize) -> Option<usize> {
+    pub fn prev_change(&self, mask: Lines, from: usize) -> Counted<usize> {
         answer(boundary::prev_change(&self.record, &self.memory, mask, from))
     }
 
@@ -210,7 +218,7 @@ impl Capture {
     ///
     /// It begins with two changes less than `max_gap` apart: those around the place, else the two nearest on one
     /// side, the nearer of them at most `tolerance` away. Then each end jumps, at most `budget` times, to the
-    /// furthest change that is less than `max_gap` off.
+    /// furthest change that is less than `max_gap` off. The nodes read are those of all searches that this takes.
     ///
     /// ```
     /// use capture::{Burst, Capture};
@@ -218,8 +226,8 @@ impl Capture {
     /// let mut capture = Capture::start(8, 1000)?;
     /// capture.append(&[0, 0, 1, 1, 0, 2, 2, 3])?;
     /// let burst = Burst { first: 2, last: 7, jumps_at_end: 1, jumps_at_start: 0 };
-    /// assert_eq!(capture.burst_at(0b01, 3, 4, 0, 1), Some(burst));
-    /// assert_eq!(capture.burst_at(0b01, 3, 2, 0, 1), None);
+    /// assert_eq!(capture.burst_at(0b01, 3, 4, 0, 1).found, Some(burst));
+    /// assert_eq!(capture.burst_at(0b01, 3, 2, 0, 1).found, None);
     /// # Ok::<(), capture::Refusal>(())
     /// ```
     pub fn burst_at(
@@ -229,11 +237,9 @@ impl Capture {
         max_gap: usize,
         tolerance: usize,
         budget: usize,
-    ) -> Option<Burst> {
+    ) -> Counted<Burst> {
         let bounds = [max_gap, tolerance, budget];
-        let [first, last, jumps_at_end, jumps_at_start] =
-            answer(boundary::burst_at(&self.record, &self.memory, mask, sample, bounds))?;
-        Some(Burst { first, last, jumps_at_end, jumps_at_start })
+        answer(boundary::burst_at(&self.record, &self.memory, mask, sample, bounds))
     }
 
     /// Draws `width` pixels of a view, all lines at once. A pixel without samples is 0, 0.

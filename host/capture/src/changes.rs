@@ -21,7 +21,7 @@ impl Iterator for Changes<'_> {
     type Item = usize;
 
     fn next(&mut self) -> Option<usize> {
-        self.from = self.capture.next_change(self.mask, self.from)?;
+        self.from = self.capture.next_change(self.mask, self.from).found?;
         Some(self.from)
     }
 }

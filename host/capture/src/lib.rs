@@ -23,11 +23,12 @@
 //! let capture = recorder.into_capture();
 //! assert_eq!(capture.samples(0, 4), [0, 0, 1, 1]);
 //! assert_eq!(capture.mark(), Some(2));
-//! assert_eq!(capture.next_change(0b1, 0), Some(2));
+//! assert_eq!(capture.next_change(0b1, 0).found, Some(2));
 //! # Ok::<(), capture::Refusal>(())
 //! ```
 //!
-//! Places count samples from 0. A mask has bit k for line k.
+//! Places count samples from 0. A mask has bit k for line k. Searches say beside what they found how many nodes they read
+//! ([`Counted`]).
 //!
 //! [`Capture::mill`] gives a [`Mill`], a reader that sees some lines only and counts places from the mark.
 
@@ -44,7 +45,7 @@ mod recorder;
 mod refusal;
 mod settings;
 
-pub use answers::{Burst, Extent, Node, Pixel, View, WrongNode};
+pub use answers::{Burst, Counted, Extent, Node, Pixel, View, WrongNode};
 pub use capture::Capture;
 pub use changes::Changes;
 pub use memory::Needs;

@@ -2,14 +2,15 @@
 
 use crate::boundary::{self, Record};
 use crate::memory::Memory;
-use crate::{Burst, Capture, Extent, Lines, Node, Pixel, Refusal, View, MOST_PIXELS};
+use crate::{Burst, Capture, Counted, Extent, Lines, Node, Pixel, Refusal, View, MOST_PIXELS};
 use std::fmt;
 
 /// A reader of a capture that sees some of its lines, its grant, and nothing of the others.
 ///
 /// Samples, nodes and pixels show granted lines only. Places count from the mark, negative before it, or from the
 /// first sample where there is no mark; [`extent`](Mill::extent) says which there are. Two captures of equal length,
-/// mark and granted lines look alike to it, refusals too, whatever their other lines, units and capacities.
+/// mark and granted lines look alike to it, refusals and the nodes that searches read too, whatever their other lines,
+/// units and capacities.
 ///
 /// [`Capture::mill`] makes one. It may be copied, and borrows the capture.
 ///
@@ -29,7 +30,7 @@ use std::fmt;
 /// assert_eq!((mill.extent().first, mill.extent().end), (-4, 4));
 /// assert_eq!(mill.get(0)?, 0);
 /// assert_eq!(mill.samples(-2, 4)?, [1, 1, 0, 2]);
-/// assert_eq!(mill.next_change(0b0011, -4)?, Some(-2));
+/// assert_eq!(mill.next_change(0b0011, -4)?.found, Some(-2));
 ///
 /// // Line 3 is beyond its grant, and place −5 before the first sample.
 /// assert_eq!(mill.next_change(0b1000, -4), Err(Refusal::Grant));
@@ -63,7 +64,7 @@ impl Capture {
     /// capture.append(&[0, 0, 1, 1, 0, 2, 2, 3])?;
     /// let mill = capture.mill(0b10);
     /// assert_eq!(mill.samples(4, 100)?, [0, 2, 2, 2]);
-    /// assert_eq!(mill.prev_change(0b10, 7)?, Some(5));
+    /// assert_eq!(mill.prev_change(0b10, 7)?.found, Some(5));
     /// # Ok::<(), capture::Refusal>(())
     /// ```
     pub fn mill(&self, grant: Lines) -> Mill<'_> {
@@ -77,7 +78,7 @@ impl Capture {
     /// let mut capture = capture::Capture::start(8, 1000)?;
     /// capture.append(&[0, 0, 1, 1, 0, 2, 2, 3])?;
     /// let mill = capture.mill_with_mark(0b10, 2).unwrap();
-    /// assert_eq!(mill.prev_change(0b10, 7)?, Some(3));
+    /// assert_eq!(mill.prev_change(0b10, 7)?.found, Some(3));
     /// assert!(capture.mill_with_mark(0b10, 9).is_none());
     /// # Ok::<(), capture::Refusal>(())
     /// ```
@@ -177,46 +178,46 @@ impl Mill<'_> {
         boundary::mill_summary(&self.record, self.memory, self.grant, a, b)
     }
 
-    /// The first place after `from` at which a line of the mask differs from the sample before. Refuses with
-    /// [`Refusal::Grant`] a mask that has a line beyond the grant, and then with [`Refusal::Before`] a place before
-    /// the first sample.
+    /// The first place after `from` at which a line of the mask differs from the sample before, with the nodes read as in
+    /// [`Capture::next_change`]. Refuses with [`Refusal::Grant`] a mask that has a line beyond the grant, and then with
+    /// [`Refusal::Before`] a place before the first sample.
     ///
     /// ```
-    /// use capture::{Capture, Refusal};
+    /// use capture::{Capture, Counted, Refusal};
     ///
     /// let mut capture = Capture::start(8, 1000)?;
     /// capture.append(&[0, 0, 1, 1, 0, 2, 2, 3])?;
     /// let mill = capture.mill_with_mark(0b01, 4).unwrap();
-    /// assert_eq!(mill.next_change(0b01, -4)?, Some(-2));
-    /// assert_eq!(mill.next_change(0b01, 0)?, Some(3));
-    /// assert_eq!(mill.next_change(0b01, 3)?, None);
+    /// assert_eq!(mill.next_change(0b01, -4)?, Counted { found: Some(-2), read: 2 });
+    /// assert_eq!(mill.next_change(0b01, 0)?.found, Some(3));
+    /// assert_eq!(mill.next_change(0b01, 3)?.found, None);
     /// assert_eq!(mill.next_change(0b11, -9), Err(Refusal::Grant));
     /// assert_eq!(mill.next_change(0b01, -9), Err(Refusal::Before));
     /// # Ok::<(), Refusal>(())
     /// ```
-    pub fn next_change(&self, mask: Lines, from: i64) -> Result<Option<i64>, Refusal> {
+    pub fn next_change(&self, mask: Lines, from: i64) -> Result<Counted<i64>, Refusal> {
         boundary::mill_next_change(&self.record, self.memory, self.grant, mask, from)
     }
 
-    /// The last place, at `from` or before, at which a line of the mask differs from the sample before. It refuses as
-    /// [`next_change`](Mill::next_change) does.
+    /// The last place, at `from` or before, at which a line of the mask differs from the sample before. It counts and
+    /// refuses as [`next_change`](Mill::next_change) does.
     ///
     /// ```
     /// let mut capture = capture::Capture::start(8, 1000)?;
     /// capture.append(&[0, 0, 1, 1, 0, 2, 2, 3])?;
     /// let mill = capture.mill_with_mark(0b01, 4).unwrap();
-    /// assert_eq!(mill.prev_change(0b01, 0)?, Some(0));
-    /// assert_eq!(mill.prev_change(0b01, -1)?, Some(-2));
+    /// assert_eq!(mill.prev_change(0b01, 0)?.found, Some(0));
+    /// assert_eq!(mill.prev_change(0b01, -1)?.found, Some(-2));
     /// // from the end
-    /// assert_eq!(mill.prev_change(0b01, i64::MAX)?, Some(3));
+    /// assert_eq!(mill.prev_change(0b01, i64::MAX)?.found, Some(3));
     /// # Ok::<(), capture::Refusal>(())
     /// ```
-    pub fn prev_change(&self, mask: Lines, from: i64) -> Result<Option<i64>, Refusal> {
+    pub fn prev_change(&self, mask: Lines, from: i64) -> Result<Counted<i64>, Refusal> {
         boundary::mill_prev_change(&self.record, self.memory, self.grant, mask, from)
     }
 
-    /// The burst of changes of the mask's lines at a place, or none, as [`Capture::burst_at`] finds it. It refuses as
-    /// [`next_change`](Mill::next_change) does.
+    /// The burst of changes of the mask's lines at a place, or none, as [`Capture::burst_at`] finds and counts it. It
+    /// refuses as [`next_change`](Mill::next_change) does.
     ///
     /// ```
     /// use capture::{Burst, Capture};
@@ -225,7 +226,7 @@ impl Mill<'_> {
     /// capture.append(&[0, 0, 1, 1, 0, 2, 2, 3])?;
     /// let mill = capture.mill_with_mark(0b01, 5).unwrap();
     /// let burst = Burst { first: -3, last: 2, jumps_at_end: 1, jumps_at_start: 0 };
-    /// assert_eq!(mill.burst_at(0b01, -2, 4, 0, 1)?, Some(burst));
+    /// assert_eq!(mill.burst_at(0b01, -2, 4, 0, 1)?.found, Some(burst));
     /// # Ok::<(), capture::Refusal>(())
     /// ```
     pub fn burst_at(
@@ -235,16 +236,9 @@ impl Mill<'_> {
         max_gap: usize,
         tolerance: usize,
         budget: usize,
-    ) -> Result<Option<Burst<i64>>, Refusal> {
+    ) -> Result<Counted<Burst<i64>>, Refusal> {
         let bounds = [max_gap, tolerance, budget];
-        let found =
-            boundary::mill_burst_at(&self.record, self.memory, self.grant, mask, sample, bounds)?;
-        Ok(found.map(|([first, last], [jumps_at_end, jumps_at_start])| Burst {
-            first,
-            last,
-            jumps_at_end,
-            jumps_at_start,
-        }))
+        boundary::mill_burst_at(&self.record, self.memory, self.grant, mask, sample, bounds)
     }
 
     /// Draws `width` pixels of a view, all granted lines at once. A pixel without samples is 0, 0, and the view may

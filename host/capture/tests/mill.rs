@@ -4,9 +4,10 @@
 mod plain;
 
 use capture::{
-    Burst, Capture, Condition, Extent, Lines, Mill, Node, Pixel, Recorder, Refusal, Settings, View,
-    Wish, MOST_PIXELS,
+    Burst, Capture, Condition, Counted, Extent, Lines, Mill, Node, Pixel, Recorder, Refusal,
+    Settings, View, Wish, MOST_PIXELS,
 };
+use plain::walk::Walk;
 use plain::Rng;
 use std::fmt::Write;
 
@@ -56,7 +57,7 @@ fn run_place(place: i64, mark: usize) -> Result<usize, Refusal> {
 /// Asks a mill everything, some times over.
 fn ask(rng: &mut Rng, s: &[Lines], mill: Mill, mark: Option<usize>, times: usize) {
     let grant = mill.grant();
-    let (len, origin) = (s.len(), mark.unwrap_or(0));
+    let (len, origin, walk) = (s.len(), mark.unwrap_or(0), Walk::over(s));
     let seen = |place: usize| place as i64 - origin as i64;
     let extent = Extent { first: seen(0), end: seen(len), marked: mark.is_some() };
     assert_eq!(mill.extent(), extent);
@@ -85,13 +86,13 @@ fn ask(rng: &mut Rng, s: &[Lines], mill: Mill, mark: Option<usize>, times: usize
 
         let mask = mask(rng, grant);
         let from = if mask & !grant == 0 { from } else { Err(Refusal::Grant) };
-        let next = from.map(|i| plain::next_change(s, mask, i).map(seen));
+        let next = from.map(|i| walk.next_change(mask, i).map(seen));
         assert_eq!(mill.next_change(mask, a), next, "next {mask} {a}");
-        let prev = from.map(|i| plain::prev_change(s, mask, i).map(seen));
+        let prev = from.map(|i| walk.prev_change(mask, i).map(seen));
         assert_eq!(mill.prev_change(mask, a), prev, "prev {mask} {a}");
         let (gap, tolerance, budget) = (rng.below(60), rng.below(40), rng.below(5));
         let burst = from.map(|i| {
-            plain::burst_at(s, mask, i, gap, tolerance, budget).map(|burst| Burst {
+            walk.burst_at(mask, i, gap, tolerance, budget).map(|burst| Burst {
                 first: seen(burst.first),
                 last: seen(burst.last),
                 jumps_at_end: burst.jumps_at_end,
@@ -203,7 +204,8 @@ fn refusals_and_their_order() {
     assert_eq!(mill.burst_at(0x8000, -3, 0, 0, 0), Err(Refusal::Grant));
     assert_eq!(mill.burst_at(0b01, -3, 0, 0, 0), Err(Refusal::Before));
     // A line that the unit lacks is beyond the grant all the same, and may be granted.
-    assert_eq!(capture.mill(0x8001).next_change(0x8000, 0), Ok(None));
+    let none = Counted { found: None, read: 3 };
+    assert_eq!(capture.mill(0x8001).next_change(0x8000, 0), Ok(none));
     assert_eq!(mill.samples(i64::MIN, usize::MAX), Err(Refusal::Before));
     assert_eq!(mill.samples(i64::MAX, usize::MAX), Ok(vec![]));
     assert_eq!(mill.samples(-2, usize::MAX), Ok(vec![0, 1, 0, 1]));

@@ -1,8 +1,9 @@
-//! Each question is answered as a plain scan over the samples answers it.
+//! Each question is answered as a plain scan over the samples answers it, and searches read the nodes of the walk.
 
 mod plain;
 
 use capture::{Capture, Lines, Refusal, View, CHUNK, MOST_PIXELS};
+use plain::walk::Walk;
 use plain::Rng;
 
 fn captured(samples: &[Lines], unit: usize) -> Capture {
@@ -34,7 +35,7 @@ fn mask(rng: &mut Rng) -> Lines {
 
 /// Asks a capture everything, some times over.
 fn ask(rng: &mut Rng, samples: &[Lines], unit: usize, times: usize) {
-    let capture = captured(samples, unit);
+    let (capture, walk) = (captured(samples, unit), Walk::over(samples));
     let len = samples.len();
     assert_eq!((capture.unit(), capture.len(), capture.mark()), (unit, len, None));
     assert_eq!(capture.whole(), Ok(()));
@@ -43,21 +44,13 @@ fn ask(rng: &mut Rng, samples: &[Lines], unit: usize, times: usize) {
     for _ in 0..times {
         let (mask, a, b) = (mask(rng), place(rng, len), place(rng, len));
         assert_eq!(capture.get(a).ok(), samples.get(a).copied());
-        assert_eq!(
-            capture.next_change(mask, a),
-            plain::next_change(samples, mask, a),
-            "next {mask} {a}"
-        );
-        assert_eq!(
-            capture.prev_change(mask, a),
-            plain::prev_change(samples, mask, a),
-            "prev {mask} {a}"
-        );
+        assert_eq!(capture.next_change(mask, a), walk.next_change(mask, a), "next {mask} {a}");
+        assert_eq!(capture.prev_change(mask, a), walk.prev_change(mask, a), "prev {mask} {a}");
         assert_eq!(capture.summary(a, b), plain::summary(samples, a, b), "summary {a} {b}");
         let (gap, tolerance, budget) = (place(rng, 2000), place(rng, 100), rng.below(5));
         assert_eq!(
             capture.burst_at(mask, a, gap, tolerance, budget),
-            plain::burst_at(samples, mask, a, gap, tolerance, budget),
+            walk.burst_at(mask, a, gap, tolerance, budget),
             "burst {mask} {a} {gap} {tolerance} {budget}"
         );
         let start = (rng.below(2 * len + 10) as f64 - len as f64) / rng.pick(&[1.0, 3.0, 7.5]);
@@ -112,14 +105,14 @@ fn a_lone_change_is_found_wherever_it_is() {
         samples[at..].fill(0x1f0);
         let capture = captured(&samples, 2);
         for from in [0, at - 1] {
-            assert_eq!(capture.next_change(0x100, from), Some(at));
+            assert_eq!(capture.next_change(0x100, from).found, Some(at));
         }
-        assert_eq!(capture.next_change(0x100, at), None);
+        assert_eq!(capture.next_change(0x100, at).found, None);
         for from in [at, len - 1, usize::MAX] {
-            assert_eq!(capture.prev_change(0x100, from), Some(at));
+            assert_eq!(capture.prev_change(0x100, from).found, Some(at));
         }
-        assert_eq!(capture.prev_change(0x100, at - 1), None);
-        assert_eq!(capture.next_change(0x0ff, 0), None);
+        assert_eq!(capture.prev_change(0x100, at - 1).found, None);
+        assert_eq!(capture.next_change(0x0ff, 0).found, None);
         assert!(capture.changes(0xffff, 0).eq([at]));
     }
 }

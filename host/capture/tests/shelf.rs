@@ -16,11 +16,11 @@ fn a() -> Capture {
 
 #[test]
 fn examples_1_to_5_searches() {
-    assert_eq!(a().next_change(1, 0), Some(2));
-    assert_eq!(a().next_change(1, 7), None);
-    assert_eq!(a().next_change(1, usize::MAX), None);
-    assert_eq!(a().prev_change(1, 6), Some(4));
-    assert_eq!(a().prev_change(1, 100), Some(7));
+    assert_eq!(a().next_change(1, 0).found, Some(2));
+    assert_eq!(a().next_change(1, 7).found, None);
+    assert_eq!(a().next_change(1, usize::MAX).found, None);
+    assert_eq!(a().prev_change(1, 6).found, Some(4));
+    assert_eq!(a().prev_change(1, 100).found, Some(7));
 }
 
 #[test]
@@ -33,10 +33,10 @@ fn examples_6_and_7_summaries() {
 fn examples_8_to_10_bursts() {
     let burst =
         |first, last, jumps_at_end| Some(Burst { first, last, jumps_at_end, jumps_at_start: 0 });
-    assert_eq!(a().burst_at(1, 3, 4, 0, 1), burst(2, 7, 1));
-    assert_eq!(a().burst_at(1, 3, 3, 0, 1), burst(2, 4, 0));
+    assert_eq!(a().burst_at(1, 3, 4, 0, 1).found, burst(2, 7, 1));
+    assert_eq!(a().burst_at(1, 3, 3, 0, 1).found, burst(2, 4, 0));
     let b = captured(&[0, 1, 0, 0, 0, 0, 0, 0, 1, 0]);
-    assert_eq!(b.burst_at(1, 5, 4, 3, 9), burst(1, 2, 0));
+    assert_eq!(b.burst_at(1, 5, 4, 3, 9).found, burst(1, 2, 0));
 }
 
 #[test]

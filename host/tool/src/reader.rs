@@ -4,7 +4,7 @@ use crate::args::Args;
 use crate::failure::{bad, Failure};
 use crate::lines;
 use crate::recording::Recording;
-use capture::{Burst, Lines, Mill, Node, Pixel, Refusal, View};
+use capture::{Burst, Counted, Lines, Mill, Node, Pixel, Refusal, View};
 
 /// A place as its reader counts. It holds those of both readers, and sums of them.
 pub type Place = i128;
@@ -118,7 +118,7 @@ impl<'a> Reader<'a> {
         }
     }
 
-    pub fn next_change(&self, mask: Lines, from: Place) -> Result<Option<Place>, Refusal> {
+    pub fn next_change(&self, mask: Lines, from: Place) -> Result<Counted<Place>, Refusal> {
         Ok(match self {
             Reader::Service(recording) => {
                 recording.capture.next_change(mask, from_first(from)).map(|place| place as Place)
@@ -127,7 +127,7 @@ impl<'a> Reader<'a> {
         })
     }
 
-    pub fn prev_change(&self, mask: Lines, from: Place) -> Result<Option<Place>, Refusal> {
+    pub fn prev_change(&self, mask: Lines, from: Place) -> Result<Counted<Place>, Refusal> {
         Ok(match self {
             Reader::Service(recording) => {
                 recording.capture.prev_change(mask, from_first(from)).map(|place| place as Place)
@@ -141,7 +141,7 @@ impl<'a> Reader<'a> {
         mask: Lines,
         sample: Place,
         [max_gap, tolerance, budget]: [usize; 3],
-    ) -> Result<Option<Burst<Place>>, Refusal> {
+    ) -> Result<Counted<Burst<Place>>, Refusal> {
         Ok(match self {
             Reader::Service(recording) => recording
                 .capture

@@ -4,8 +4,9 @@ mod common;
 #[path = "../../capture/tests/plain/mod.rs"]
 mod plain;
 
-use capture::View;
+use capture::{Burst, View};
 use common::{Folder, Run};
+use plain::walk::Walk;
 use plain::Rng;
 
 /// A capture file with a mark.
@@ -51,12 +52,13 @@ fn answers_are_those_of_plain_scans_moved_and_cut() {
         let (from, to) = (moved(a), moved(b));
         let number = |lines: u16| i64::from(lines & seen);
 
-        let next = plain::next_change(s, seen, a).map(|place| [moved(place)]);
-        ask(&folder, &format!("next --from {from} {asked}"), &text(next));
-        let prev = plain::prev_change(s, seen, a).map(|place| [moved(place)]);
-        ask(&folder, &format!("prev --from {from} {asked}"), &text(prev));
-        let last = plain::prev_change(s, seen, len).map(|place| [moved(place)]);
-        ask(&folder, &format!("prev {asked}"), &text(last));
+        let walk = Walk::over(s);
+        let next = walk.next_change(seen, a).map(|place| moved(place).to_string());
+        folder.search(&format!("next --from {from} {asked}"), next);
+        let prev = walk.prev_change(seen, a).map(|place| moved(place).to_string());
+        folder.search(&format!("prev --from {from} {asked}"), prev);
+        let last = walk.prev_change(seen, len).map(|place| moved(place).to_string());
+        folder.search(&format!("prev {asked}"), last);
 
         let changes = (a.max(1)..b.min(len)).filter(|&i| (s[i] ^ s[i - 1]) & seen != 0);
         let changes = changes.map(|i| [moved(i), number(s[i]), number(s[i] ^ s[i - 1])]);
@@ -66,12 +68,12 @@ fn answers_are_those_of_plain_scans_moved_and_cut() {
         assert_eq!(total.out, format!("{}\n", changes.len()));
 
         let (gap, tolerance, budget) = (rng.below(50), rng.below(50), rng.below(5));
-        let burst = plain::burst_at(s, seen, a, gap, tolerance, budget).map(|burst| {
-            let jumps = [burst.jumps_at_end, burst.jumps_at_start].map(|jumps| jumps as i64);
-            [moved(burst.first), moved(burst.last), jumps[0], jumps[1]]
+        let burst = walk.burst_at(seen, a, gap, tolerance, budget).map(|burst| {
+            let Burst { first, last, jumps_at_end, jumps_at_start } = burst;
+            format!("{} {} {jumps_at_end} {jumps_at_start}", moved(first), moved(last))
         });
         let how = format!("--at {from} --gap {gap} --tolerance {tolerance} --budget {budget}");
-        ask(&folder, &format!("burst {how} {asked}"), &text(burst));
+        folder.search(&format!("burst {how} {asked}"), burst);
 
         let node = plain::summary(s, a, b);
         let node = node.map(|node| [node.first, node.last, node.toggles].map(number));
@@ -109,14 +111,20 @@ fn files_alike_in_granted_lines_give_the_same() {
         "next --from -3 --lines 2",
         "next --lines 1",
         "next --from -4",
+        "next --read",
+        "next --read --lines 2 --from 2",
+        "next --read --lines 1",
         "prev",
         "prev --from mark --lines 0",
+        "prev --read",
         "changes",
         "changes --hex",
         "changes --bits --from -1 --to end-1",
         "changes --total",
         "burst --at 0 --gap 3",
         "burst --at mark-2 --gap 9 --lines 2,0",
+        "burst --at 0 --gap 3 --read",
+        "burst --at 0 --gap 1 --read",
         "summary",
         "summary --hex --from 0",
         "summary --from -3 --to -4",

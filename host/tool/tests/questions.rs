@@ -4,8 +4,9 @@ mod common;
 #[path = "../../capture/tests/plain/mod.rs"]
 mod plain;
 
-use capture::{Lines, View};
+use capture::{Burst, Lines, View};
 use common::{Folder, Run};
+use plain::walk::Walk;
 use plain::Rng;
 use std::fmt::Write as _;
 
@@ -57,10 +58,11 @@ fn answers_are_those_of_plain_scans() {
         let (a, b) = (rng.below(len + 3), rng.below(len + 3));
         let number = usize::from;
 
-        let next = plain::next_change(s, mask, a);
-        ask(&folder, &format!("next {lines} --from {a} {file}"), &text(next.map(|place| [place])));
-        let prev = plain::prev_change(s, mask, a);
-        ask(&folder, &format!("prev {lines} --from {a} {file}"), &text(prev.map(|place| [place])));
+        let walk = Walk::over(s);
+        let next = walk.next_change(mask, a).map(|place| place.to_string());
+        folder.search(&format!("next {lines} --from {a} {file}"), next);
+        let prev = walk.prev_change(mask, a).map(|place| place.to_string());
+        folder.search(&format!("prev {lines} --from {a} {file}"), prev);
 
         let changes = (a.max(1)..b.min(len)).filter(|&i| (s[i] ^ s[i - 1]) & mask != 0);
         let changes = changes.map(|i| [i, number(s[i] & mask), number((s[i] ^ s[i - 1]) & mask)]);
@@ -71,11 +73,12 @@ fn answers_are_those_of_plain_scans() {
         assert_eq!(total.status, i32::from(changes.is_empty()));
 
         let (gap, tolerance, budget) = (rng.below(50), rng.below(50), rng.below(5));
-        let burst = plain::burst_at(s, mask, a, gap, tolerance, budget);
-        let burst =
-            burst.map(|burst| [burst.first, burst.last, burst.jumps_at_end, burst.jumps_at_start]);
+        let burst = walk.burst_at(mask, a, gap, tolerance, budget).map(|burst| {
+            let Burst { first, last, jumps_at_end, jumps_at_start } = burst;
+            format!("{first} {last} {jumps_at_end} {jumps_at_start}")
+        });
         let asked = format!("--at {a} --gap {gap} --tolerance {tolerance} --budget {budget}");
-        ask(&folder, &format!("burst {lines} {asked} {file}"), &text(burst));
+        folder.search(&format!("burst {lines} {asked} {file}"), burst);
 
         let node = plain::summary(s, a, b);
         let node = node
@@ -131,6 +134,31 @@ fn places_from_the_mark_and_the_end() {
     folder.run("next --from end a.cap").none();
     folder.run("next --from 18446744073709551615 a.cap").none();
     folder.run("samples --from 18446744073709551615 a.cap").none();
+}
+
+#[test]
+fn the_nodes_read_stand_behind_the_answer() {
+    let folder = saved("questions-read");
+    let none = |out: &str| Run { status: 1, out: out.into(), err: String::new() };
+    // The capture is shorter than a node, so each node read is a sample.
+    assert_eq!(folder.run("next --read --lines 0 a.cap").yes(), "2 2\n");
+    assert_eq!(folder.run("next --read --lines 0 --from 7 a.cap"), none("none 0\n"));
+    assert_eq!(folder.run("next --lines 1 --from 5 --read a.cap"), none("none 2\n"));
+    assert_eq!(folder.run("prev --lines 0 --from 6 a.cap --read").yes(), "4 3\n");
+    assert_eq!(
+        folder.run("burst --read --lines 0 --at 3 --gap 4 --budget 1 a.cap").yes(),
+        "2 7 1 0 6\n"
+    );
+    assert_eq!(folder.run("burst --read --lines 0 --at 3 --gap 2 a.cap"), none("none 3\n"));
+    assert_eq!(folder.run("burst --read --lines 0 --at 3 --gap 1 a.cap"), none("none 0\n"));
+    // A mill reads the same nodes; its places count from the mark.
+    assert_eq!(folder.run("next --read --grant 0 a.cap").yes(), "0 2\n");
+    assert_eq!(folder.run("next --read --grant 0 --from 5 a.cap"), none("none 0\n"));
+    assert_eq!(folder.run("prev --read --grant 0,5 --lines 0 --from 4 a.cap").yes(), "2 3\n");
+    assert_eq!(
+        folder.run("burst --read --grant 0 --at 1 --gap 4 --budget 1 a.cap").yes(),
+        "0 5 1 0 6\n"
+    );
 }
 
 #[test]

@@ -44,22 +44,33 @@ pub fn summary(s: &[u16], a: u64, b: u64) -> Option<[u16; 3]> {
 
 /// First and last change, then the jumps made at the end and at the start.
 pub fn burst(s: &[u16], b: &Burst) -> Option<[u64; 4]> {
-    if s.is_empty() || b.max_gap < 2 {
+    let (prev, next) = (|from| prev(s, b.mask, from), |from| next(s, b.mask, from));
+    burst_by(s.len() as u64, prev, next, b)
+}
+
+/// The same over any two searches, made as `burst_at` makes them: none without need.
+pub fn burst_by(
+    len: u64,
+    prev: impl Fn(u64) -> Option<u64>,
+    next: impl Fn(u64) -> Option<u64>,
+    b: &Burst,
+) -> Option<[u64; 4]> {
+    if len == 0 || b.max_gap < 2 {
         return None;
     }
-    let (mut first, mut last) = pair(s, b)?;
+    let (mut first, mut last) = pair(&prev, &next, b)?;
     let (mut at_end, mut at_start) = (0, 0);
     while at_end < b.budget {
         // last + max_gap is at least 2, and beyond 2^64 − 1 it counts as that.
         let furthest = (last as u128 + b.max_gap as u128 - 1).min(u64::MAX as u128) as u64;
-        match prev(s, b.mask, furthest) {
+        match prev(furthest) {
             Some(place) if place > last => last = place,
             _ => break,
         }
         at_end += 1;
     }
     while at_start < b.budget {
-        match next(s, b.mask, first.saturating_sub(b.max_gap)) {
+        match next(first.saturating_sub(b.max_gap)) {
             Some(place) if place < first => first = place,
             _ => break,
         }
@@ -69,9 +80,13 @@ pub fn burst(s: &[u16], b: &Burst) -> Option<[u64; 4]> {
 }
 
 /// The two neighbouring changes that a burst grows from.
-fn pair(s: &[u16], b: &Burst) -> Option<(u64, u64)> {
+fn pair(
+    prev: impl Fn(u64) -> Option<u64>,
+    next: impl Fn(u64) -> Option<u64>,
+    b: &Burst,
+) -> Option<(u64, u64)> {
     let tolerance = b.tolerance.min(b.max_gap - 1);
-    let (p, n) = (prev(s, b.mask, b.sample), next(s, b.mask, b.sample));
+    let (p, n) = (prev(b.sample), next(b.sample));
     if let (Some(p), Some(n)) = (p, n) {
         if n - p < b.max_gap {
             return Some((p, n));
@@ -79,9 +94,9 @@ fn pair(s: &[u16], b: &Burst) -> Option<(u64, u64)> {
     }
     let near = |pair: &(u64, u64)| pair.1 - pair.0 < b.max_gap;
     let left = p.filter(|p| b.sample - p <= tolerance);
-    let left = left.and_then(|p| Some((prev(s, b.mask, p - 1)?, p))).filter(near);
+    let left = left.and_then(|p| Some((prev(p - 1)?, p))).filter(near);
     let right = n.filter(|n| n - b.sample <= tolerance);
-    let right = right.and_then(|n| Some((n, next(s, b.mask, n)?))).filter(near);
+    let right = right.and_then(|n| Some((n, next(n)?))).filter(near);
     match (left, right) {
         (Some(l), Some(r)) if r.0 - b.sample < b.sample - l.1 => Some(r),
         (Some(l), _) => Some(l),

@@ -77,7 +77,7 @@ impl Memory {
     }
 
     /// First, last and toggles of a node; at level 0 of a sample.
-    fn node(&self, unit: usize, level: usize, number: usize) -> [u16; 3] {
+    pub fn node(&self, unit: usize, level: usize, number: usize) -> [u16; 3] {
         if level > 0 {
             let at = &self.levels[level - 1][3 * number..];
             return [at[0], at[1], at[2]];

@@ -1,8 +1,9 @@
 //! The calls of a mill's reader. Negative places are given as 64 bits.
 
-use super::{found, said, Port};
+use super::walk::Way;
+use super::{found, said, Port, UNREAD};
 use crate::document::listed;
-use crate::op::{Ask, Mill};
+use crate::op::{Ask, Burst, Mill};
 use crate::side::Answer;
 use port::mill::Asked;
 use port::{Lent, Record};
@@ -36,18 +37,14 @@ impl Port {
                 self.kept(code, "node", before, node);
                 found(code, node.map(u64::from))
             }
-            Ask::Next { mask, from } => self.change(port::mill::next_change, grant, mask, from),
-            Ask::Prev { mask, from } => self.change(port::mill::prev_change, grant, mask, from),
+            Ask::Next { mask, from } => {
+                self.change(port::mill::next_change, Way::Next, grant, mask, from)
+            }
+            Ask::Prev { mask, from } => {
+                self.change(port::mill::prev_change, Way::Prev, grant, mask, from)
+            }
             Ask::Burst { mask, sample, max_gap, tolerance, budget } => {
-                let [max_gap, tolerance, budget] = [max_gap, tolerance, budget].map(|n| n as usize);
-                let asked = Asked { mask, sample, max_gap, tolerance, budget };
-                let before = ([-51, -52], [53, 54]);
-                let (mut ends, mut jumps) = before;
-                let (record, lent) = (&self.record, self.lent());
-                let code = port::mill::burst_at(record, lent, grant, asked, &mut ends, &mut jumps);
-                self.kept(code, "burst", before, (ends, jumps));
-                let ([first, last], [at_end, at_start]) = (ends, jumps);
-                found(code, [first as u64, last as u64, at_end as u64, at_start as u64])
+                self.burst_of_mill(grant, mask, sample, [max_gap, tolerance, budget])
             }
             Ask::Render(view) => {
                 let (start, spp, width) = (view.start, view.spp, view.width as usize);
@@ -61,14 +58,59 @@ impl Port {
 
     fn change(
         &mut self,
-        call: impl Fn(&Record, Lent, u16, u16, i64, &mut i64) -> u32,
+        call: impl Fn(&Record, Lent, u16, u16, i64, &mut i64, &mut usize) -> u32,
+        way: Way,
         grant: u16,
         mask: u16,
         from: i64,
     ) -> Answer {
-        let mut place = -61;
-        let code = call(&self.record, self.lent(), grant, mask, from, &mut place);
+        let (mut place, mut read) = (-61, UNREAD);
+        let code = call(&self.record, self.lent(), grant, mask, from, &mut place, &mut read);
         self.kept(code, "place", -61, place);
-        found(code, [place as u64])
+        self.searched(code, [place as u64], read, |port| {
+            let walked = port.walk(mask).search(way, port.run_place(from));
+            walked.map(|place| [port.counted(place)])
+        })
+    }
+
+    fn burst_of_mill(&mut self, grant: u16, mask: u16, sample: i64, bounds: [u64; 3]) -> Answer {
+        let [max_gap, tolerance, budget] = bounds.map(|n| n as usize);
+        let asked = Asked { mask, sample, max_gap, tolerance, budget };
+        let before = ([-51, -52], [53, 54]);
+        let ((mut ends, mut jumps), mut read) = (before, UNREAD);
+        let (record, lent) = (&self.record, self.lent());
+        let code =
+            port::mill::burst_at(record, lent, grant, asked, &mut ends, &mut jumps, &mut read);
+        self.kept(code, "burst", before, (ends, jumps));
+        let ([first, last], [at_end, at_start]) = (ends, jumps);
+        let values = [first as u64, last as u64, at_end as u64, at_start as u64];
+        self.searched(code, values, read, |port| {
+            let [max_gap, tolerance, budget] = bounds;
+            let sample = port.run_place(sample);
+            let burst = Burst { mask, sample, max_gap, tolerance, budget };
+            port.walk(mask).burst(&burst).map(|[first, last, at_end, at_start]| {
+                [port.counted(first), port.counted(last), at_end, at_start]
+            })
+        })
+    }
+
+    /// Where the mill's places count from.
+    fn origin(&self) -> u64 {
+        let [.., marked, mark] = self.record;
+        if marked == 0 {
+            0
+        } else {
+            mark as u64
+        }
+    }
+
+    /// The place of the run that a mill's place is. One before the first sample is refused, and nothing walks from it.
+    fn run_place(&self, place: i64) -> u64 {
+        self.origin().wrapping_add_signed(place)
+    }
+
+    /// A place of the run as the mill counts.
+    fn counted(&self, place: u64) -> u64 {
+        place.wrapping_sub(self.origin())
     }
 }

@@ -59,6 +59,7 @@ impl Port {
         self.kept(code, "recorder", (before, 77), (feeder, cut));
         if code == 0 {
             self.recording = Some(Recording { settings: settings.clone(), accepted: Vec::new() });
+            self.made = true;
             self.set(feeder);
         }
         said(code, || vec![feeder[0] as u64, feeder[6] as u64, cut as u64])
@@ -67,6 +68,7 @@ impl Port {
     /// The record says that memory, whatever it holds, has this many samples; to a recorder they are its run so far.
     pub fn hold(&mut self, len: usize) {
         self.record[2] = len;
+        self.made = false;
         if let Some(recording) = &mut self.recording {
             let unit = self.record[0];
             recording.accepted = rules::samples(&self.memory.samples[..len * unit], unit as u64);

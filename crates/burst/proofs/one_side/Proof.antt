@@ -2,27 +2,28 @@
 use Prim.Native.Nat.{ℕ, _-_}
 use mathlib.Core.Path.{_≡_, refl, sym, ap, ap₂, _∙_}
 use mathlib.Core.Bool.{cond, not}
-use mathlib.Core.Option.{Option, none, some}
+use mathlib.Core.Option.{Option}
 use lib.Dec.{ltb}
 use borrow.Author.Needs.{needs}
 use denote.Ref.{now}
 use Rattle.rules.specs.Burst.{Side, sideIf}
+use Rattle.rules.specs.Walk.{Counted, Walked}
 use Rattle.node.specs.Memory.{levelOf}
 use Rattle.burst.specs.declared.Change.{Change}
-use Rattle.burst.specs.Answer.{back, fore, changeAs, sideOf}
-use Rattle.burst.proofs.Sides.{beyondFrom, sideWith, side-none, side-far, side-near, side-is}
+use Rattle.burst.specs.Answer.{counted, back, fore, changeAs, soughtAs, sidedBy}
+use Rattle.burst.proofs.Sides.{pairAt, beyondFrom, sideWith, side-none, side-far, side-near, side-is}
 use Rattle.burst.proofs.one_side.Statement.{statement}
 use Rattle.burst.proofs.one_side.Tie as tie
 
 -- the two searches, and the contract's side
-abbrev back-at : tie.Start → ℕ → Option ℕ
+abbrev back-at : tie.Start → ℕ → Walked
 back-at s = back (s .args .unitsize) (s .args .len) (now (s .args .samples)) (levelOf (now (s .args .l1)) (now (s .args .l2)) (now (s .args .l3)) (now (s .args .l4))) (s .args .mask)
 
-abbrev fore-at : tie.Start → ℕ → Option ℕ
+abbrev fore-at : tie.Start → ℕ → Walked
 fore-at s = fore (s .args .unitsize) (s .args .len) (now (s .args .samples)) (levelOf (now (s .args .l1)) (now (s .args .l2)) (now (s .args .l3)) (now (s .args .l4))) (s .args .mask)
 
-abbrev side-at : tie.Start → Option ℕ → Option Side
-side-at s = sideOf (back-at s) (fore-at s) (s .args .start) (s .args .gap) (s .args .tolerance) (s .args .sample)
+abbrev side-at : tie.Start → Option ℕ → Counted Side
+side-at s = sidedBy (back-at s) (fore-at s) (s .args .start) (s .args .gap) (s .args .tolerance) (s .args .sample)
 
 -- where the distance of a change is known: the change, and the search for the one beyond it
 abbrev start-at : tie.After-less → tie.Start
@@ -31,21 +32,34 @@ start-at d = d .before .before .before .before .before .before .before .before .
 abbrev near-at : tie.After-less → ℕ
 near-at d = d .before .before .before .before .found .given .0 .0
 
-abbrev beyond-at : tie.After-less → Option ℕ
+abbrev beyond-at : tie.After-less → Walked
 beyond-at d = let s = start-at d in cond (not (s .args .start)) (fore-at s) (back-at s) (beyondFrom (s .args .start) (near-at d))
 
 -- the contract's side is the one by that search
-told : (d : tie.After-less) (beyond : Option ℕ) → beyond ≡ beyond-at d
+told : (d : tie.After-less) (beyond : Walked) → beyond ≡ beyond-at d
     → sideWith (start-at d .args .start) (start-at d .args .gap) (start-at d .args .tolerance) (d .less .result) (near-at d) beyond ≡ side-at (start-at d) (changeAs (start-at d .args .found))
 told d beyond e =
     let s = start-at d in
     side-is (back-at s) (fore-at s) (s .args .start) (s .args .gap) (s .args .tolerance) (s .args .sample) (d .less .result) (near-at d) beyond _ (d .less .ensures ∙ ap₂ _-_ (d .before .before .pick .ensures) (d .before .pick2 .ensures)) e (ap changeAs (d .before .before .before .before .found .given .1))
 
-sought : (v : tie.After-seek) → changeAs (v .seek .result) ≡ beyond-at (v .before .before .before .before)
+sought : (v : tie.After-seek) → soughtAs (v .seek .result) ≡ beyond-at (v .before .before .before .before)
 sought v =
     let d = v .before .before .before .before in
     let s = start-at d in
     v .seek .ensures ∙ ap (cond (not (s .args .start)) (fore-at s) (back-at s)) (v .before .pick3 .ensures ∙ ap (λ (x : ℕ). cond (s .args .start) x (near-at d)) (v .before .before .less2 .ensures))
+
+-- within the tolerance the side is the one by what the search finds
+abbrev found-at : tie.After-seek → Option ℕ → Counted Side
+found-at v o =
+    let d = v .before .before .before .before in
+    let a = start-at d .args in
+    counted (pairAt (a .start) (a .gap) (d .less .result) (near-at d) o) (v .seek .result .read)
+
+near-is : (v : tie.After-seek) → found-at v (changeAs (v .seek .result .change)) ≡ side-at (start-at (v .before .before .before .before)) (changeAs (start-at (v .before .before .before .before) .args .found))
+near-is v =
+    let d = v .before .before .before .before in
+    let a = start-at d .args in
+    side-near (a .start) (a .gap) (a .tolerance) (d .less .result) (near-at d) (soughtAs (v .seek .result)) (v .before .before .before .if1 .left) ∙ told d (soughtAs (v .seek .result)) (sought v)
 
 enum-known-found : tie.Need-enum-known-found
 enum-known-found c = search needs
@@ -89,9 +103,7 @@ enum-told-2 : tie.Need-enum-told-2
 enum-told-2 c = search needs
 
 returns-3 : tie.Need-returns-3
-returns-3 c =
-    let v = c .before .before in
-    told (v .before .before .before .before) none (sym (ap changeAs (c .enum-told2 .given .1)) ∙ sought v)
+returns-3 c = let v = c .before .before in sym (ap (λ (o : Change). found-at v (changeAs o)) (c .enum-told2 .given .1)) ∙ near-is v
 
 pick-requires-4 : tie.Need-pick-requires-4
 pick-requires-4 c κs = search needs
@@ -108,11 +120,10 @@ returns-4 c =
     let v = m .before .before in
     let d = v .before .before .before .before in
     let a = start-at d .args in
-    let q = m .change .given .0 .0 in
-    c .side-of .ensures
-    ∙ ap₂ (λ (x y : ℕ). sideIf (ltb (y - x) (a .gap)) (record { distance = d .less .result; first = x; last = y })) (c .before .before .pick4 .ensures) (c .before .pick5 .ensures)
-    ∙ side-near (a .start) (a .gap) (a .tolerance) (d .less .result) (near-at d) q (v .before .before .before .if1 .left)
-    ∙ told d (some q) (sym (ap changeAs (m .change .given .1)) ∙ sought v)
+    ap (λ (o : Option Side). counted o (v .seek .result .read))
+    (c .side-of .ensures ∙ ap₂ (λ (x y : ℕ). sideIf (ltb (y - x) (a .gap)) (record { distance = d .less .result; first = x; last = y })) (c .before .before .pick4 .ensures) (c .before .pick5 .ensures))
+    ∙ sym (ap (λ (o : Change). found-at v (changeAs o)) (m .change .given .1))
+    ∙ near-is v
 
 pub one-side-spec : {M : Type 1} → statement M
 one-side-spec =

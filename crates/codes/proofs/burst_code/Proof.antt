@@ -1,11 +1,9 @@
 -- `codes::burst_code` says what the answer means. Assumes nothing.
 use mathlib.Core.Path.{refl}
 use borrow.Author.Needs.{needs}
-use Rattle.burst.specs.declared.Bursts.{Bursts}
 use Rattle.burst.specs.Answer.{burstAs}
 use Rattle.codes.specs.Record.{burstNumbers}
-use Rattle.codes.specs.Code.{perhaps}
-use Rattle.codes.proofs.Coded.{coded}
+use Rattle.codes.proofs.Coded.{sought-coded}
 use Rattle.codes.proofs.burst_code.Statement.{statement}
 use Rattle.codes.proofs.burst_code.Tie as tie
 
@@ -30,17 +28,17 @@ element-write-ends-3 c = search needs
 element-write-ends-4 : tie.Need-element-write-ends-4
 element-write-ends-4 c = search needs
 
-enum-told : tie.Need-enum-told
-enum-told c = search needs
+enum-known-answer-3 : tie.Need-enum-known-answer-3
+enum-known-answer-3 c = search needs
 
 returns : tie.Need-returns
-returns c = coded burstNumbers (λ (x : Bursts). perhaps (burstAs x)) _ _ _ (c .before .before .answer .given .1) (c .code .ensures) refl
+returns c = sought-coded burstNumbers burstAs (c .before .before .answer .given .1) (record { find = record { code-is = c .code .ensures; value-is = refl }; count = record { code-is = c .code .ensures; value-is = refl } })
 
 returns-2 : tie.Need-returns-2
-returns-2 c = coded burstNumbers (λ (x : Bursts). perhaps (burstAs x)) _ _ _ (c .before .answer2 .given .1) refl refl
+returns-2 c = sought-coded burstNumbers burstAs (c .before .answer2 .given .1) (record { find = record { code-is = refl; value-is = refl }; count = record { code-is = refl; value-is = refl } })
 
 returns-3 : tie.Need-returns-3
-returns-3 c = coded burstNumbers (λ (x : Bursts). perhaps (burstAs x)) _ _ _ (c .enum-told .given .1) refl refl
+returns-3 c = search needs
 
 pub burst-code-spec : {M : Type 1} → statement M
 burst-code-spec =
@@ -53,7 +51,7 @@ burst-code-spec =
     element-write-ends-2
     element-write-ends-3
     element-write-ends-4
-    enum-told
+    enum-known-answer-3
     returns
     returns-2
     returns-3)

@@ -27,20 +27,23 @@ run-requires c κs =
     (sym (c .least .ensures ∙ ap₂ min (c .before .before .few .ensures) (c .before .left .ensures)))
     (few-held (a .unitsize) (a .len) (now (a .samples)) (now (a .level)) (a .back) (a .start) (s .pre .1) (s .pre .0) (omega arith))
 
+add-count : tie.Need-add-count
+add-count c = omega arith
+
 moved-requires : tie.Need-moved-requires
 moved-requires c κs =
-    let f = c .before .before .before in
+    let f = c .before .before .before .before in
     let s = f .before .before .before .before .before in
     let a = s .args in
-    moves-fit (a .back) 0 (a .len) (a .start) (f .before .left .result) (record { low = omega arith; high = s .pre .1; room-is = f .before .left .ensures }) (c .before .before .run .result .count) (omega arith) (omega arith)
+    moves-fit (a .back) 0 (a .len) (a .start) (f .before .left .result) (record { low = omega arith; high = s .pre .1; room-is = f .before .left .ensures }) (c .before .before .before .run .result .count) (omega arith) (omega arith)
 
 returns : tie.Need-returns
 returns c =
-    let f = c .before .before .before .before in
+    let f = c .before .before .before .before .before in
     let a = f .before .before .before .before .before .args in
-    let r = c .before .before .before .run in
+    let r = c .before .before .before .before .run in
     near-found (a .unitsize) (a .len) (now (a .samples)) (now (a .level)) (a .back) (a .start) (a .mask) (a .before) (f .least .result) (r .result .count) (r .result .value)
-    (f .least .ensures ∙ ap₂ min (f .before .before .few .ensures) (f .before .left .ensures)) (r .ensures) (c .before .if1 .taken) (c .moved .ensures)
+    (f .least .ensures ∙ ap₂ min (f .before .before .few .ensures) (f .before .left .ensures)) (r .ensures) (c .before .before .if1 .taken) (c .moved .ensures)
 
 returns-2 : tie.Need-returns-2
 returns-2 c =
@@ -51,4 +54,4 @@ returns-2 c =
     (f .least .ensures ∙ ap₂ min (f .before .before .few .ensures) (f .before .left .ensures)) (r .ensures) (c .if1 .left)
 
 pub near-spec : {M : Type 1} → statement M
-near-spec = tie.close (tie.spec few-requires left-requires least-requires run-requires moved-requires returns returns-2)
+near-spec = tie.close (tie.spec few-requires left-requires least-requires run-requires add-count moved-requires returns returns-2)

@@ -5,8 +5,7 @@ use Rattle.node.specs.Memory.{levelOf}
 use Rattle.capture.specs.declared.Capture.{Capture}
 use Rattle.burst.specs.Answer.{burstAs, burstOf}
 use Rattle.codes.specs.Record.{burstNumbers}
-use Rattle.codes.specs.Code.{perhaps}
-use Rattle.logic_core.proofs.Codes.{told-by}
+use Rattle.logic_core.proofs.Codes.{sought-by}
 use Rattle.logic_core.proofs.lc_burst_at.Statement.{statement}
 use Rattle.logic_core.proofs.lc_burst_at.Tie as tie
 
@@ -21,8 +20,8 @@ burst-code-requires c κs = search needs
 
 returns : tie.Need-returns
 returns c =
-    let a = c .before .before .before .before .before .before .before .before .before .args in
-    told-by burstNumbers perhaps burstAs (λ (x : Capture). burstOf x (now (a .samples)) (levelOf (now (a .l1)) (now (a .l2)) (now (a .l3)) (now (a .l4))) (a .mask) (a .sample) (a .max-gap) (a .tolerance) (a .budget)) (c .before .before .burst-at .result) _ _ _ (c .before .before .before .capture-in .ensures) (c .before .before .burst-at .ensures) (c .burst-code .ensures)
+    let a = c .before .before .before .before .before .before .before .before .before .before .args in
+    sought-by burstNumbers burstAs (λ (x : Capture). burstOf x (now (a .samples)) (levelOf (now (a .l1)) (now (a .l2)) (now (a .l3)) (now (a .l4))) (a .mask) (a .sample) (a .max-gap) (a .tolerance) (a .budget)) (c .before .before .before .burst-at .result) (c .before .before .before .before .capture-in .ensures) (c .before .before .before .burst-at .ensures) (c .burst-code .ensures)
 
 pub lc-burst-at-spec : {M : Type 1} → statement M
 lc-burst-at-spec = tie.close (tie.spec capture-in-requires burst-at-requires burst-code-requires returns)

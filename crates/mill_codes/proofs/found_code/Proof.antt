@@ -3,9 +3,7 @@ use mathlib.Core.Path.{refl}
 use borrow.Author.Needs.{needs}
 use mir.Syntax.{w64}
 use mir.ValLaws.{toZ-ofZ}
-use Rattle.codes.specs.Code.{perhaps}
-use Rattle.codes.proofs.Coded.{coded}
-use Rattle.mill_search.specs.declared.Found.{Found}
+use Rattle.codes.proofs.Coded.{sought-coded}
 use Rattle.mill_search.specs.Answer.{foundOf}
 use Rattle.mill_codes.specs.Written.{place}
 use Rattle.mill_codes.proofs.found_code.Statement.{statement}
@@ -20,17 +18,17 @@ code-requires c κs = search needs
 enum-known-answer-2 : tie.Need-enum-known-answer-2
 enum-known-answer-2 c = search needs
 
-enum-told : tie.Need-enum-told
-enum-told c = search needs
+enum-known-answer-3 : tie.Need-enum-known-answer-3
+enum-known-answer-3 c = search needs
 
 returns : tie.Need-returns
-returns c = coded place (λ (x : Found). perhaps (foundOf x)) _ _ _ (c .before .before .answer .given .1) (c .code .ensures) refl
+returns c = sought-coded place foundOf (c .before .before .answer .given .1) (record { find = record { code-is = c .code .ensures; value-is = refl }; count = record { code-is = c .code .ensures; value-is = refl } })
 
 returns-2 : tie.Need-returns-2
-returns-2 c = coded place (λ (x : Found). perhaps (foundOf x)) _ _ _ (c .before .answer2 .given .1) refl (toZ-ofZ w64 _ (record { sfits = c .known-told2 .given .0 .1 }))
+returns-2 c = sought-coded place foundOf (c .before .answer2 .given .1) (record { find = record { code-is = refl; value-is = toZ-ofZ w64 _ (record { sfits = c .known-told2 .given .0 .1 }) }; count = record { code-is = refl; value-is = refl } })
 
 returns-3 : tie.Need-returns-3
-returns-3 c = coded place (λ (x : Found). perhaps (foundOf x)) _ _ _ (c .enum-told .given .1) refl refl
+returns-3 c = sought-coded place foundOf (c .before .answer3 .given .1) (record { find = record { code-is = refl; value-is = refl }; count = record { code-is = refl; value-is = refl } })
 
 pub found-code-spec : {M : Type 1} → statement M
 found-code-spec =
@@ -39,7 +37,7 @@ found-code-spec =
     enum-known-answer
     code-requires
     enum-known-answer-2
-    enum-told
+    enum-known-answer-3
     returns
     returns-2
     returns-3)

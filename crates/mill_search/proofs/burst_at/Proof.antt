@@ -2,11 +2,11 @@
 use Prim.Native.Nat.{ℕ}
 use mathlib.Core.Path.{_∙_}
 use mathlib.Core.List.{List}
-use mathlib.Core.Option.{Option}
 use lib.IntN.{ℤ}
 use denote.Ref.{now}
 use borrow.Author.Needs.{needs}
-use Rattle.rules.specs.Burst.{Burst, burstBy}
+use Rattle.rules.specs.Walk.{Counted, through}
+use Rattle.rules.specs.Burst.{Burst, burstedBy}
 use Rattle.rules.specs.Mill.{placeAt, shownBurst}
 use Rattle.node.specs.Memory.{levelOf}
 use Rattle.burst.specs.Answer as service
@@ -25,9 +25,9 @@ module _ (f : tie.After-refusal) where
   levels = levelOf (now (s .args .l1)) (now (s .args .l2)) (now (s .args .l3)) (now (s .args .l4))
 
   -- the service's question
-  abbrev find : ℕ → Option Burst
+  abbrev find : ℕ → Counted Burst
   find x =
-      burstBy (back (s .args .c .unitsize) (s .args .c .len) (now (s .args .samples)) levels (s .args .mask)) (fore (s .args .c .unitsize) (s .args .c .len) (now (s .args .samples)) levels (s .args .mask)) (s .args .c .len) x (s .args .max-gap) (s .args .tolerance) (s .args .budget)
+      burstedBy (back (s .args .c .unitsize) (s .args .c .len) (now (s .args .samples)) levels (s .args .mask)) (fore (s .args .c .unitsize) (s .args .c .len) (now (s .args .samples)) levels (s .args .mask)) (s .args .c .len) x (s .args .max-gap) (s .args .tolerance) (s .args .budget)
 
 beyond-requires : tie.Need-beyond-requires
 beyond-requires c κs = search needs
@@ -41,7 +41,7 @@ returns c =
     let f = c .before in
     let t = s f in
     asked-refused (t .args .c) (now (t .args .samples)) (now (t .args .l1)) (now (t .args .l2)) (now (t .args .l3)) (now (t .args .l4)) (t .args .grant) (t .args .mask) (t .args .sample) (t .fits .sample) (f .before .beyond .result) (f .before .beyond .ensures) (f .refusal .result) (f .refusal .ensures)
-    (λ (y : ℤ). shownBurst (originIn (t .args .c)) (find f (placeAt (originIn (t .args .c)) y)))
+    (λ (y : ℤ). through (shownBurst (originIn (t .args .c))) (find f (placeAt (originIn (t .args .c)) y)))
     (c .if1 .taken)
 
 origin-requires : tie.Need-origin-requires

@@ -1,6 +1,7 @@
 -- `search::chunks_fwd` meets its contract: the loop follows the walk chunk by chunk. Assumes nothing.
 use Prim.Native.Nat.{_+_, _-_, _*_, _≤_, _<_}
-use mathlib.Core.Path.{ap}
+use mathlib.Core.Path.{refl, sym, ap, _∙_}
+use mathlib.Core.Option.{Option·none-ne-some}
 use native.Mathlib.Omega.{arith}
 use denote.Ref.{now}
 use borrow.Author.Needs.{needs}
@@ -8,17 +9,18 @@ use Rattle.rules.specs.Node.{chunk}
 use Rattle.rules.specs.Walk.{ahead, chunksFor, nextWalk, allLevels}
 use Rattle.rules.specs.Answer.{given}
 use Rattle.node.specs.Memory.{levelOf, readerOf}
-use Rattle.search.proofs.Chunks.{Coursing, next-starts, not-nothing, coursing-found, coursing-on, coursing-end}
+use Rattle.find.specs.Way.{placeOf}
+use Rattle.search.proofs.Chunks.{Coursing, next-starts, coursing-counts, coursing-found, coursing-on, coursing-end}
 use Rattle.search.proofs.chunks_fwd.Statement.{statement}
 use Rattle.search.proofs.chunks_fwd.Tie as tie
 
 abbrev Inv-loop : tie.InvT-loop
-Inv-loop samples l1 l2 l3 l4 unitsize len mask from end lo₀ ci₀ lo ci =
+Inv-loop samples l1 l2 l3 l4 unitsize len mask from end lo₀ ci₀ count₀ lo ci count =
     let reader = readerOf unitsize samples (levelOf l1 l2 l3 l4) in
-    Coursing (ahead allLevels reader len) mask (nextWalk allLevels reader len mask from .found) (chunksFor len - ci) ci lo (reader 0 (lo - 1) .first) × (1 ≤ lo) × (ci * chunk ≤ lo) × (lo ≤ (ci + 1) * chunk) × (ci * chunk < len → lo ≤ len)
+    Coursing (ahead allLevels reader len) mask (nextWalk allLevels reader len mask from) count (chunksFor len - ci) ci lo (reader 0 (lo - 1) .first) × (1 ≤ lo) × (ci * chunk ≤ lo) × (lo ≤ (ci + 1) * chunk) × (ci * chunk < len → lo ≤ len)
 
 abbrev μ-loop : tie.MeasureT-loop
-μ-loop samples l1 l2 l3 l4 unitsize len mask from end lo₀ ci₀ lo ci = chunksFor len - ci
+μ-loop samples l1 l2 l3 l4 unitsize len mask from end lo₀ ci₀ count₀ lo ci count = chunksFor len - ci
 
 sub-end : tie.Need-sub-end Inv-loop μ-loop
 sub-end c = omega arith
@@ -33,7 +35,7 @@ loop-holds : tie.Need-loop-holds Inv-loop μ-loop
 loop-holds c =
     let s = c .before .before .before .before .before in
     let a = s .args in
-    (next-starts allLevels (readerOf (a .unitsize) (now (a .samples)) (levelOf (now (a .l1)) (now (a .l2)) (now (a .l3)) (now (a .l4)))) (a .mask) (a .len) (a .from) (s .pre .1), omega arith, omega arith, omega arith, λ h. omega arith)
+    (next-starts allLevels (readerOf (a .unitsize) (now (a .samples)) (levelOf (now (a .l1)) (now (a .l2)) (now (a .l3)) (now (a .l4)))) (a .mask) (a .len) (s .pre .0 .most) (a .from) (s .pre .1), omega arith, omega arith, omega arith, λ h. omega arith)
 
 sub-in-chunk : tie.Need-sub-in-chunk Inv-loop μ-loop
 sub-in-chunk c = omega arith
@@ -44,15 +46,32 @@ in-chunk-requires c κs =
     let most : c .before .loop .lo ≤ s .args .len = c .before .loop .inv .4 (omega arith) in
     (s .pre .0, record { low = omega arith; high = omega arith; most = most; stored = omega (arith, most) })
 
-enum-told : tie.Need-enum-told Inv-loop μ-loop
-enum-told c = search needs
+enum-known-p : tie.Need-enum-known-p Inv-loop μ-loop
+enum-known-p c = search needs
+
+add-count : tie.Need-add-count Inv-loop μ-loop
+add-count c =
+    let f = c .before .before .before in
+    let p = f .before .before .loop in
+    let a = f .before .before .before .before .before .before .before .before .args in
+    omega (arith, coursing-counts (p .inv .0) (chunksFor (a .len) - (p .ci + 1)) (omega arith) _ (ap placeOf (sym (c .before .p .given .1)) ∙ f .in-chunk .ensures))
 
 returns : tie.Need-returns Inv-loop μ-loop
 returns c =
-    let p = c .before .before .before .loop in
-    let s = c .before .before .before .before .before .before .before .before .before in
-    let f = c .before .in-chunk in
-    coursing-found (p .inv .0) (chunksFor (s .args .len) - (p .ci + 1)) (omega arith) (f .result) (f .ensures) (not-nothing (f .result) (c .match .keys2))
+    let f = c .before .before .before in
+    let p = f .before .before .loop in
+    let a = f .before .before .before .before .before .before .before .before .args in
+    ap given (coursing-found (p .inv .0) (chunksFor (a .len) - (p .ci + 1)) (omega arith) _ (ap placeOf (sym (c .before .p .given .1)) ∙ f .in-chunk .ensures) (λ z. Option·none-ne-some _ (sym z)))
+
+enum-known-p-2 : tie.Need-enum-known-p-2 Inv-loop μ-loop
+enum-known-p-2 c = search needs
+
+add-count-2 : tie.Need-add-count-2 Inv-loop μ-loop
+add-count-2 c =
+    let f = c .before .before .before in
+    let p = f .before .before .loop in
+    let a = f .before .before .before .before .before .before .before .before .args in
+    omega (arith, coursing-counts (p .inv .0) (chunksFor (a .len) - (p .ci + 1)) (omega arith) _ (ap placeOf (sym (c .before .p2 .given .1)) ∙ f .in-chunk .ensures))
 
 add-ci : tie.Need-add-ci Inv-loop μ-loop
 add-ci c = omega arith
@@ -65,10 +84,10 @@ loop-less c = omega arith
 
 loop-again : tie.Need-loop-again Inv-loop μ-loop
 loop-again c =
-    let p = c .before .before .before .before .loop in
-    let s = c .before .before .before .before .before .before .before .before .before .before in
-    let f = c .before .before .in-chunk in
-    (coursing-on (p .inv .0) (chunksFor (s .args .len) - (p .ci + 1)) (omega arith) (f .result) (f .ensures) (c .enum-told .given .1), omega arith, omega arith, omega arith, λ h. omega arith)
+    let f = c .before .before .before in
+    let p = f .before .before .loop in
+    let a = f .before .before .before .before .before .before .before .before .args in
+    (coursing-on (p .inv .0) (chunksFor (a .len) - (p .ci + 1)) (omega arith) _ (ap placeOf (sym (c .before .p2 .given .1)) ∙ f .in-chunk .ensures) refl, omega arith, omega arith, omega arith, λ h. omega arith)
 
 returns-2 : tie.Need-returns-2 Inv-loop μ-loop
 returns-2 c = ap given (coursing-end (c .before .loop .inv .0) (omega arith))
@@ -85,8 +104,11 @@ chunks-fwd-spec =
     loop-holds
     sub-in-chunk
     in-chunk-requires
-    enum-told
+    enum-known-p
+    add-count
     returns
+    enum-known-p-2
+    add-count-2
     add-ci
     mul-lo
     loop-less

@@ -1,13 +1,11 @@
 -- `search::in_chunk` meets its contract: a walk over the chunk's part is one over the whole. Assumes nothing.
 use Prim.Native.Nat.{ℕ, _*_}
-use mathlib.Core.Path.{ap, ap₂, _∙_}
+use mathlib.Core.Path.{ap₂, _∙_}
 use native.Mathlib.Nat.{mul-le-mul-right}
 use native.Mathlib.Omega.{arith}
 use denote.Ref.{now}
-use borrow.Author.Needs.{needs}
 use Rattle.rules.specs.Node.{chunk}
-use Rattle.rules.specs.Walk.{Walked, walkFrom}
-use Rattle.rules.specs.Answer.{given}
+use Rattle.rules.specs.Walk.{walkFrom}
 use Rattle.node.specs.Memory.{levelOf, readerOf}
 use Rattle.find.specs.Way.{wayIn}
 use Rattle.find.proofs.Part.{bytes-held, bytes-less}
@@ -55,23 +53,19 @@ find-requires : tie.Need-find-requires
 find-requires c κs =
     let h = c .before .before in
     let s = h .before .before .before .before .before .before in
-    (stored-part (s .args .unitsize) (s .args .len) (now (s .args .samples)) (levelOf (now (s .args .l1)) (now (s .args .l2)) (now (s .args .l3)) (now (s .args .l4))) (s .pre .0) (s .args .ci * chunk) (h .chunk-end .result) (omega arith) (omega arith), omega arith, omega arith)
-
-given-requires : tie.Need-given-requires
-given-requires c κs = search needs
+    (stored-part (s .args .unitsize) (s .args .len) (now (s .args .samples)) (levelOf (now (s .args .l1)) (now (s .args .l2)) (now (s .args .l3)) (now (s .args .l4))) (s .pre .0) (s .args .ci * chunk) (h .chunk-end .result) (omega arith) (omega arith), omega arith, omega arith, omega arith)
 
 returns : tie.Need-returns
 returns c =
-    let v = c .before .before .before in
+    let v = c .before .before in
     let h = v .before in
     let s = h .before .before .before .before .before .before in
     let a = s .args in
     let lv = levelOf (now (a .l1)) (now (a .l2)) (now (a .l3)) (now (a .l4)) in
-    c .given .ensures
-    ∙ ap given (c .before .find .ensures)
-    ∙ ap (λ (r : Walked). given (r .found)) (part-way (a .ci * chunk) (h .chunk-end .result) (a .unitsize) (now (a .samples)) lv (a .back) (a .mask) (a .at) (v .get .result) (omega arith) (omega arith))
-    ∙ ap₂ (λ (hi x : ℕ). given (walkFrom (wayIn (a .back) (readerOf (a .unitsize) (now (a .samples)) lv) (a .ci * chunk) hi) (a .mask) (a .at) x .found)) (h .chunk-end .ensures)
+    c .find .ensures
+    ∙ part-way (a .ci * chunk) (h .chunk-end .result) (a .unitsize) (now (a .samples)) lv (a .back) (a .mask) (a .at) (v .get .result) (omega arith) (omega arith)
+    ∙ ap₂ (λ (hi x : ℕ). walkFrom (wayIn (a .back) (readerOf (a .unitsize) (now (a .samples)) lv) (a .ci * chunk) hi) (a .mask) (a .at) x) (h .chunk-end .ensures)
     (stored-value (a .unitsize) (a .len) (now (a .samples)) lv (s .pre .0) (a .seen) (v .get .result) (v .get .ensures))
 
 pub in-chunk-spec : {M : Type 1} → statement M
-in-chunk-spec = tie.close (tie.spec mul-base chunk-end-requires get-requires mul-a mul-e sub-find part-find-start part-find-end find-requires given-requires returns)
+in-chunk-spec = tie.close (tie.spec mul-base chunk-end-requires get-requires mul-a mul-e sub-find part-find-start part-find-end find-requires returns)

@@ -18,7 +18,7 @@ returns c =
     let f = c .before in
     let a = f .before .before .before .before .before .before .args in
     let reader = readerOf (a .c .unitsize) (now (a .samples)) (levelOf (now (a .l1)) (now (a .l2)) (now (a .l3)) (now (a .l4))) in
-    asked-refused (a .c) (now (a .samples)) (now (a .l1)) (now (a .l2)) (now (a .l3)) (now (a .l4)) (f .refusal .result) (f .refusal .ensures) (nextWalk allLevels reader (a .c .len) (a .mask) (a .from) .found) (c .if1 .taken)
+    asked-refused (a .c) (now (a .samples)) (now (a .l1)) (now (a .l2)) (now (a .l3)) (now (a .l4)) (f .refusal .result) (f .refusal .ensures) (nextWalk allLevels reader (a .c .len) (a .mask) (a .from)) (c .if1 .taken)
 
 next-in-requires : tie.Need-next-in-requires
 next-in-requires c κs =
@@ -32,7 +32,7 @@ returns-2 c =
     let f = c .before .before in
     let a = f .before .before .before .before .before .before .args in
     let reader = readerOf (a .c .unitsize) (now (a .samples)) (levelOf (now (a .l1)) (now (a .l2)) (now (a .l3)) (now (a .l4))) in
-    c .next-in .ensures ∙ asked-given (a .c) (now (a .samples)) (now (a .l1)) (now (a .l2)) (now (a .l3)) (now (a .l4)) (f .refusal .result) (f .refusal .ensures) (nextWalk allLevels reader (a .c .len) (a .mask) (a .from) .found) (c .before .if1 .left)
+    c .next-in .ensures ∙ asked-given (a .c) (now (a .samples)) (now (a .l1)) (now (a .l2)) (now (a .l3)) (now (a .l4)) (f .refusal .result) (f .refusal .ensures) (nextWalk allLevels reader (a .c .len) (a .mask) (a .from)) (c .before .if1 .left)
 
 pub next-change-spec : {M : Type 1} → statement M
 next-change-spec = tie.close (tie.spec refusal-requires returns next-in-requires returns-2)

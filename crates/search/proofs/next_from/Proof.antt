@@ -1,13 +1,11 @@
 -- `search::next_from` meets its contract: what is near is the find of the first chunk. Assumes nothing.
-use mathlib.Core.Path.{ap, _∙_}
+use mathlib.Core.Path.{ap}
 use native.Mathlib.Omega.{arith}
 use borrow.Author.Needs.{needs}
 use denote.Ref.{now}
 use Rattle.rules.specs.Answer.{given}
 use Rattle.node.specs.Memory.{levelOf}
-use Rattle.find.specs.Way.{placeOf}
 use Rattle.find.proofs.Part.{bytes-held}
-use Rattle.search.proofs.Chunks.{chunk-place}
 use Rattle.search.proofs.Near.{near-next}
 use Rattle.search.proofs.next_from.Statement.{statement}
 use Rattle.search.proofs.next_from.Tie as tie
@@ -23,28 +21,24 @@ add-near c = omega arith
 near-requires : tie.Need-near-requires
 near-requires c κs = (c .before .before .before .before .before .before .pre .0 .bytes, omega arith)
 
+enum-known-p : tie.Need-enum-known-p
+enum-known-p c = search needs
+
 enum-told : tie.Need-enum-told
 enum-told c = search needs
-
-enum-told-2 : tie.Need-enum-told-2
-enum-told-2 c = search needs
-
-given-requires : tie.Need-given-requires
-given-requires c κs = search needs
-
-returns : tie.Need-returns
-returns c =
-    let n = c .before .before .before in
-    let s = n .before .before .before .before .before .before .before in
-    let a = s .args in
-    c .given .ensures
-    ∙ ap given (near-next (a .unitsize) (a .len) (now (a .samples)) (now (a .l1)) (levelOf (now (a .l1)) (now (a .l2)) (now (a .l3)) (now (a .l4))) (a .mask) (n .before .get .result) (placeOf (n .near .result)) (chunk-place (n .near .result) (c .before .before .match .keys2)) (a .from) (s .pre .1) (n .before .get .ensures) (n .near .ensures))
 
 chunks-fwd-requires : tie.Need-chunks-fwd-requires
 chunks-fwd-requires c κs = search needs
 
+returns : tie.Need-returns
+returns c = c .chunks-fwd .ensures
+
 returns-2 : tie.Need-returns-2
-returns-2 c = c .chunks-fwd .ensures
+returns-2 c =
+    let n = c .before .before .before in
+    let s = n .before .before .before .before .before .before .before in
+    let a = s .args in
+    ap given (near-next (a .unitsize) (a .len) (s .pre .0 .most) (now (a .samples)) (now (a .l1)) (levelOf (now (a .l1)) (now (a .l2)) (now (a .l3)) (now (a .l4))) (a .mask) (n .before .get .result) (c .before .p .given .1) (a .from) (s .pre .1) (n .before .get .ensures) (n .near .ensures))
 
 pub next-from-spec : {M : Type 1} → statement M
-next-from-spec = tie.close (tie.spec get-requires add-near near-requires enum-told enum-told-2 given-requires returns chunks-fwd-requires returns-2)
+next-from-spec = tie.close (tie.spec get-requires add-near near-requires enum-known-p enum-told chunks-fwd-requires returns returns-2)

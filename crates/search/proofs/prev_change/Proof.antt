@@ -18,7 +18,7 @@ returns c =
     let f = c .before in
     let a = f .before .before .before .before .before .before .args in
     let reader = readerOf (a .c .unitsize) (now (a .samples)) (levelOf (now (a .l1)) (now (a .l2)) (now (a .l3)) (now (a .l4))) in
-    asked-refused (a .c) (now (a .samples)) (now (a .l1)) (now (a .l2)) (now (a .l3)) (now (a .l4)) (f .refusal .result) (f .refusal .ensures) (previousWalk allLevels reader (a .c .len) (a .mask) (a .from) .found) (c .if1 .taken)
+    asked-refused (a .c) (now (a .samples)) (now (a .l1)) (now (a .l2)) (now (a .l3)) (now (a .l4)) (f .refusal .result) (f .refusal .ensures) (previousWalk allLevels reader (a .c .len) (a .mask) (a .from)) (c .if1 .taken)
 
 prev-in-requires : tie.Need-prev-in-requires
 prev-in-requires c κs =
@@ -32,7 +32,7 @@ returns-2 c =
     let f = c .before .before in
     let a = f .before .before .before .before .before .before .args in
     let reader = readerOf (a .c .unitsize) (now (a .samples)) (levelOf (now (a .l1)) (now (a .l2)) (now (a .l3)) (now (a .l4))) in
-    c .prev-in .ensures ∙ asked-given (a .c) (now (a .samples)) (now (a .l1)) (now (a .l2)) (now (a .l3)) (now (a .l4)) (f .refusal .result) (f .refusal .ensures) (previousWalk allLevels reader (a .c .len) (a .mask) (a .from) .found) (c .before .if1 .left)
+    c .prev-in .ensures ∙ asked-given (a .c) (now (a .samples)) (now (a .l1)) (now (a .l2)) (now (a .l3)) (now (a .l4)) (f .refusal .result) (f .refusal .ensures) (previousWalk allLevels reader (a .c .len) (a .mask) (a .from)) (c .before .if1 .left)
 
 pub prev-change-spec : {M : Type 1} → statement M
 prev-change-spec = tie.close (tie.spec refusal-requires returns prev-in-requires returns-2)

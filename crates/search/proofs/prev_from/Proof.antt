@@ -1,13 +1,11 @@
 -- `search::prev_from` meets its contract: what is near is the find of the first chunk. Assumes nothing.
-use mathlib.Core.Path.{ap, _∙_}
+use mathlib.Core.Path.{ap}
 use native.Mathlib.Omega.{arith}
 use borrow.Author.Needs.{needs}
 use denote.Ref.{now}
 use Rattle.rules.specs.Answer.{given}
 use Rattle.node.specs.Memory.{levelOf}
-use Rattle.find.specs.Way.{placeOf}
 use Rattle.find.proofs.Part.{bytes-held}
-use Rattle.search.proofs.Chunks.{chunk-place}
 use Rattle.search.proofs.Near.{near-previous}
 use Rattle.search.proofs.prev_from.Statement.{statement}
 use Rattle.search.proofs.prev_from.Tie as tie
@@ -20,28 +18,24 @@ get-requires c κs =
 near-requires : tie.Need-near-requires
 near-requires c κs = (c .before .before .before .before .before .before .pre .0 .bytes, omega arith)
 
+enum-known-p : tie.Need-enum-known-p
+enum-known-p c = search needs
+
 enum-told : tie.Need-enum-told
 enum-told c = search needs
-
-enum-told-2 : tie.Need-enum-told-2
-enum-told-2 c = search needs
-
-given-requires : tie.Need-given-requires
-given-requires c κs = search needs
-
-returns : tie.Need-returns
-returns c =
-    let n = c .before .before .before in
-    let s = n .before .before .before .before .before .before .before in
-    let a = s .args in
-    c .given .ensures
-    ∙ ap given (near-previous (a .unitsize) (a .len) (now (a .samples)) (now (a .l1)) (levelOf (now (a .l1)) (now (a .l2)) (now (a .l3)) (now (a .l4))) (a .mask) (n .before .get .result) (placeOf (n .near .result)) (chunk-place (n .near .result) (c .before .before .match .keys2)) (a .start) (omega arith) (n .before .get .ensures) (n .near .ensures))
 
 chunks-back-requires : tie.Need-chunks-back-requires
 chunks-back-requires c κs = search needs
 
+returns : tie.Need-returns
+returns c = c .chunks-back .ensures
+
 returns-2 : tie.Need-returns-2
-returns-2 c = c .chunks-back .ensures
+returns-2 c =
+    let n = c .before .before .before in
+    let s = n .before .before .before .before .before .before .before in
+    let a = s .args in
+    ap given (near-previous (a .unitsize) (a .len) (s .pre .0 .most) (now (a .samples)) (now (a .l1)) (levelOf (now (a .l1)) (now (a .l2)) (now (a .l3)) (now (a .l4))) (a .mask) (n .before .get .result) (c .before .p .given .1) (a .start) (s .pre .1) (n .before .get .ensures) (n .near .ensures))
 
 pub prev-from-spec : {M : Type 1} → statement M
-prev-from-spec = tie.close (tie.spec get-requires near-requires enum-told enum-told-2 given-requires returns chunks-back-requires returns-2)
+prev-from-spec = tie.close (tie.spec get-requires near-requires enum-known-p enum-told chunks-back-requires returns returns-2)

@@ -2,6 +2,8 @@
 //! some.
 #![allow(dead_code)]
 
+pub mod walk;
+
 use capture::{Burst, Condition, Lines, Node, Pixel, Term, View};
 
 /// Whether a line of the mask differs at a place from the sample before.
@@ -24,44 +26,45 @@ pub fn summary(s: &[Lines], a: usize, b: usize) -> Option<Node> {
     Some(Node { first: *part.first()?, last: *part.last()?, toggles })
 }
 
-pub fn burst_at(
-    s: &[Lines],
-    mask: Lines,
+/// A burst over any two searches, of which none is made without need.
+pub fn burst_by(
+    len: usize,
+    prev: impl Fn(usize) -> Option<usize>,
+    next: impl Fn(usize) -> Option<usize>,
     sample: usize,
-    gap: usize,
-    tolerance: usize,
-    budget: usize,
+    [gap, tolerance, budget]: [usize; 3],
 ) -> Option<Burst> {
-    if s.is_empty() || gap < 2 {
+    if len == 0 || gap < 2 {
         return None;
     }
     let tolerance = tolerance.min(gap - 1);
-    let before = prev_change(s, mask, sample);
-    let after = next_change(s, mask, sample);
+    let (before, after) = (prev(sample), next(sample));
     let around = before.zip(after).filter(|(p, n)| n - p < gap);
-    let left = before
-        .filter(|p| sample - p <= tolerance)
-        .and_then(|p| Some((prev_change(s, mask, p - 1)?, p)))
-        .filter(|(q, p)| p - q < gap);
-    let right = after
-        .filter(|n| n - sample <= tolerance)
-        .and_then(|n| Some((n, next_change(s, mask, n)?)))
-        .filter(|(n, m)| m - n < gap);
-    let nearer = match (left, right) {
-        (Some(l), Some(r)) => Some(if sample - l.1 <= r.0 - sample { l } else { r }),
-        (l, r) => l.or(r),
+    let nearer = || {
+        let left = before
+            .filter(|p| sample - p <= tolerance)
+            .and_then(|p| Some((prev(p - 1)?, p)))
+            .filter(|(q, p)| p - q < gap);
+        let right = after
+            .filter(|n| n - sample <= tolerance)
+            .and_then(|n| Some((n, next(n)?)))
+            .filter(|(n, m)| m - n < gap);
+        match (left, right) {
+            (Some(l), Some(r)) => Some(if sample - l.1 <= r.0 - sample { l } else { r }),
+            (l, r) => l.or(r),
+        }
     };
-    let (mut first, mut last) = around.or(nearer)?;
+    let (mut first, mut last) = around.or_else(nearer)?;
     let (mut jumps_at_end, mut jumps_at_start) = (0, 0);
     while jumps_at_end < budget {
-        match prev_change(s, mask, last.saturating_add(gap) - 1) {
+        match prev(last.saturating_add(gap) - 1) {
             Some(place) if place > last => last = place,
             _ => break,
         }
         jumps_at_end += 1;
     }
     while jumps_at_start < budget {
-        match next_change(s, mask, first.saturating_sub(gap)) {
+        match next(first.saturating_sub(gap)) {
             Some(place) if place < first => first = place,
             _ => break,
         }

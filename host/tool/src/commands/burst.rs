@@ -1,10 +1,10 @@
 //! The burst at a place.
 
-use super::{chosen_lines, needed, Command};
+use super::{chosen_lines, needed, print_found, Command};
 use crate::args::Takes;
-use crate::failure::Outcome;
 use crate::reader::Reader;
 use crate::{file, lines, number, place};
+use capture::Burst;
 
 pub const COMMAND: Command = Command {
     name: "burst",
@@ -16,6 +16,7 @@ pub const COMMAND: Command = Command {
         ("--tolerance", Takes::Value),
         ("--budget", Takes::Value),
         ("--lines", Takes::Value),
+        ("--read", Takes::Nothing),
         ("--grant", Takes::Value),
         ("--unit", Takes::Value),
     ],
@@ -28,13 +29,9 @@ pub const COMMAND: Command = Command {
         let tolerance = args.read_value("--tolerance", number::whole)?.unwrap_or(0);
         let budget = args.read_value("--budget", number::whole)?.unwrap_or(usize::MAX);
         let burst = reader.burst_at(mask, at, [gap, tolerance, budget])?;
-        if let Some(burst) = burst {
-            writeln!(
-                out,
-                "{} {} {} {}",
-                burst.first, burst.last, burst.jumps_at_end, burst.jumps_at_start
-            )?;
-        }
-        Ok(Outcome::of(burst.is_some()))
+        let written = burst.map(|Burst { first, last, jumps_at_end, jumps_at_start }| {
+            format!("{first} {last} {jumps_at_end} {jumps_at_start}")
+        });
+        print_found(args, written, out)
     },
 };

@@ -33,7 +33,7 @@ pub const COMMAND: Command = Command {
             return Err(bad("--total prints a number; it takes no --hex or --bits"));
         }
         // A change at `from` is one of the stretch, so the search begins before it. There is none at the first place.
-        let mut found = reader.next_change(mask, (from - 1).max(reader.first()))?;
+        let mut found = reader.next_change(mask, (from - 1).max(reader.first()))?.found;
         let mut count = 0;
         while let Some(place) = found.filter(|&place| place < to) {
             count += 1;
@@ -43,7 +43,7 @@ pub const COMMAND: Command = Command {
                     [now, before ^ now].map(|lines| form.written(lines, reader.unit()));
                 writeln!(out, "{place} {now} {changed}")?;
             }
-            found = reader.next_change(mask, place)?;
+            found = reader.next_change(mask, place)?.found;
         }
         if total {
             writeln!(out, "{count}")?;

@@ -112,7 +112,7 @@ fn search(recording: &Recording, out: &mut dyn Write) -> Result<Vec<usize>, Fail
     let mask = lines::mask(&TURNER_ENCODER);
     let mark = recording.mark.unwrap_or(0);
     let lines = lines::written(mask);
-    if let Some(first) = capture.next_change(mask, mark) {
+    if let Some(first) = capture.next_change(mask, mark).found {
         let after = first - mark;
         writeln!(out, "The turner's encoder, lines {lines}, first moves at {first}, {after} samples after the mark.")?;
     }

@@ -16,6 +16,7 @@ use crate::args::{Args, Known};
 use crate::failure::{bad, Failure, Outcome};
 use crate::lines;
 use crate::reader::Reader;
+use capture::Counted;
 use std::io::Write;
 
 pub struct Command {
@@ -53,6 +54,21 @@ fn chosen_lines(args: &Args, reader: &Reader) -> Result<Vec<u8>, Failure> {
         Ok(chosen)
     })?;
     Ok(chosen.unwrap_or_else(|| reader.lines()))
+}
+
+/// Prints what a search found, if it found one. With --read the nodes that it read stand behind that, or behind `none`.
+fn print_found(
+    args: &Args,
+    Counted { found, read }: Counted<String>,
+    out: &mut dyn Write,
+) -> Result<Outcome, Failure> {
+    let outcome = Outcome::of(found.is_some());
+    if args.flag("--read") {
+        writeln!(out, "{} {read}", found.as_deref().unwrap_or("none"))?;
+    } else if let Some(found) = found {
+        writeln!(out, "{found}")?;
+    }
+    Ok(outcome)
 }
 
 /// Something that a command cannot do without.

@@ -1,8 +1,7 @@
 //! The previous change.
 
-use super::{chosen_lines, Command};
+use super::{chosen_lines, print_found, Command};
 use crate::args::Takes;
-use crate::failure::Outcome;
 use crate::reader::Reader;
 use crate::{file, lines, place};
 
@@ -13,6 +12,7 @@ pub const COMMAND: Command = Command {
     options: &[
         ("--lines", Takes::Value),
         ("--from", Takes::Value),
+        ("--read", Takes::Nothing),
         ("--grant", Takes::Value),
         ("--unit", Takes::Value),
     ],
@@ -21,10 +21,6 @@ pub const COMMAND: Command = Command {
         let reader = Reader::asked(args, &recording)?;
         let mask = lines::mask(&chosen_lines(args, &reader)?);
         let from = place::asked(args, "--from", &reader)?.unwrap_or(reader.end());
-        let found = reader.prev_change(mask, from)?;
-        if let Some(place) = found {
-            writeln!(out, "{place}")?;
-        }
-        Ok(Outcome::of(found.is_some()))
+        print_found(args, reader.prev_change(mask, from)?.map(|place| place.to_string()), out)
     },
 };

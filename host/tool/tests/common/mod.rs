@@ -1,6 +1,7 @@
 //! Runs the tool in a folder of its own. Each test file uses some.
 #![allow(dead_code)]
 
+use capture::Counted;
 use std::fs;
 use std::io::Write;
 use std::path::PathBuf;
@@ -48,6 +49,17 @@ impl Folder {
     pub fn run_on(&self, line: &str, input: &[u8]) -> Run {
         let words: Vec<&str> = line.split_whitespace().collect();
         self.run_words(&words, input)
+    }
+
+    /// Asks for a search, which must give this answer, or none with status 1; and again with the nodes read.
+    pub fn search(&self, line: &str, Counted { found, read }: Counted<String>) {
+        let run = |line: &str, out| {
+            let status = i32::from(found.is_none());
+            assert_eq!(self.run(line), Run { status, out, err: String::new() }, "{line}");
+        };
+        run(line, found.iter().map(|found| format!("{found}\n")).collect());
+        let found = found.as_deref().unwrap_or("none");
+        run(&format!("{line} --read"), format!("{found} {read}\n"));
     }
 
     pub fn run_words(&self, words: &[&str], input: &[u8]) -> Run {

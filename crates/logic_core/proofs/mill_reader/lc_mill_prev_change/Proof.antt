@@ -9,9 +9,8 @@ use mir.Val.{toZ, ofZ}
 use mir.ValLaws.{toZ-ofZ}
 use Rattle.capture.specs.declared.Capture.{Capture}
 use Rattle.mill_search.specs.Answer.{foundOf, previousOf}
-use Rattle.codes.specs.Code.{perhaps}
 use Rattle.mill_codes.specs.Written.{place}
-use Rattle.logic_core.proofs.Codes.{told-by}
+use Rattle.logic_core.proofs.Codes.{sought-by}
 use Rattle.logic_core.proofs.mill_reader.lc_mill_prev_change.Statement.{statement}
 use Rattle.logic_core.proofs.mill_reader.lc_mill_prev_change.Tie as tie
 
@@ -26,9 +25,9 @@ found-code-requires c κs = search needs
 
 returns : tie.Need-returns
 returns c =
-    let a = c .before .before .before .before .before .before .before .before .before .args in
-    let f = c .before .before .before .before .before .before .before .before .before .fits in
-    told-by place perhaps foundOf (λ (x : Capture). previousOf x (now (a .samples)) (levelOf (now (a .l1)) (now (a .l2)) (now (a .l3)) (now (a .l4))) (a .grant) (a .mask) (a .from)) (c .before .before .prev-change .result) _ _ _ (c .before .before .before .capture-in .ensures) (c .before .before .prev-change .ensures ∙ ap (λ (z : ℤ). previousOf (c .before .before .before .capture-in .result) (now (a .samples)) (levelOf (now (a .l1)) (now (a .l2)) (now (a .l3)) (now (a .l4))) (a .grant) (a .mask) z) (toZ-ofZ w64 (a .from) (f .from))) (c .found-code .ensures)
+    let a = c .before .before .before .before .before .before .before .before .before .before .args in
+    let f = c .before .before .before .before .before .before .before .before .before .before .fits in
+    sought-by place foundOf (λ (x : Capture). previousOf x (now (a .samples)) (levelOf (now (a .l1)) (now (a .l2)) (now (a .l3)) (now (a .l4))) (a .grant) (a .mask) (a .from)) (c .before .before .before .prev-change .result) (c .before .before .before .before .capture-in .ensures) (c .before .before .before .prev-change .ensures ∙ ap (λ (z : ℤ). previousOf (c .before .before .before .before .capture-in .result) (now (a .samples)) (levelOf (now (a .l1)) (now (a .l2)) (now (a .l3)) (now (a .l4))) (a .grant) (a .mask) z) (toZ-ofZ w64 (a .from) (f .from))) (c .found-code .ensures)
 
 pub lc-mill-prev-change-spec : {M : Type 1} → statement M
 lc-mill-prev-change-spec =
