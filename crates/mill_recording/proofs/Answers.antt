@@ -50,7 +50,7 @@ use Rattle.mill_render.specs.Render.{millDrawn}
 use Rattle.mill_render.proofs.Answers.{render-row}
 use Rattle.recording.specs.Claim.{Memory, levels, Ref, pixelsIn, Recording, store, s, len, mark, Answered}
 use Rattle.recording.proofs.Selection.{selection, len-is, right}
-use Rattle.recording.proofs.Answers.{summed-for, drawn-for, anywhere, somewhere, passed, agree, allowing, seen-as}
+use Rattle.recording.proofs.Answers.{summed-for, counted-for, drawn-for, anywhere, somewhere, passed, agree, allowing, seen-as}
 use Rattle.mill_recording.specs.Claim.{MayExtent, MayGet, MaySamples, MaySummary, MayNext, MayPrevious, MayBurst, MayRender, Copying, samplesOf, samplesIn, origin, place, MillAnswers}
 
 -- ---- an answer for each value
@@ -66,22 +66,13 @@ copied-for : (x : Answer ℕ) → (v : Copied) × (copiedOf v ≡ x)
 copied-for (refused n) = (copies.Refused n, refl)
 copied-for (given k) = (copies.Count k, refl)
 
--- a search's by what it found
 found-for : (x : Answer (Counted ℤ)) → (v : Found) × (foundOf v ≡ x)
-found-for (refused n) = (found.Refused n, refl)
-found-for (given w) = go (w .found) refl
-  where
-    go : (o : Option ℤ) → w .found ≡ o → (v : Found) × (foundOf v ≡ given w)
-    go none e = (found.Nothing (w .steps), ap (λ (x : Option ℤ). given (record { found = x; steps = w .steps })) (sym e))
-    go (some p) e = (found.At p (w .steps), ap (λ (x : Option ℤ). given (record { found = x; steps = w .steps })) (sym e))
+found-for = counted-for foundOf found.Refused found.At found.Nothing (λ n. refl) (λ p n. refl) (λ n. refl)
 
 burst-for : (x : Answer (Counted MillBurst)) → (v : Bursts) × (burstAs v ≡ x)
-burst-for (refused n) = (bursts.Refused n, refl)
-burst-for (given w) = go (w .found) refl
-  where
-    go : (o : Option MillBurst) → w .found ≡ o → (v : Bursts) × (burstAs v ≡ given w)
-    go none e = (bursts.Nothing (w .steps), ap (λ (x : Option MillBurst). given (record { found = x; steps = w .steps })) (sym e))
-    go (some b) e = (bursts.At (record { first = b .first; last = b .last; «jumps_end» = b .jumps-end; «jumps_start» = b .jumps-start }) (w .steps), ap (λ (x : Option MillBurst). given (record { found = x; steps = w .steps })) (sym e))
+burst-for =
+    counted-for burstAs bursts.Refused (λ b n. bursts.At (record { first = b .first; last = b .last; «jumps_end» = b .jumps-end; «jumps_start» = b .jumps-start }) n) bursts.Nothing
+    (λ n. refl) (λ b n. refl) (λ n. refl)
 
 -- ---- rows
 -- what is refused need not be the same

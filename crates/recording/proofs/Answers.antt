@@ -52,22 +52,27 @@ summed-for (refused n) = (summed-as.Refused n, refl)
 summed-for (given none) = (summed-as.Nothing, refl)
 summed-for (given (some n)) = (summed-as.Node (record { first = n .first; last = n .last; mask = n .toggles }), refl)
 
--- a search's by what it found
-found-for : (x : Answer Walked) → (v : Found) × (foundOf v ≡ x)
-found-for (refused n) = (found.Refused n, refl)
-found-for (given w) = go (w .found) refl
+-- a search's, by an enum of three cases: a refusal, a find with its count, and a count alone
+pub counted-for : {A R : Type 0} (means : R → Answer (Counted A)) (refusal : ℕ → R) (at : A → ℕ → R) (nothing : ℕ → R)
+    → ((n : ℕ) → means (refusal n) ≡ refused n) → ((a : A) (n : ℕ) → means (at a n) ≡ given (record { found = some a; steps = n })) → ((n : ℕ) → means (nothing n) ≡ given (record { found = none; steps = n }))
+    → (x : Answer (Counted A)) → (v : R) × (means v ≡ x)
+counted-for means refusal at nothing e₁ e₂ e₃ (refused n) = (refusal n, e₁ n)
+counted-for {A} {R} means refusal at nothing e₁ e₂ e₃ (given w) = go (w .found) refl
   where
-    go : (o : Option ℕ) → w .found ≡ o → (v : Found) × (foundOf v ≡ given w)
-    go none e = (found.Nothing (w .steps), ap (λ (x : Option ℕ). given (record { found = x; steps = w .steps })) (sym e))
-    go (some p) e = (found.At p (w .steps), ap (λ (x : Option ℕ). given (record { found = x; steps = w .steps })) (sym e))
+    counted : Option A → Answer (Counted A)
+    counted o = given (record { found = o; steps = w .steps })
+
+    go : (o : Option A) → w .found ≡ o → (v : R) × (means v ≡ given w)
+    go none e = (nothing (w .steps), e₃ (w .steps) ∙ ap counted (sym e))
+    go (some a) e = (at a (w .steps), e₂ a (w .steps) ∙ ap counted (sym e))
+
+found-for : (x : Answer Walked) → (v : Found) × (foundOf v ≡ x)
+found-for = counted-for foundOf found.Refused found.At found.Nothing (λ n. refl) (λ i n. refl) (λ n. refl)
 
 burst-for : (x : Answer (Counted rule-burst.Burst)) → (v : Bursts) × (burstAs v ≡ x)
-burst-for (refused n) = (bursts.Refused n, refl)
-burst-for (given w) = go (w .found) refl
-  where
-    go : (o : Option rule-burst.Burst) → w .found ≡ o → (v : Bursts) × (burstAs v ≡ given w)
-    go none e = (bursts.Nothing (w .steps), ap (λ (x : Option rule-burst.Burst). given (record { found = x; steps = w .steps })) (sym e))
-    go (some b) e = (bursts.At (record { first = b .first; last = b .last; «jumps_end» = b .jumps-end; «jumps_start» = b .jumps-start }) (w .steps), ap (λ (x : Option rule-burst.Burst). given (record { found = x; steps = w .steps })) (sym e))
+burst-for =
+    counted-for burstAs bursts.Refused (λ b n. bursts.At (record { first = b .first; last = b .last; «jumps_end» = b .jumps-end; «jumps_start» = b .jumps-start }) n) bursts.Nothing
+    (λ n. refl) (λ b n. refl) (λ n. refl)
 
 pub drawn-for : (x : Answer (Unit {0})) → (v : Drawn) × (drawnOf v ≡ x)
 drawn-for (refused n) = (drawn-as.Refused n, refl)
