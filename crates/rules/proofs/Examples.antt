@@ -1,16 +1,18 @@
 -- The starred shelf examples of document 01, proved about its rules by computation, as one conjunction.
 use mathlib.Core.Path.{_≡_, refl}
-use mathlib.Core.Bool.{Bool, true, false}
+use mathlib.Core.Bool.{Bool, true, false, cond}
 use mathlib.Core.List.{List, [], _∷_}
 use mathlib.Core.Option.{Option, none, some}
 use Prim.Native.Nat.{ℕ}
 use lib.IntN.{pos, negsuc}
+use lib.Dec.{ltb}
 use lib.ListN.{getD}
 use lib.Ieee.{Float, fin, add, mul, ofInt, lt}
 use Rattle.rules.specs.Sample.{sampleOf, listFrom}
 use Rattle.rules.specs.Node.{Node, togglesOf, nodeOf}
 use Rattle.rules.specs.Search.{seek, next, previous, summary}
-use Rattle.rules.specs.Burst.{Burst, jump, burstBy, burst}
+use Rattle.rules.specs.Walk.{best, walk, chunks, entered, nextEntered, allLevels, runReader, nextSearch, previousSearch}
+use Rattle.rules.specs.Burst.{Burst, jump, burstBy, burst, jumpSteps, stepsBy, burstSearch}
 use Rattle.rules.specs.Floor.{floorOf, nearestOf}
 use Rattle.rules.specs.Pixel.{View, edge, rowBy, render}
 use Rattle.rules.specs.Pretrigger.{Pretrigger, fraction, seconds, most, times}
@@ -72,3 +74,20 @@ pub beside :
     × (repliesOf (ruleOf plain) ((7 ∷ []) ∷ (1 ∷ 2 ∷ []) ∷ (3 ∷ 4 ∷ []) ∷ []) ≡ going-on ∷ going-on ∷ refused 8 ∷ [])
 unfolding sampleOf listFrom nearestOf most times withTerms matches fires firstFire chosen selection acceptedFrom repliesFrom mul ofInt lt
 beside = (refl, refl)
+
+-- 02, CR 3: what searches of A read, sample by sample; the second change of a side is searched for within the tolerance alone. And a lone change at
+-- place 100 of 200: 31 samples and two nodes of 32 are passed, the next node is not quiet, and its fifth sample is the find
+abbrev late : ℕ → ℕ
+late i = cond (ltb i 100) 0 1
+
+pub read :
+    (nextSearch A 8 1 0 ≡ record { found = some 2; steps = 2 })
+    × (nextSearch A 8 1 7 ≡ record { found = none; steps = 0 })
+    × (previousSearch A 8 1 6 ≡ record { found = some 4; steps = 3 })
+    × (burstSearch A 8 1 3 4 0 1 .steps ≡ 6)
+    × (burstSearch A 8 1 3 2 0 9 ≡ record { found = none; steps = 3 })
+    × (burstSearch A 8 1 3 2 1 9 ≡ record { found = none; steps = 7 })
+    × (nextSearch late 200 1 0 ≡ record { found = some 100; steps = 39 })
+    × (nextEntered allLevels (runReader late) 200 1 0 ≡ 1)
+unfolding sampleOf togglesOf nodeOf seek jump burstBy jumpSteps stepsBy best walk chunks entered
+read = (refl, refl, refl, refl, refl, refl, refl, refl)
