@@ -224,9 +224,10 @@ uint32_t lc_mill_render(const size_t record[5],
  * the lines of High, Low, Rising, Falling and Edge terms, known (0: there is no previous sample), the previous sample, the
  * place of the ring's next slot, and how many samples the ring has kept.
  *
- * A term is two bytes: its line, 0 to 15, and its condition, 0 Rising, 1 Falling, 2 Edge, 3 High, 4 Low. Without terms it
- * records at once. The wish is a fraction of limit to keep before the trigger, or, where seconds is true and limit is 0,
- * seconds at rate samples a second. The ring needs pre samples' bytes.
+ * A term is two bytes: its line, 0 to 15, and its condition, 0 Rising, 1 Falling, 2 Edge, 3 High, 4 Low. A line with both
+ * Rising and Falling counts as one with Edge, beside any other terms on it, and is a line of Edge in the record. Without
+ * terms it records at once. The wish is a fraction of limit to keep before the trigger, or, where seconds is true and
+ * limit is 0, seconds at rate samples a second. The ring needs pre samples' bytes.
  *
  * Refuses with 1 and 2; 3 where a term has no such line or condition; 4 where limit is above the capacity; 5 a fraction
  * without a limit, or seconds with one; 6 where the wish is not a number, or the rate of seconds above 1000000000; 7 where

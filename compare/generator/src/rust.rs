@@ -1,11 +1,11 @@
 //! The unchanged Rust as a side. It has no capacity, no lent memory and no refusals;
-//! where it panics it has no answer.
+//! where it panics it has no answer. A line with Rising and Falling is given to it as one with Edge.
 
 mod mill;
 
 use crate::digest::digest;
 use crate::document::{listed, optional};
-use crate::op::{Burst, Condition, Op, Settings, Wish};
+use crate::op::{Burst, Condition, Op, Settings, Term, Wish};
 use crate::side::{Answer, Side};
 use edgewise::capture::{Capture, Snapshot};
 use edgewise::trigger::{self, pretrigger_samples, Feeder, TriggerTerm};
@@ -124,7 +124,7 @@ impl Rust {
     fn start(&mut self, s: &Settings) -> Vec<u64> {
         let capture = Arc::new(Capture::new(s.rate, s.channels as usize));
         let unit = capture.snapshot().meta.unitsize;
-        let terms: Vec<_> = s.terms.iter().map(|t| term(t.line, t.condition)).collect();
+        let terms: Vec<_> = given(&s.terms).iter().map(|t| term(t.line, t.condition)).collect();
         let (fraction, (unlimited, cut)) = match s.wish {
             Wish::Fraction(p) => (p, (0, false)),
             Wish::Seconds(t) => (0.0, pretrigger_samples(t, s.rate, unit)),
@@ -143,6 +143,18 @@ impl Rust {
         let marked = mark.is_some() as u64;
         vec![snapshot.len, marked, mark.unwrap_or(0), armed as u64, digest]
     }
+}
+
+/// Document 02, CR 4: "The Rust is run with the two terms replaced by one Edge term."
+fn given(terms: &[Term]) -> Vec<Term> {
+    let named = |line, condition| terms.contains(&Term { line, condition });
+    let both = |line| named(line, Condition::Rising) && named(line, Condition::Falling);
+    let one_of_two =
+        |t: &Term| matches!(t.condition, Condition::Rising | Condition::Falling) && both(t.line);
+    let mut given: Vec<Term> = terms.iter().copied().filter(|t| !one_of_two(t)).collect();
+    let lines = (0..=u8::MAX).filter(|&line| both(line));
+    given.extend(lines.map(|line| Term { line, condition: Condition::Edge }));
+    given
 }
 
 fn term(channel: u8, condition: Condition) -> TriggerTerm {

@@ -196,13 +196,13 @@ fn settings_refusal(
     0
 }
 
-// Armed where there is a term.
+// Armed where there is a term; a line with both Rising and Falling becomes one with Edge here.
 fn armed_by(terms: Terms) -> Armed
     ensures { λ r. ⌜ armedAs r ≡ armedBy terms ⌝ }
 {
     if terms.any {
         let masks = terms.masks;
-        return Armed::Waiting(masks);
+        return Armed::Waiting(masks.both_as_edge());
     }
     Armed::Unarmed
 }

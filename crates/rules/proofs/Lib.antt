@@ -1,6 +1,7 @@
 pub mod Bits
 pub mod Sample
 pub mod Trigger
+pub mod Both
 pub mod Selection
 pub mod Node
 pub mod Search

@@ -1,4 +1,4 @@
--- The trigger, line by line and term by term: the masks' test says what 01 says of each term, and firstFire is the first place that fires.
+-- The trigger, line by line and term by term: the masks' test says what 01 and CR 4 of 02 say of the terms, and firstFire is the first place that fires.
 use mathlib.Core.Path.{_≡_, refl, sym, ap, ap₂, _∙_, subst}
 use mathlib.Core.Bool.{Bool, true, false, cond, _&&_, and-eq-true-iff}
 use mathlib.Core.List.{List, [], _∷_, _++_, List·Memᴰ, List·Memᴰ·head, List·Memᴰ·tail, List·Memᴰ·cases-cons, List·Memᴰ·not-nil}
@@ -9,14 +9,14 @@ use native.Mathlib.Nat.{zero-div, zero-add, add-zero, add-suc, suc-add, div-self
 use native.Mathlib.Numerals.{add-one}
 use native.Mathlib.Decide.{decLt}
 use native.Mathlib.Omega.{arith}
-use lib.Bits.{bitAnd, bitOr, bitXor, differ}
+use lib.Bits.{bitAnd, bitOr, bitXor, differ, and-comm}
 use lib.Dec.{eqb}
 use lib.ListN.{length, drop, getD, drop-of-length-le}
 use lib.Pow.{pow-pos, pow-lt, pow-add}
 use lib.Seq.{drop-cons}
 use borrow.Author.Tests.{eqb-true, eq-eqb}
 use Rattle.rules.specs.Sample.{line}
-use Rattle.rules.specs.Trigger.{Condition, rising, falling, edge, high, low, Term, Masks, noMasks, withLine, withTerm, withTerms, masksOf, matches, fires, firstFire, lastOf}
+use Rattle.rules.specs.Trigger.{Condition, rising, falling, edge, high, low, Term, Masks, noMasks, withLine, withTerm, withTerms, namedBy, bothAsEdge, masksOf, matches, fires, firstFire, lastOf}
 use Rattle.rules.proofs.Bits.{line-lt, two-cases, lines-ext, line-and, line-or, line-xor, or-zero, or-zero-left, or-zero-right}
 
 -- ---- lines of masks
@@ -268,24 +268,85 @@ module _ (c : Condition) (k : ℕ) where
 none-first : (c : Condition) → maskFor c noMasks ≡ 0
 none-first = each _ refl refl refl refl refl
 
--- the mask for a condition has line k exactly where some term asks that condition of line k
-pub masks-line : (ts : List Term) (c : Condition) (k : ℕ) → (line (maskFor c (masksOf ts)) k ≡ 1) ↔ List·Memᴰ (on c k) ts
-masks-line ts c k = (λ e. go (masks-then c k ts noMasks e), masks-has c k ts noMasks)
+-- the lines named for a condition are those of its terms
+pub named-line : (ts : List Term) (c : Condition) (k : ℕ) → (line (maskFor c (namedBy ts)) k ≡ 1) ↔ List·Memᴰ (on c k) ts
+named-line ts c k = (λ e. go (masks-then c k ts noMasks e), masks-has c k ts noMasks)
   where
     go : (line (maskFor c noMasks) k ≡ 1) ⊎ List·Memᴰ (on c k) ts → List·Memᴰ (on c k) ts
     go (inl x) = absurd (omega (arith, sym x ∙ ap (λ (z : ℕ). line z k) (none-first c) ∙ line-zero k))
     go (inr h) = h
 
--- ---- firing, term by term
-abbrev pub holds : Term → ℕ → ℕ → Type 0
-holds t p v = LineHolds (t .condition) (t .line) p v
+-- ---- 02, CR 4: "a line with both counts as one with Edge, beside any other terms on it"
+-- what the terms ask of line k
+abbrev pub Asked : List Term → Condition → ℕ → Type 0
+Asked ts high k = List·Memᴰ (on high k) ts
+Asked ts low k = List·Memᴰ (on low k) ts
+Asked ts rising k = List·Memᴰ (on rising k) ts × (List·Memᴰ (on falling k) ts → ⊥)
+Asked ts falling k = List·Memᴰ (on falling k) ts × (List·Memᴰ (on rising k) ts → ⊥)
+Asked ts edge k = List·Memᴰ (on edge k) ts ⊎ (List·Memᴰ (on rising k) ts × List·Memᴰ (on falling k) ts)
 
--- "A sample v after p fires when every High line is 1 in v, every Low line 0, .."
-pub fires-terms : (ts : List Term) (p v : ℕ) → (fires (masksOf ts) (some p) v ≡ true) ↔ ((t : Term) → List·Memᴰ t ts → holds t p v)
+-- lines of x that y has not, and lines that x has or both y and z
+less-one : (x y : ℕ) → x < 2 → y < 2 → (differ x (min x y) ≡ 1) ↔ ((x ≡ 1) × (y ≡ 1 → ⊥))
+less-one x y hx hy =
+    two-cases (λ (x : ℕ). (differ x (min x y) ≡ 1) ↔ ((x ≡ 1) × (y ≡ 1 → ⊥)))
+    (λ e. absurd (omega arith), λ h. absurd (omega (arith, h .0)))
+    (two-cases (λ (y : ℕ). (differ 1 (min 1 y) ≡ 1) ↔ ((_≡_ {A = ℕ} 1 1) × (y ≡ 1 → ⊥))) (λ e. (refl, λ z. omega arith), λ h. refl) (λ e. absurd (omega arith), λ h. absurd (h .1 refl)) y hy)
+    x hx
+
+more-one : (x y z : ℕ) → x < 2 → y < 2 → z < 2 → (max x (min y z) ≡ 1) ↔ ((x ≡ 1) ⊎ ((y ≡ 1) × (z ≡ 1)))
+more-one x y z hx hy hz = (λ e. go e (decLt 0 x), back)
+  where
+    go : max x (min y z) ≡ 1 → Dec (0 < x) → (x ≡ 1) ⊎ ((y ≡ 1) × (z ≡ 1))
+    go e (yes d) = inl (omega arith)
+    go e (no d) = inr (omega arith, omega arith)
+
+    back : (x ≡ 1) ⊎ ((y ≡ 1) × (z ≡ 1)) → max x (min y z) ≡ 1
+    back (inl e) = omega arith
+    back (inr h) = omega (arith, h .0, h .1)
+
+line-less : (x y k : ℕ) → (line (bitXor x (bitAnd x y)) k ≡ 1) ↔ ((line x k ≡ 1) × (line y k ≡ 1 → ⊥))
+line-less x y k = simp (line-xor, line-and) (less-one (line x k) (line y k) (line-lt x k) (line-lt y k))
+
+line-more : (x y z k : ℕ) → (line (bitOr x (bitAnd y z)) k ≡ 1) ↔ ((line x k ≡ 1) ⊎ ((line y k ≡ 1) × (line z k ≡ 1)))
+line-more x y z k = simp (line-or, line-and) (more-one (line x k) (line y k) (line z k) (line-lt x k) (line-lt y k) (line-lt z k))
+
+-- the mask for a condition has line k exactly where the terms ask that condition of line k
+pub masks-line : (ts : List Term) (c : Condition) (k : ℕ) → (line (maskFor c (masksOf ts)) k ≡ 1) ↔ Asked ts c k
+unfolding bothAsEdge
+masks-line ts c k = go c
+  where
+    m : Masks
+    m = namedBy ts
+
+    -- on line k: a term of c and none of d
+    less : (c d : Condition) (x : ℕ) → (line x k ≡ 1) ↔ ((line (maskFor c m) k ≡ 1) × (line (maskFor d m) k ≡ 1 → ⊥)) → (line x k ≡ 1) ↔ (List·Memᴰ (on c k) ts × (List·Memᴰ (on d k) ts → ⊥))
+    less c d x h = (
+      λ e. (named-line ts c k .0 (h .0 e .0), λ t. h .0 e .1 (named-line ts d k .1 t)),
+      λ a. h .1 (named-line ts c k .1 (a .0), λ e. a .1 (named-line ts d k .0 e)),
+    )
+
+    up : (line (m .edge) k ≡ 1) ⊎ ((line (m .rising) k ≡ 1) × (line (m .falling) k ≡ 1)) → Asked ts edge k
+    up (inl e) = inl (named-line ts edge k .0 e)
+    up (inr e) = inr (named-line ts rising k .0 (e .0), named-line ts falling k .0 (e .1))
+
+    down : Asked ts edge k → (line (m .edge) k ≡ 1) ⊎ ((line (m .rising) k ≡ 1) × (line (m .falling) k ≡ 1))
+    down (inl t) = inl (named-line ts edge k .1 t)
+    down (inr t) = inr (named-line ts rising k .1 (t .0), named-line ts falling k .1 (t .1))
+
+    go : (c : Condition) → (line (maskFor c (masksOf ts)) k ≡ 1) ↔ Asked ts c k
+    go high = named-line ts high k
+    go low = named-line ts low k
+    go rising = less rising falling _ (line-less (m .rising) (m .falling) k)
+    go falling = less falling rising _ (rw (and-comm (m .rising) (m .falling)) (line-less (m .falling) (m .rising) k))
+    go edge = (λ e. up (line-more (m .edge) (m .rising) (m .falling) k .0 e), λ a. line-more (m .edge) (m .rising) (m .falling) k .1 (down a))
+
+-- ---- firing
+-- "A sample v after p fires when every High line is 1 in v, every Low line 0, ..", lines with both counting as with Edge
+pub fires-terms : (ts : List Term) (p v : ℕ) → (fires (masksOf ts) (some p) v ≡ true) ↔ ((c : Condition) (k : ℕ) → Asked ts c k → LineHolds c k p v)
 unfolding fires
 fires-terms ts p v = (
-  λ e t h. matches-lines (masksOf ts) p v .0 e (t .line) (t .condition) (masks-line ts (t .condition) (t .line) .1 h),
-  λ f. matches-lines (masksOf ts) p v .1 (λ k c d. f (on c k) (masks-line ts c k .0 d)),
+  λ e c k a. matches-lines (masksOf ts) p v .0 e k c (masks-line ts c k .1 a),
+  λ f. matches-lines (masksOf ts) p v .1 (λ k c d. f c k (masks-line ts c k .0 d)),
 )
 
 -- what a condition asks of the first sample: no sample before it can differ
@@ -310,17 +371,17 @@ still m = (λ e. apart e, λ f. or-zero (or-zero (no-lines (m .rising) (f rising
     apart e falling k d = none-set (m .falling) k (or-zero-right (m .rising) (m .falling) (or-zero-left _ (m .edge) e)) d
     apart e edge k d = none-set (m .edge) k (or-zero-right (bitOr (m .rising) (m .falling)) (m .edge) e) d
 
+abbrev pub holds : Term → ℕ → ℕ → Type 0
+holds t p v = LineHolds (t .condition) (t .line) p v
+
 -- "The first sample .. fires only if there is no Rising, Falling or Edge term, tested with p = v."
 pub fires-first : (ts : List Term) (v : ℕ) → (fires (masksOf ts) none v ≡ true) ↔ ((t : Term) → List·Memᴰ t ts → AtFirst (t .condition) × holds t v v)
 unfolding fires
 fires-first ts v = (
-  λ e t h. (
-    still m .0 (eqb-true _ _ (and-eq-true-iff quiet (matches m v v) .0 e .0)) (t .condition) (t .line) (masks-line ts (t .condition) (t .line) .1 h),
-    fires-terms ts v v .0 (and-eq-true-iff quiet (matches m v v) .0 e .1) t h,
-  ),
+  λ e t h. down (still m .0 (eqb-true _ _ (and-eq-true-iff quiet (matches m v v) .0 e .0))) (fires-terms ts v v .0 (and-eq-true-iff quiet (matches m v v) .0 e .1)) (t .condition) (t .line) h,
   λ f. and-eq-true-iff quiet (matches m v v) .1 (
-    eq-eqb _ _ (still m .1 (λ c k d. f (on c k) (masks-line ts c k .0 d) .0)),
-    fires-terms ts v v .1 (λ t h. f t h .1),
+    eq-eqb _ _ (still m .1 (λ c k d. up f c k (masks-line ts c k .0 d) .0)),
+    fires-terms ts v v .1 (λ c k a. up f c k a .1),
   ),
 )
   where
@@ -329,6 +390,22 @@ fires-first ts v = (
 
     quiet : Bool
     quiet = eqb (bitOr (bitOr (m .rising) (m .falling)) (m .edge)) 0
+
+    down : ((c : Condition) (k : ℕ) → line (maskFor c m) k ≡ 1 → AtFirst c) → ((c : Condition) (k : ℕ) → Asked ts c k → LineHolds c k v v)
+        → (c : Condition) (k : ℕ) → List·Memᴰ (on c k) ts → AtFirst c × LineHolds c k v v
+    down s f high k h = (tt, f high k h)
+    down s f low k h = (tt, f low k h)
+    down s f rising k h = absurd (s rising k (masks-line ts rising k .1 (h, λ g. s edge k (masks-line ts edge k .1 (inr (h, g))))))
+    down s f falling k h = absurd (s falling k (masks-line ts falling k .1 (h, λ g. s edge k (masks-line ts edge k .1 (inr (g, h))))))
+    down s f edge k h = absurd (s edge k (masks-line ts edge k .1 (inl h)))
+
+    up : ((t : Term) → List·Memᴰ t ts → AtFirst (t .condition) × holds t v v) → (c : Condition) (k : ℕ) → Asked ts c k → AtFirst c × LineHolds c k v v
+    up f high k a = f (on high k) a
+    up f low k a = f (on low k) a
+    up f rising k a = f (on rising k) (a .0)
+    up f falling k a = f (on falling k) (a .0)
+    up f edge k (inl a) = f (on edge k) a
+    up f edge k (inr a) = absurd (f (on rising k) (a .0) .0)
 
 -- ---- the first firing place
 -- the sample at place k fires, with the one before it, or q at the start

@@ -1,4 +1,4 @@
--- Terms, the five masks that they make, and when a sample fires. 01: Selection and recorder.
+-- Terms, the five masks that they make, and when a sample fires. 01: Selection and recorder; 02: CR 4.
 use mathlib.Core.Bool.{Bool, cond, _&&_}
 use mathlib.Core.List.{List, [], _∷_}
 use mathlib.Core.Option.{Option, none, some}
@@ -40,9 +40,19 @@ unfoldable pub withTerms : Masks → List Term → Masks
 withTerms m [] = m
 withTerms m (t ∷ ts) = withTerms (withTerm m t) ts
 
+-- the lines that a list of terms names
+abbrev pub namedBy : List Term → Masks
+namedBy ts = withTerms noMasks ts
+
+-- 02, CR 4: "a line with both counts as one with Edge, beside any other terms on it": lines of both leave the two masks, by XOR, and join that of Edge
+unfoldable pub bothAsEdge : Masks → Masks
+bothAsEdge m =
+    let both = bitAnd (m .rising) (m .falling) in
+    record { high = m .high; low = m .low; rising = bitXor (m .rising) both; falling = bitXor (m .falling) both; edge = bitOr (m .edge) both }
+
 -- the masks of a list of terms
 abbrev pub masksOf : List Term → Masks
-masksOf ts = withTerms noMasks ts
+masksOf ts = bothAsEdge (namedBy ts)
 
 -- "armed with five masks or unarmed"
 pub data Armed : Type 0 where

@@ -1,4 +1,4 @@
--- What a list of terms comes to, term by term, is 01's masks of the list, and wrong exactly when row 3 says so.
+-- What a list of terms comes to, term by term, is the lines that 01 has the list name, and wrong exactly when row 3 says so.
 use Prim.Native.Nat.{ℕ, _^_, _≤_, _<_}
 use mathlib.Core.Path.{_≡_, refl, sym, ap, ap₂, _∙_}
 use mathlib.Core.Bool.{Bool, true, false, cond, _||_, or-assoc, or-true, or-false}
@@ -52,7 +52,7 @@ term-is ts t e =
     ap (λ (b : Bool). asMasks (cond b (ts .masks) (withLine (ts .masks) (t .condition) (2 ^ t .channel)))) e
     ∙ line-is (ts .masks) (t .condition) (2 ^ t .channel)
 
--- with no wrong line the masks are 01's
+-- with no wrong line the masks are the lines that the list names
 masks-from : (list : List TriggerTerm) (ts : declared.Terms) → lineWrong (map termOf list) ≡ false → asMasks (withTerms ts list .masks) ≡ rule.withTerms (asMasks (ts .masks)) (map termOf list)
 unfolding withTerms lineWrong rule.withTerms
 masks-from [] ts e = refl
@@ -60,7 +60,7 @@ masks-from (t ∷ list) ts e =
     let b = neither (ltb topLine (t .channel)) (lineWrong (map termOf list)) .0 e in
     masks-from list (withTerm ts t) (b .1) ∙ ap (λ (m : rule.Masks). rule.withTerms m (map termOf list)) (term-is ts t (b .0))
 
-pub terms-masks : (list : List TriggerTerm) → lineWrong (map termOf list) ≡ false → asMasks (termsOf list .masks) ≡ rule.masksOf (map termOf list)
+pub terms-masks : (list : List TriggerTerm) → lineWrong (map termOf list) ≡ false → asMasks (termsOf list .masks) ≡ rule.namedBy (map termOf list)
 terms-masks list e = masks-from list noTerms e
 
 -- there is a term exactly when the list is not empty
@@ -74,5 +74,5 @@ pub terms-armed : (list : List TriggerTerm) → lineWrong (map termOf list) ≡ 
 unfolding withTerms
 terms-armed [] e = refl
 terms-armed (t ∷ list) e =
-    ap (λ (b : Bool). cond b (rule.waiting (asMasks (termsOf (t ∷ list) .masks))) rule.unarmed) (any-stays list (withTerm noTerms t) refl)
-    ∙ ap rule.waiting (terms-masks (t ∷ list) e)
+    ap (λ (b : Bool). cond b (rule.waiting (rule.bothAsEdge (asMasks (termsOf (t ∷ list) .masks)))) rule.unarmed) (any-stays list (withTerm noTerms t) refl)
+    ∙ ap (λ (m : rule.Masks). rule.waiting (rule.bothAsEdge m)) (terms-masks (t ∷ list) e)

@@ -58,6 +58,6 @@ withTerms ts (t ∷ more) = withTerms (withTerm ts t) more
 abbrev pub termsOf : List TriggerTerm → declared.Terms
 termsOf list = withTerms noTerms list
 
--- armed where there is a term
+-- armed where there is a term; Rising and Falling on one line become Edge here, once
 abbrev pub armedBy : declared.Terms → rule.Armed
-armedBy ts = cond (ts .any) (rule.waiting (asMasks (ts .masks))) rule.unarmed
+armedBy ts = cond (ts .any) (rule.waiting (rule.bothAsEdge (asMasks (ts .masks)))) rule.unarmed

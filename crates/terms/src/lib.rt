@@ -3,7 +3,7 @@ use lines::Mask;
 ghost use mathlib.Core.Path.{_≡_};
 ghost use mathlib.Core.Bool.{Bool};
 ghost use Prim.Native.Nat.{_^_, _≤_};
-ghost use Rattle.rules.specs.Trigger.{matches, fires};
+ghost use Rattle.rules.specs.Trigger.{bothAsEdge, matches, fires};
 ghost use Rattle.terms.specs.Terms.{asMasks, previousOf, noTerms, withLine, withTerm};
 
 pub enum Condition {
@@ -29,7 +29,7 @@ pub struct Masks {
     pub edge: Mask,
 }
 
-// What a list of terms comes to: whether there is one, whether a line is above the highest, and the masks.
+// What a list of terms comes to: whether there is one, whether a line is above the highest, and the lines that they name.
 pub struct Terms {
     pub any: bool,
     pub wrong: bool,
@@ -108,6 +108,20 @@ impl Masks {
             Condition::Edge => next.edge = self.edge | bit,
         }
         next
+    }
+
+    // 02: "a line with both counts as one with Edge, beside any other terms on it". Taken once, when a recorder is armed.
+    pub fn both_as_edge(self) -> Masks
+        ensures { λ r. ⌜ asMasks r ≡ bothAsEdge (asMasks self) ⌝ }
+    {
+        let both = self.rising & self.falling;
+        Masks {
+            high: self.high,
+            low: self.low,
+            rising: self.rising ^ both,
+            falling: self.falling ^ both,
+            edge: self.edge | both,
+        }
     }
 
     // v after prev: every term holds. Each part has the lines of a condition that fail it.

@@ -15,7 +15,8 @@ pub enum Condition {
     Low,
 }
 
-/// A line and its condition. A trigger fires at the first sample at which all of its terms hold.
+/// A line and its condition. A trigger fires at the first sample at which all of its terms hold;
+/// a line with both [`Rising`](Condition::Rising) and [`Falling`](Condition::Falling) counts as one with [`Edge`](Condition::Edge).
 #[derive(Clone, Copy, Debug, PartialEq, Eq, Hash)]
 pub struct Term {
     /// The line, 0 to 15.

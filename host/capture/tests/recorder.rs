@@ -62,6 +62,32 @@ fn record(rng: &mut Rng, settings: &Settings, terms: &[Term], all: &[Lines], uni
 }
 
 #[test]
+fn rising_and_falling_on_one_line_fire_at_either() {
+    let [rising, falling] = [Condition::Rising, Condition::Falling];
+    let mark = |terms: &[(u8, Condition)], samples: &[u8]| {
+        let settings = Settings::new(8, 9).rate(8).pretrigger(Wish::Seconds(1.0));
+        let settings = terms.iter().fold(settings, |s, &(line, condition)| s.term(line, condition));
+        let mut recorder = Recorder::start(&settings).unwrap();
+        recorder.push(samples).unwrap();
+        recorder.into_capture().mark()
+    };
+    for both in [[(3, rising), (3, falling)], [(3, falling), (3, rising)]] {
+        assert_eq!(mark(&both, &[0, 0, 8]), Some(2));
+        assert_eq!(mark(&both, &[8, 8, 0]), Some(2));
+        assert_eq!(mark(&both, &[8]), None);
+        // Other terms stay, on that line and on others.
+        let high = [&both[..], &[(3, Condition::High)]].concat();
+        assert_eq!(mark(&high, &[8, 0, 8]), Some(2));
+        let edge = [&both[..], &[(0, Condition::Edge)]].concat();
+        assert_eq!(mark(&edge, &[8, 0, 1, 8]), Some(3));
+        let rise = [&both[..], &[(0, rising)]].concat();
+        assert_eq!(mark(&rise, &[1, 8, 0, 9, 1, 8, 1]), Some(3));
+    }
+    // On two lines each alone: a line that rises, another that falls.
+    assert_eq!(mark(&[(3, rising), (0, falling)], &[0, 8, 1, 8]), Some(3));
+}
+
+#[test]
 fn a_refused_push_adds_nothing() {
     let settings =
         Settings::new(8, 3).term(0, Condition::Rising).rate(2).pretrigger(Wish::Seconds(1.0));

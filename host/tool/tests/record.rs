@@ -49,6 +49,19 @@ fn a_trigger_with_a_part_before_it() {
 }
 
 #[test]
+fn rising_and_falling_on_one_line() {
+    let folder = Folder::new("record-either");
+    for (samples, mark) in [([0, 0, 8, 0], 2), ([8, 0, 8, 8], 1)] {
+        let run = folder.run_on(
+            "record --unit 1 --trigger 3=rising,3=falling --limit 4 --pre 0.5 -o a.cap",
+            &samples.map(|sample| sample as u8),
+        );
+        run.yes();
+        assert_eq!(folder.read("a.cap"), file(1, "-", &mark.to_string(), &samples));
+    }
+}
+
+#[test]
 fn seconds_before_the_trigger() {
     let folder = Folder::new("record-seconds");
     folder.write("in", &[1, 2, 3, 4, 5, 6, 128, 7]);

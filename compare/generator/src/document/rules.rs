@@ -1,5 +1,5 @@
-//! Document 01's rules as plain scans over all samples: no levels, no ring, no cut into pushes.
-//! Written from the document and not from the Rust, which is compared with them.
+//! Document 01's rules, and CR 4 of document 02, as plain scans over all samples: no levels, no ring, no cut into
+//! pushes. Written from the documents and not from the Rust, which is compared with them.
 
 use crate::op::{Burst, Condition, Settings, Term, View, Wish};
 
@@ -163,17 +163,21 @@ fn clamp(x: f64, most: f64) -> f64 {
     }
 }
 
+/// Document 02, CR 4: a line with both Rising and Falling counts as one with Edge.
 fn fires(terms: &[Term], before: Option<u16>, v: u16) -> bool {
     let bit = |sample: u16, term: &Term| sample >> term.line & 1;
+    let named = |line, condition| terms.contains(&Term { line, condition });
+    let both = |line| named(line, Condition::Rising) && named(line, Condition::Falling);
     terms.iter().all(|term| {
         let now = bit(v, term);
         let then = before.map(|p| bit(p, term));
+        let differs = then.is_some_and(|then| then != now);
         match term.condition {
             Condition::High => now == 1,
             Condition::Low => now == 0,
-            Condition::Rising => then == Some(0) && now == 1,
-            Condition::Falling => then == Some(1) && now == 0,
-            Condition::Edge => then.is_some_and(|then| then != now),
+            Condition::Rising => differs && (now == 1 || both(term.line)),
+            Condition::Falling => differs && (now == 0 || both(term.line)),
+            Condition::Edge => differs,
         }
     })
 }

@@ -116,12 +116,14 @@ pub fn selected(
 }
 
 fn fires(terms: &[Term], before: Option<Lines>, now: Lines) -> bool {
+    let named = |line, condition| terms.contains(&Term { line, condition });
     terms.iter().all(|term| {
         let high = now >> term.line & 1 == 1;
         let was = before.map(|before| before >> term.line & 1 == 1);
+        let either = named(term.line, Condition::Rising) && named(term.line, Condition::Falling);
         match term.condition {
-            Condition::Rising => was == Some(false) && high,
-            Condition::Falling => was == Some(true) && !high,
+            Condition::Rising => was == Some(!high) && (high || either),
+            Condition::Falling => was == Some(!high) && (!high || either),
             Condition::Edge => was == Some(!high),
             Condition::High => high,
             Condition::Low => !high,

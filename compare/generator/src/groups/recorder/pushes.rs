@@ -42,7 +42,7 @@ fn complete(list: &mut List) {
 /// Every condition, several on one line, and lines that unit 1 lacks.
 fn terms(list: &mut List) {
     let samples = [0, 1, 0, 3, 1, 2, 2, 0, 1];
-    let sets: [&[Term]; 14] = [
+    let sets: [&[Term]; 17] = [
         &[term(0, Rising)],
         &[term(0, Falling)],
         &[term(0, Edge)],
@@ -57,6 +57,9 @@ fn terms(list: &mut List) {
         &[term(0, Falling), term(1, High)],
         &[term(0, Edge), term(1, Edge)],
         &[term(1, Low), term(0, High)],
+        &[term(0, Rising), term(0, High), term(0, Falling)],
+        &[term(1, Edge), term(0, Falling), term(0, Rising)],
+        &[term(0, Rising), term(1, Rising), term(0, Falling), term(1, Falling)],
     ];
     for set in sets {
         recording(list, &unlimited(8, 20, 3, set), &[&samples[..4], &samples[4..]]);
@@ -69,6 +72,8 @@ fn terms(list: &mut List) {
             list.say(Op::Run);
         }
     }
+    // Document 02, CR 4, at its smallest: with the two terms themselves the Rust would wait for ever.
+    recording(list, &unlimited(8, 20, 3, &[term(0, Rising), term(0, Falling)]), &[&[1, 0]]);
     for line in [8, 15] {
         for condition in CONDITIONS {
             let set = [term(line, condition)];
