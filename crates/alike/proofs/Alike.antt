@@ -9,7 +9,8 @@ use borrow.Author.Tests.{lt-ltb}
 use Rattle.rules.specs.Node.{Node, nodeOf, cut, leaf}
 use Rattle.rules.specs.Search.{summary, cutSummary}
 use Rattle.rules.specs.Pixel.{Range, rowBy, cutPixels}
-use Rattle.rules.proofs.Node.{cutTo, node-one}
+use Rattle.rules.specs.Sample.{cutLines}
+use Rattle.rules.proofs.Node.{node-one}
 use Rattle.rules.proofs.Row.{Stored}
 use Rattle.alike.specs.Alike.{Same, Alike}
 use Rattle.alike.proofs.Below.{summary-below, render-below, next-below, previous-below, burst-below, row-below}
@@ -29,10 +30,10 @@ same-len v s₁ s₂ len lines = record {
 }
   where
     t₁ : ℕ → ℕ
-    t₁ = cutTo v s₁
+    t₁ = cutLines v s₁
 
     t₂ : ℕ → ℕ
-    t₂ = cutTo v s₂
+    t₂ = cutLines v s₂
 
 module _ (v : ℕ) (s₁ : ℕ → ℕ) (len₁ : ℕ) (s₂ : ℕ → ℕ) (len₂ : ℕ) where
   pub same-alike : Same v s₁ len₁ s₂ len₂ → Alike v s₁ len₁ s₂ len₂
@@ -42,7 +43,7 @@ module _ (v : ℕ) (s₁ : ℕ → ℕ) (len₁ : ℕ) (s₂ : ℕ → ℕ) (len
   pub row-alike : Same v s₁ len₁ s₂ len₂ → (range : ℕ → ℕ → Option Range) → ((n : ℕ) → Stored (range n) n) → (px n : ℕ) → cutPixels v (rowBy (nodeOf s₁) (range len₁) px n) ≡ cutPixels v (rowBy (nodeOf s₂) (range len₂) px n)
   row-alike same range stored px n =
       sym (row-cut v s₁ len₁ (range len₁) px n)
-      ∙ row-below (cutTo v s₁) (cutTo v s₂) len₁ (same .lines) (range len₁) (stored len₁) px n
+      ∙ row-below (cutLines v s₁) (cutLines v s₂) len₁ (same .lines) (range len₁) (stored len₁) px n
       ∙ row-cut v s₂ len₁ (range len₁) px n
       ∙ ap (λ (l : ℕ). cutPixels v (rowBy (nodeOf s₂) (range l) px n)) (same .len)
 

@@ -12,14 +12,14 @@ use Rattle.rules.specs.Walk.{allLevels, runReader, nextSearch, previousSearch}
 use Rattle.rules.specs.Burst.{burstSearch}
 use Rattle.rules.specs.Pixel.{View, Range, pixelRange, shown, rowBy, render, cutPixels}
 use Rattle.rules.proofs.Bits.{and-assoc}
-use Rattle.rules.proofs.Node.{cutTo, node-cut}
+use Rattle.rules.specs.Sample.{cutLines, Within}
+use Rattle.rules.proofs.Node.{node-cut}
 use Rattle.rules.proofs.Steps.{AlikeNodes}
-use Rattle.alike.specs.Alike.{Within}
 use Rattle.alike.proofs.Searches.{next-by-nodes, previous-by-nodes, burst-by-nodes}
 
 module _ (v : ℕ) (s : ℕ → ℕ) (len : ℕ) where
   abbrev lines : ℕ → ℕ
-  lines = cutTo v s
+  lines = cutLines v s
 
   pub summary-cut : (a b : ℕ) → summary lines len a b ≡ cutSummary v (summary s len a b)
   summary-cut a b = go (ltb a (min b len))

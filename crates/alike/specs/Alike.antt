@@ -2,21 +2,17 @@
 -- A run is a function from places to samples, s, and its length, len.
 use mathlib.Core.Path.{_≡_}
 use Prim.Native.Nat.{ℕ, _<_}
-use lib.Bits.{bitAnd}
+use Rattle.rules.specs.Sample.{Within, cutTo}
 use Rattle.rules.specs.Search.{summary, cutSummary}
 use Rattle.rules.specs.Walk.{nextSearch, previousSearch}
 use Rattle.rules.specs.Burst.{burstSearch}
 use Rattle.rules.specs.Pixel.{View, render, cutPixels}
 
--- "A mask within it has no other bit."
-abbrev pub Within : ℕ → ℕ → Type 0
-Within mask v = bitAnd mask v ≡ mask
-
 module _ (v : ℕ) (s₁ : ℕ → ℕ) (len₁ : ℕ) (s₂ : ℕ → ℕ) (len₂ : ℕ) where
   -- "the same length .. and the same chosen lines at every sample"
   pub record Same : Type 0 where
     pub len : len₁ ≡ len₂
-    pub lines : (i : ℕ) → i < len₁ → bitAnd (s₁ i) v ≡ bitAnd (s₂ i) v
+    pub lines : (i : ℕ) → i < len₁ → cutTo v (s₁ i) ≡ cutTo v (s₂ i)
 
   -- "the same summaries and pixels cut down to those lines, and the same next, previous and burst answers, jumps included, for every mask within them"
   -- and 02, CR 3: "two recordings that look alike to a viewer also give equal counts for every mask within the viewer's lines"

@@ -9,7 +9,7 @@ use native.Mathlib.Omega.{arith}
 use lib.Dec.{ltb}
 use lib.ListN.{length}
 use borrow.Author.Tests.{le-ltb, lt-ltb, eq-eqb, ne-eqb, ltb-false}
-use Rattle.rules.specs.Sample.{countOf}
+use Rattle.rules.specs.Sample.{sampleCount}
 use Rattle.rules.specs.Refusal.{Row, firstOf, storeRows, storeRefusal}
 use Rattle.rules.proofs.Refusal.{Sound, MarkInside, rows-left, rows-refused, rows-passed, row-passed}
 use Rattle.store.specs.Stored.{Stored}
@@ -21,16 +21,16 @@ use Rattle.capture.specs.Record.{storeOf, lentOf}
 use Rattle.append.specs.declared.Appended.the-variants.{Refused, Done}
 use Rattle.append.specs.Append.{grown, refusalOf, takenOf, Appends}
 
-pub whole-bytes : (unit : ℕ) (bytes : List ℕ) → countOf unit bytes * unit ≤ length bytes
+pub whole-bytes : (unit : ℕ) (bytes : List ℕ) → sampleCount unit bytes * unit ≤ length bytes
 whole-bytes unit bytes = div-mul-le-self (length bytes) unit
 
 -- the row of an append alone
 abbrev row-8 : Capture → List ℕ → List Row
-row-8 c b = record { number = 8; holds = ltb (c .capacity) (c .len + countOf (c .unitsize) b) } ∷ []
+row-8 c b = record { number = 8; holds = ltb (c .capacity) (c .len + sampleCount (c .unitsize) b) } ∷ []
 
 module _ (c : Capture) (b s : List ℕ) (lv : ℕ → List ℕ) where
-  pub room-of : Sound (storeOf c) (lentOf s lv) → c .len + countOf (c .unitsize) b ≤ c .capacity → AppendRoom (c .unitsize) (c .len) (countOf (c .unitsize) b) (length s) lv (length b)
-  room-of d h = record { room = sound-room (storeOf c) s lv (countOf (c .unitsize) b) d h; bytes = whole-bytes (c .unitsize) b }
+  pub room-of : Sound (storeOf c) (lentOf s lv) → c .len + sampleCount (c .unitsize) b ≤ c .capacity → AppendRoom (c .unitsize) (c .len) (sampleCount (c .unitsize) b) (length s) lv (length b)
+  room-of d h = record { room = sound-room (storeOf c) s lv (sampleCount (c .unitsize) b) d h; bytes = whole-bytes (c .unitsize) b }
 
   -- ---- which row refuses
   pub refused-first : (k : ℕ) → k ≡ storeRefusal (storeOf c) (lentOf s lv) → (k ≡ 0 → ⊥) → k ≡ refusalOf c s lv b
@@ -38,11 +38,11 @@ module _ (c : Capture) (b s : List ℕ) (lv : ℕ → List ℕ) where
   refused-first k e z = e ∙ sym (rows-refused (storeOf c) (lentOf s lv) (λ y. z (e ∙ y)) (row-8 c b))
 
   module _ (f : storeRefusal (storeOf c) (lentOf s lv) ≡ 0) where
-    pub refused-full : c .capacity < c .len + countOf (c .unitsize) b → 8 ≡ refusalOf c s lv b
+    pub refused-full : c .capacity < c .len + sampleCount (c .unitsize) b → 8 ≡ refusalOf c s lv b
     unfolding refusalOf
     refused-full h = sym (rows-left (storeOf c) (lentOf s lv) f (row-8 c b) ∙ ap (λ (t : Bool). cond {A = ℕ} t 8 0) (lt-ltb _ _ h))
 
-    pub refused-none : c .len + countOf (c .unitsize) b ≤ c .capacity → 0 ≡ refusalOf c s lv b
+    pub refused-none : c .len + sampleCount (c .unitsize) b ≤ c .capacity → 0 ≡ refusalOf c s lv b
     unfolding refusalOf
     refused-none h = sym (rows-left (storeOf c) (lentOf s lv) f (row-8 c b) ∙ ap (λ (t : Bool). cond {A = ℕ} t 8 0) (le-ltb _ _ h))
 
@@ -51,9 +51,9 @@ module _ (c : Capture) (b s : List ℕ) (lv : ℕ → List ℕ) where
   unfolding takenOf
   taken-none z = rw (ne-eqb (refusalOf c s lv b) 0 z)
 
-  pub taken-all : refusalOf c s lv b ≡ 0 → takenOf c s lv b ≡ countOf (c .unitsize) b
+  pub taken-all : refusalOf c s lv b ≡ 0 → takenOf c s lv b ≡ sampleCount (c .unitsize) b
   unfolding takenOf
-  taken-all e = ap (λ (t : Bool). cond t (countOf (c .unitsize) b) 0) (eq-eqb (refusalOf c s lv b) 0 e)
+  taken-all e = ap (λ (t : Bool). cond t (sampleCount (c .unitsize) b) 0) (eq-eqb (refusalOf c s lv b) 0 e)
 
   pub appends-refused : (k : ℕ) → k ≡ refusalOf c s lv b → (k ≡ 0 → ⊥) → Appends c b s lv (Refused k c) s lv
   appends-refused k e z = record {
@@ -68,8 +68,8 @@ module _ (c : Capture) (b s : List ℕ) (lv : ℕ → List ℕ) where
       same : c .len ≡ c .len + takenOf c s lv b
       same = omega (arith, none)
 
-  pub appends-done : 0 ≡ refusalOf c s lv b → (s′ : List ℕ) (lv′ : ℕ → List ℕ) → Stored (c .unitsize) (c .len) (countOf (c .unitsize) b) b s lv s′ lv′
-      → Appends c b s lv (Done (grown c (countOf (c .unitsize) b))) s′ lv′
+  pub appends-done : 0 ≡ refusalOf c s lv b → (s′ : List ℕ) (lv′ : ℕ → List ℕ) → Stored (c .unitsize) (c .len) (sampleCount (c .unitsize) b) b s lv s′ lv′
+      → Appends c b s lv (Done (grown c (sampleCount (c .unitsize) b))) s′ lv′
   appends-done e s′ lv′ d = record {
     number-is = e;
     record-is = ap (grown c) (sym (taken-all (sym e)));
@@ -79,21 +79,21 @@ module _ (c : Capture) (b s : List ℕ) (lv : ℕ → List ℕ) where
 -- ---- an append that is not refused
 module _ (c : Capture) (b s : List ℕ) (lv : ℕ → List ℕ) where
   -- nothing refuses exactly when the bounds hold and there is room
-  pub passed : (refusalOf c s lv b ≡ 0) ↔ (Sound (storeOf c) (lentOf s lv) × MarkInside (storeOf c) × (c .len + countOf (c .unitsize) b ≤ c .capacity))
+  pub passed : (refusalOf c s lv b ≡ 0) ↔ (Sound (storeOf c) (lentOf s lv) × MarkInside (storeOf c) × (c .len + sampleCount (c .unitsize) b ≤ c .capacity))
   unfolding refusalOf
   passed = (down, up)
     where
       rows : (firstOf (storeRows (storeOf c) (lentOf s lv) (row-8 c b)) ≡ 0) ↔ (Sound (storeOf c) (lentOf s lv) × MarkInside (storeOf c) × (firstOf (row-8 c b) ≡ 0))
       rows = rows-passed (storeOf c) (lentOf s lv) (row-8 c b)
 
-      last : (firstOf (row-8 c b) ≡ 0) ↔ ((ltb (c .capacity) (c .len + countOf (c .unitsize) b) ≡ false) × (_≡_ {A = ℕ} 0 0))
-      last = row-passed 8 0 (ltb (c .capacity) (c .len + countOf (c .unitsize) b)) (omega arith)
+      last : (firstOf (row-8 c b) ≡ 0) ↔ ((ltb (c .capacity) (c .len + sampleCount (c .unitsize) b) ≡ false) × (_≡_ {A = ℕ} 0 0))
+      last = row-passed 8 0 (ltb (c .capacity) (c .len + sampleCount (c .unitsize) b)) (omega arith)
 
-      down : refusalOf c s lv b ≡ 0 → Sound (storeOf c) (lentOf s lv) × MarkInside (storeOf c) × (c .len + countOf (c .unitsize) b ≤ c .capacity)
-      down e = let t = rows .0 e in (t .0, t .1, ltb-false (c .capacity) (c .len + countOf (c .unitsize) b) (last .0 (t .2) .0))
+      down : refusalOf c s lv b ≡ 0 → Sound (storeOf c) (lentOf s lv) × MarkInside (storeOf c) × (c .len + sampleCount (c .unitsize) b ≤ c .capacity)
+      down e = let t = rows .0 e in (t .0, t .1, ltb-false (c .capacity) (c .len + sampleCount (c .unitsize) b) (last .0 (t .2) .0))
 
-      up : Sound (storeOf c) (lentOf s lv) × MarkInside (storeOf c) × (c .len + countOf (c .unitsize) b ≤ c .capacity) → refusalOf c s lv b ≡ 0
-      up t = rows .1 (t .0, t .1, last .1 (le-ltb (c .capacity) (c .len + countOf (c .unitsize) b) (t .2), refl))
+      up : Sound (storeOf c) (lentOf s lv) × MarkInside (storeOf c) × (c .len + sampleCount (c .unitsize) b ≤ c .capacity) → refusalOf c s lv b ≡ 0
+      up t = rows .1 (t .0, t .1, last .1 (le-ltb (c .capacity) (c .len + sampleCount (c .unitsize) b) (t .2), refl))
 
-  pub passed-room : refusalOf c s lv b ≡ 0 → AppendRoom (c .unitsize) (c .len) (countOf (c .unitsize) b) (length s) lv (length b)
+  pub passed-room : refusalOf c s lv b ≡ 0 → AppendRoom (c .unitsize) (c .len) (sampleCount (c .unitsize) b) (length s) lv (length b)
   passed-room e = let t = passed .0 e in room-of c b s lv (t .0) (t .2)

@@ -11,7 +11,7 @@ use lib.Seq.{paste}
 use contract.Lifetimes.{Lfts}
 use denote.Ref.{RefT, at-last}
 use Rattle.rules.specs.Node.{span, topLevel, levelNode}
-use Rattle.rules.specs.Sample.{sampleOf, countOf}
+use Rattle.rules.specs.Sample.{sampleOf, sampleCount}
 use Rattle.rules.specs.Refusal.{nodeSize}
 use Rattle.rules.proofs.Refusal.{Sound, MarkInside}
 use Rattle.node.specs.Memory.{nodeIn, levelOf, Right}
@@ -132,7 +132,7 @@ module _ {c : Capture} {m : Memory} {bytes : List ℕ} {v : Appended} {m′ : Me
     not-refused : refusalOf c (m .samples) (levels m) bytes ≡ 0
     not-refused = sym (equations .number-is) ∙ done
 
-    pub takes-all : taken ≡ countOf (c .unitsize) bytes
+    pub takes-all : taken ≡ sampleCount (c .unitsize) bytes
     takes-all = taken-all c bytes (m .samples) (levels m) not-refused
 
 -- ---- what the written nodes of level 1 depend on
@@ -150,10 +150,10 @@ module _ {c : Capture} {m : Memory} {a : List ℕ} {v : Appended} {m′ : Memory
 
 -- ---- two calls
 -- the whole samples of two runs of bytes, of which the first has no leftover
-counts-add : (u : ℕ) (a b : List ℕ) → 1 ≤ u → length a % u ≡ 0 → (countOf u a * u ≡ length a) × (countOf u (a ++ b) ≡ countOf u a + countOf u b)
-counts-add u a b h z = (whole, ap (λ (x : ℕ). x / u) (length-append a b ∙ ap (λ (x : ℕ). x + length b) (sym whole)) ∙ mul-add-div-right h (countOf u a) (length b))
+counts-add : (u : ℕ) (a b : List ℕ) → 1 ≤ u → length a % u ≡ 0 → (sampleCount u a * u ≡ length a) × (sampleCount u (a ++ b) ≡ sampleCount u a + sampleCount u b)
+counts-add u a b h z = (whole, ap (λ (x : ℕ). x / u) (length-append a b ∙ ap (λ (x : ℕ). x + length b) (sym whole)) ∙ mul-add-div-right h (sampleCount u a) (length b))
   where
-    whole : countOf u a * u ≡ length a
+    whole : sampleCount u a * u ≡ length a
     whole = omega (arith, div-add-mod' (length a) u, z)
 
 -- Appending in pieces: a, with no leftover byte, and then b. Where neither call refuses, a call of both together does not refuse,
@@ -172,15 +172,15 @@ module _ {c : Capture} {m : Memory} {a b : List ℕ} {v₁ : Appended} {m₁ : M
   u = c .unitsize
 
   abbrev na : ℕ
-  na = countOf u a
+  na = sampleCount u a
 
   abbrev nb : ℕ
-  nb = countOf u b
+  nb = sampleCount u b
 
   first-passed : Sound (storeOf c) (lentOf (m .samples) (levels m)) × MarkInside (storeOf c) × (c .len + na ≤ c .capacity)
   first-passed = passed c a (m .samples) (levels m) .0 (not-refused call₁ done₁)
 
-  counts : (na * u ≡ length a) × (countOf u (a ++ b) ≡ na + nb)
+  counts : (na * u ≡ length a) × (sampleCount u (a ++ b) ≡ na + nb)
   counts = counts-add u a b (first-passed .0 .unit-least) whole
 
   first-record : recordOf v₁ ≡ grown c na
@@ -220,10 +220,10 @@ module _ {c : Capture} {m : Memory} {a b : List ℕ} {v₁ : Appended} {m₁ : M
       start : (c .len + na) * u ≡ c .len * u + length a
       start = omega (arith, counts .0)
 
-      total : countOf u (a ++ b) * u ≡ length a + nb * u
+      total : sampleCount u (a ++ b) * u ≡ length a + nb * u
       total = ap (λ (n : ℕ). n * u) (counts .1) ∙ omega (arith, counts .0)
 
-      room : (c .len + countOf u (a ++ b)) * u ≤ length (m .samples)
+      room : (c .len + sampleCount u (a ++ b)) * u ≤ length (m .samples)
       room = passed-room c (a ++ b) (m .samples) (levels m) (not-refused both both-done) .room .samples
 
   pub pieces : SameLeft c m v₂ m₂ w m′

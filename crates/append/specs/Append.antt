@@ -4,7 +4,7 @@ use mathlib.Core.Bool.{cond}
 use mathlib.Core.List.{List}
 use Prim.Native.Nat.{ℕ, _+_}
 use lib.Dec.{eqb}
-use Rattle.rules.specs.Sample.{countOf}
+use Rattle.rules.specs.Sample.{sampleCount}
 use Rattle.rules.specs.Refusal.{appendRefusal}
 use Rattle.store.specs.Stored.{Stored}
 use Rattle.capture.specs.declared.Capture.{Capture}
@@ -28,11 +28,11 @@ grown c n = record { unitsize = c .unitsize; capacity = c .capacity; len = c .le
 
 -- the number of the first row that holds, 0 where none does
 unfoldable pub refusalOf : Capture → List ℕ → (ℕ → List ℕ) → List ℕ → ℕ
-refusalOf c samples levels bytes = appendRefusal (storeOf c) (lentOf samples levels) (countOf (c .unitsize) bytes)
+refusalOf c samples levels bytes = appendRefusal (storeOf c) (lentOf samples levels) (sampleCount (c .unitsize) bytes)
 
 -- how many samples are taken: every whole one of the bytes, and none where a row refuses
 unfoldable pub takenOf : Capture → List ℕ → (ℕ → List ℕ) → List ℕ → ℕ
-takenOf c samples levels bytes = cond (eqb (refusalOf c samples levels bytes) 0) (countOf (c .unitsize) bytes) 0
+takenOf c samples levels bytes = cond (eqb (refusalOf c samples levels bytes) 0) (sampleCount (c .unitsize) bytes) 0
 
 -- an append of bytes to a capture, over any memory: its answer, and what it leaves
 pub record Appends (c : Capture) (bytes samples : List ℕ) (levels : ℕ → List ℕ) (answer : Appended) (samples′ : List ℕ) (levels′ : ℕ → List ℕ) : Type 0 where

@@ -9,15 +9,17 @@ use native.Mathlib.Omega.{arith}
 use lib.ListN.{length, getD, take, drop, set, length-append, length-drop}
 use lib.Seq.{drop-cons, set-at}
 use borrow.Author.Tests.{eq-eqb, ne-eqb}
+use Rattle.rules.specs.Answer.{unrefused}
+use Rattle.rules.specs.Reading.{copiedTo, partOf}
 use Rattle.rules.specs.Sample.{listFrom}
-use Rattle.rules.specs.Node.{chunk, topLevel}
+use Rattle.rules.specs.Node.{chunk, topLevel, chunkEnd}
 use Rattle.rules.specs.Refusal.{Store, storeWrong, samplesNeed, levelNeed, storeRefusal, fresh, copied}
 use Rattle.rules.proofs.Refusal.{Sound, Ranged, ranged, none-refused, row-passed}
 use Rattle.lines.specs.Held.{Held}
 use Rattle.node.specs.Memory.{levelOf}
 use Rattle.capture.specs.declared.Sizes.{Sizes}
 use Rattle.capture.specs.Record.{lentNumbers, lentOf, Sized}
-use Rattle.capture.specs.Calls.{needRefusal, memoryNeed, over, unrefused, Source, partOf, chunkEnd, rawOf, Lies}
+use Rattle.capture.specs.Calls.{needRefusal, memoryNeed, Source, rawOf, Lies}
 
 -- ---- needs
 pub memory-is : (st : Store) (r : Sizes) → Sized st r → lentNumbers (r .samples) (r .l1) (r .l2) (r .l3) (r .l4) ≡ memoryNeed st
@@ -65,12 +67,12 @@ from-last s p (suc n) = ap (λ (l : List ℕ). s p ∷ l) (from-last s (p + 1) n
     next = omega arith
 
 -- ---- samples
-pub over-none : (s : ℕ → ℕ) (p : ℕ) (output : List ℕ) → output ≡ over s p 0 output
-unfolding over listFrom
+pub over-none : (s : ℕ → ℕ) (p : ℕ) (output : List ℕ) → output ≡ copiedTo s p 0 output
+unfolding copiedTo listFrom
 over-none s p output = refl
 
-pub over-turn : (s : ℕ → ℕ) (p i v : ℕ) (output now : List ℕ) → i < length output → now ≡ over s p i output → v ≡ s (p + i) → set now i v ≡ over s p (i + 1) output
-unfolding over
+pub over-turn : (s : ℕ → ℕ) (p i v : ℕ) (output now : List ℕ) → i < length output → now ≡ copiedTo s p i output → v ≡ s (p + i) → set now i v ≡ copiedTo s p (i + 1) output
+unfolding copiedTo
 over-turn s p i v output now h e ev =
     ap (λ (l : List ℕ). set l i v) (e ∙ ap (λ (l : List ℕ). listFrom s p i ++ l) (drop-cons output i 0 h))
     ∙ set-at (listFrom s p i) (getD output i 0) (drop (suc i) output) v i (length-from s p i)
@@ -79,8 +81,8 @@ over-turn s p i v output now h e ev =
     ∙ ap (λ (l : List ℕ). l ++ drop (suc i) output) (sym (from-last s p i))
     ∙ ap (λ (k : ℕ). listFrom s p k ++ drop k output) (sym (add-one i))
 
-pub length-over : (s : ℕ → ℕ) (p k : ℕ) (output : List ℕ) → k ≤ length output → length (over s p k output) ≡ length output
-unfolding over
+pub length-over : (s : ℕ → ℕ) (p k : ℕ) (output : List ℕ) → k ≤ length output → length (copiedTo s p k output) ≡ length output
+unfolding copiedTo
 length-over s p k output h = length-append (listFrom s p k) (drop k output) ∙ omega (arith, length-from s p k, length-drop k output)
 
 -- nothing is copied or drawn where a row refuses
@@ -89,11 +91,11 @@ unrefused-none r zero k e h = absurd (h refl)
 unrefused-none r (suc n) k e h = ap (λ (x : ℕ). unrefused x k) e
 
 module _ (s : ℕ → ℕ) (p k : ℕ) (output : List ℕ) where
-  pub none-copied : (r n : ℕ) → r ≡ n → (n ≡ 0 → ⊥) → output ≡ over s p (unrefused r k) output
-  none-copied r n e h = over-none s p output ∙ ap (λ (x : ℕ). over s p x output) (sym (unrefused-none r n k e h))
+  pub none-copied : (r n : ℕ) → r ≡ n → (n ≡ 0 → ⊥) → output ≡ copiedTo s p (unrefused r k) output
+  none-copied r n e h = over-none s p output ∙ ap (λ (x : ℕ). copiedTo s p x output) (sym (unrefused-none r n k e h))
 
-  pub all-copied : (r : ℕ) → r ≡ 0 → over s p k output ≡ over s p (unrefused r k) output
-  all-copied r e = ap (λ (x : ℕ). over s p (unrefused x k) output) (sym e)
+  pub all-copied : (r : ℕ) → r ≡ 0 → copiedTo s p k output ≡ copiedTo s p (unrefused r k) output
+  all-copied r e = ap (λ (x : ℕ). copiedTo s p (unrefused x k) output) (sym e)
 
 -- the place i + p of a source
 pub held-at : (unit p k n output i : ℕ) → Source unit p k n output → i < k → Held unit (p + i) n

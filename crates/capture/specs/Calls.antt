@@ -1,14 +1,12 @@
 -- What the plain calls answer, as 01's numbers and values, and the memory that they leave.
 use mathlib.Core.Path.{_≡_}
-use mathlib.Core.Bool.{cond}
-use mathlib.Core.List.{List, [], _∷_, _++_}
-use Prim.Native.Nat.{ℕ, zero, suc, _+_, _-_, _*_, _≤_, min}
-use lib.Dec.{eqb}
+use mathlib.Core.List.{List, [], _∷_}
+use Prim.Native.Nat.{ℕ, _+_, _-_, _*_, _≤_}
 use lib.ListN.{length, take, drop}
-use Rattle.rules.specs.Sample.{sampleOf, listFrom}
-use Rattle.rules.specs.Node.{chunk}
-use Rattle.rules.specs.Answer.{Answer, refused, given, unless}
-use Rattle.rules.specs.Refusal.{Store, Lent, firstOf, storeWrong, samplesNeed, levelNeed, storeRefusal, copied, samplesRefusal}
+use Rattle.rules.specs.Sample.{sampleOf}
+use Rattle.rules.specs.Answer.{Answer, refused, given}
+use Rattle.rules.specs.Refusal.{Store, Lent, firstOf, storeWrong, samplesNeed, levelNeed}
+use Rattle.rules.specs.Reading.{copiedTo, copyCount, samplesAnswer, rawAnswer}
 use Rattle.capture.specs.Record.{storeOf, lentNumbers, lentOf}
 use Rattle.capture.specs.declared.Needed.{Needed}
 use Rattle.capture.specs.declared.Needed.the-variants as needed
@@ -47,18 +45,9 @@ abbrev pub copiedOf : Copied → Answer ℕ
 copiedOf (copies.Refused n) = refused n
 copiedOf (copies.Count k) = given k
 
--- k samples from place p on, and after them what output had
-unfoldable pub over : (ℕ → ℕ) → ℕ → ℕ → List ℕ → List ℕ
-over s p k output = listFrom s p k ++ drop k output
-
--- nothing is copied where a row refuses
-abbrev pub unrefused : ℕ → ℕ → ℕ
-unrefused zero k = k
-unrefused (suc n) k = 0
-
 pub record Copies (st : Store) (bytes : List ℕ) (levels : ℕ → List ℕ) (start count : ℕ) (output : List ℕ) (r : Copied) (output′ : List ℕ) : Type 0 where
-  pub answer-is : copiedOf r ≡ unless (samplesRefusal st (lentOf bytes levels) start count (length output)) (copied (st .len) start count)
-  pub output-is : output′ ≡ over (sampleOf (st .unit) bytes) start (unrefused (samplesRefusal st (lentOf bytes levels) start count (length output)) (copied (st .len) start count)) output
+  pub answer-is : copiedOf r ≡ samplesAnswer st (lentOf bytes levels) start count (length output)
+  pub output-is : output′ ≡ copiedTo (sampleOf (st .unit) bytes) start (copyCount st (lentOf bytes levels) start count (length output)) output
 
 -- k samples from place p on lie in n bytes, and have room in an output
 pub record Source (unit p k n output : ℕ) : Type 0 where
@@ -68,17 +57,9 @@ pub record Source (unit p k n output : ℕ) : Type 0 where
   pub room : k ≤ output
 
 -- ---- raw
--- the bytes of the places [a, b)
-unfoldable pub partOf : ℕ → List ℕ → ℕ → ℕ → List ℕ
-partOf unit bytes a b = take (b * unit - a * unit) (drop (a * unit) bytes)
-
--- where the stored samples of chunk c end
-abbrev pub chunkEnd : ℕ → ℕ → ℕ
-chunkEnd len c = min ((c + 1) * chunk) len
-
--- "Raw(c) returns chunk c's stored bytes .., empty if c is past the end or 1 or 2 below would apply"
+-- chunk c's stored bytes
 abbrev pub rawOf : Store → List ℕ → (ℕ → List ℕ) → ℕ → List ℕ
-rawOf st bytes levels c = cond (eqb (storeRefusal st (lentOf bytes levels)) 0) (partOf (st .unit) bytes (c * chunk) (chunkEnd (st .len) c)) []
+rawOf st bytes levels c = rawAnswer st (lentOf bytes levels) bytes c
 
 -- a part of memory, from one place to another
 pub record Lies (bytes part : List ℕ) (from to : ℕ) : Type 0 where

@@ -4,12 +4,14 @@ ghost use mathlib.Core.Path.{_≡_};
 ghost use mathlib.Core.Bool.{Bool};
 ghost use Prim.Native.Nat.{_+_, _*_, _≤_};
 ghost use lib.ListN.{length};
+ghost use Rattle.rules.specs.Reading.{getAnswer, copiedTo};
+ghost use Rattle.rules.specs.Node.{chunkEnd};
 ghost use Rattle.rules.specs.Sample.{unitOf, sampleOf};
 ghost use Rattle.rules.specs.Answer.{unless};
-ghost use Rattle.rules.specs.Refusal.{unitWrong, markWrong, storeWrong, lentShort, storeRefusal, fresh, getRefusal, copied};
+ghost use Rattle.rules.specs.Refusal.{unitWrong, markWrong, storeWrong, lentShort, storeRefusal, fresh, copied};
 ghost use Rattle.node.specs.Memory.{levelOf};
 ghost use Rattle.capture.specs.Record.{markOf, storeOf, lentNumbers, lentOf, Small, Sized};
-ghost use Rattle.capture.specs.Calls.{neededOf, needRefusal, memoryNeed, startedOf, gotOf, Source, over, Copies, chunkEnd, rawOf, Lies};
+ghost use Rattle.capture.specs.Calls.{neededOf, needRefusal, memoryNeed, startedOf, gotOf, Source, Copies, rawOf, Lies};
 
 // 01's mark: the place of the firing sample, once there is one.
 pub enum Mark {
@@ -202,7 +204,7 @@ pub fn get<'a>(
     l4: &'a [Mask],
     i: usize,
 ) -> Got
-    ensures { λ r. ⌜ gotOf r ≡ unless (getRefusal (storeOf c) (lentOf (now (samples .entry)) (levelOf (now (l1 .entry)) (now (l2 .entry)) (now (l3 .entry)) (now (l4 .entry)))) i) (sampleOf (c .unitsize) (now (samples .entry)) i) ⌝ }
+    ensures { λ r. ⌜ gotOf r ≡ getAnswer (storeOf c) (lentOf (now (samples .entry)) (levelOf (now (l1 .entry)) (now (l2 .entry)) (now (l3 .entry)) (now (l4 .entry)))) (sampleOf (c .unitsize) (now (samples .entry))) i ⌝ }
 {
     let n = refusal(c, samples.len(), l1.len(), l2.len(), l3.len(), l4.len());
     if n != 0 {
@@ -231,7 +233,7 @@ fn count_copied(len: usize, start: usize, count: usize) -> usize
 // The first k numbers of output become the samples from start on.
 fn copy_samples(bytes: &[u8], unitsize: usize, start: usize, k: usize, output: &mut [Mask])
     requires { ⌜ Source unitsize start k (length (now bytes)) (length (now output)) ⌝ }
-    ensures { λ _. ⌜ now (output .exit) ≡ over (sampleOf unitsize (now (bytes .entry))) start k (now (output .entry)) ⌝ }
+    ensures { λ _. ⌜ now (output .exit) ≡ copiedTo (sampleOf unitsize (now (bytes .entry))) start k (now (output .entry)) ⌝ }
 {
     let mut i = 0;
     while i < k {

@@ -12,7 +12,7 @@ use Rattle.rules.specs.Refusal.{Store, Lent}
 use Rattle.capture.specs.declared.Mark.{Mark}
 use Rattle.capture.specs.declared.Mark.the-variants.{Absent, At}
 use Rattle.capture.specs.declared.Capture.{Capture}
-use Rattle.whole.specs.Wrong.{Place}
+use Rattle.rules.specs.Wrong.{NodeAt}
 
 abbrev pub captureIn : List ℕ → Capture
 captureIn r = record { unitsize = getD r 0 0; capacity = getD r 1 0; len = getD r 2 0; trigger = cond (eqb (getD r 3 0) 0) Absent (At (getD r 4 0)) }
@@ -46,8 +46,8 @@ number v old = v
 abbrev pub flagNumber : Bool → ℕ
 flagNumber b = cond b 1 0
 
-abbrev pub placeLevel : Place → ℕ → ℕ
+abbrev pub placeLevel : NodeAt → ℕ → ℕ
 placeLevel p old = p .level
 
-abbrev pub placeNumber : Place → ℕ → ℕ
+abbrev pub placeNumber : NodeAt → ℕ → ℕ
 placeNumber p old = p .number

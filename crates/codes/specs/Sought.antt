@@ -1,5 +1,4 @@
 -- What a call of the boundary says of a search: what it found, and the nodes that it read (02, CR 3).
-use mathlib.Core.Option.{Option}
 use Prim.Native.Nat.{ℕ}
 use Rattle.rules.specs.Answer.{Answer, refused, given, seen}
 use Rattle.rules.specs.Walk.{Counted}

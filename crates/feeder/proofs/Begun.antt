@@ -8,11 +8,12 @@ use native.Mathlib.Nat.{mul-le-mul}
 use native.Mathlib.Omega.{arith}
 use lib.Dec.{ltb, leb}
 use borrow.Author.Tests.{ltb-false, lt-ltb, le-ltb, leb-false, le-leb, lt-leb}
+use Rattle.rules.specs.Start.{Begun, begun, startRule}
 use Rattle.rules.specs.Sample.{unitOf}
 use Rattle.rules.specs.Pretrigger as rule
 use Rattle.rules.specs.Trigger as trigger
-use Rattle.rules.specs.Selection.{Settings}
-use Rattle.rules.specs.Refusal.{Store, Lent, Row, firstOf, storeRows, storeRefusal, fresh, ringNeed, lineWrong, wishWrong, numberWrong, preOf, startRefusal}
+use Rattle.rules.specs.Selection.{Settings, preOf}
+use Rattle.rules.specs.Refusal.{Store, Lent, Row, firstOf, storeRows, storeRefusal, fresh, ringNeed, lineWrong, wishWrong, numberWrong, startRefusal, startRows, settingsRows, preRow}
 use Rattle.rules.specs.Answer.{Answer, refused, given, unless}
 use Rattle.rules.proofs.Refusal.{neither, Sound, SoundRecorder}
 use Rattle.capture.proofs.Answer.{refused-is, unless-given}
@@ -24,7 +25,7 @@ use Rattle.feeder.specs.declared.Pretrigger.{Pretrigger}
 use Rattle.feeder.specs.declared.Feeder.{Feeder}
 use Rattle.feeder.specs.declared.Started.the-variants.{Fresh}
 use Rattle.feeder.specs.Record.{wishOf, recorderOf}
-use Rattle.feeder.specs.Start.{Begun, freshOf, begun, startRule, startedOf, settingsRows, keptRow, answerOf, startOf, settingsOf, Workable}
+use Rattle.feeder.specs.Start.{freshOf, startedOf, answerOf, startOf, settingsOf, Workable}
 use Rattle.feeder.proofs.Rows.{Numbered, Passed, all-passed, rows-stop, rows-then, store-passed}
 
 -- ---- refusals as answers
@@ -43,11 +44,11 @@ module _ (st : Store) (lent : Lent) (limit : ℕ) (wrong : Bool) (wish : rule.Pr
       ∷ record { number = 6; holds = numberWrong wish rate }
       ∷ []
 
-  pub store-row : (n ≡ 0 → ⊥) → n ≡ firstOf (settingsRows st lent limit wrong wish rate)
+  pub store-row : (n ≡ 0 → ⊥) → n ≡ firstOf (settingsRows st lent limit wrong wish rate [])
   store-row h = told ∙ sym (rows-stop (storeRows st lent []) four (λ z. h (told ∙ z)))
 
   pub row-by : n ≡ 0 → (c3 c4 c5 c6 : Bool) → wrong ≡ c3 → ltb (st .capacity) limit ≡ c4 → wishWrong wish limit ≡ c5 → numberWrong wish rate ≡ c6
-      → cond {A = ℕ} c3 3 (cond c4 4 (cond c5 5 (cond c6 6 0))) ≡ firstOf (settingsRows st lent limit wrong wish rate)
+      → cond {A = ℕ} c3 3 (cond c4 4 (cond c5 5 (cond c6 6 0))) ≡ firstOf (settingsRows st lent limit wrong wish rate [])
   row-by h c3 c4 c5 c6 e3 e4 e5 e6 =
       go wrong (ltb (st .capacity) limit) (wishWrong wish limit) (numberWrong wish rate) e3 e4 e5 e6
       ∙ sym (rows-then (storeRows st lent []) four (omega arith, (omega arith, tt)) (sym told ∙ h))
@@ -61,13 +62,13 @@ module _ (channels capacity limit : ℕ) (terms : Terms) (wish : Pretrigger) (ra
   store = record { unit = u; capacity = capacity; len = 0; mark = none }
 
   abbrev rows : List Row
-  rows = settingsRows store lent limit (terms .wrong) (wishOf wish) rate
+  rows = settingsRows store lent limit (terms .wrong) (wishOf wish) rate []
 
-  start-is : (k : rule.Kept) → k ≡ rule.keptOf (wishOf wish) limit rate u → answerOf store lent limit terms (wishOf wish) rate k ring ≡ startOf channels capacity limit terms wish rate lent ring
+  start-is : (k : rule.Pre) → k ≡ rule.preFor (wishOf wish) limit rate u → answerOf store lent limit terms (wishOf wish) rate k ring ≡ startOf channels capacity limit terms wish rate lent ring
   unfolding startOf
   start-is k e =
-      ap (λ (x : rule.Kept). answerOf store lent limit terms (wishOf wish) rate x ring) e
-      ∙ ap (λ (x : ℕ). answerOf (record { unit = x; capacity = capacity; len = 0; mark = none }) lent limit terms (wishOf wish) rate (rule.keptOf (wishOf wish) limit rate x) ring) unit
+      ap (λ (x : rule.Pre). answerOf store lent limit terms (wishOf wish) rate x ring) e
+      ∙ ap (λ (x : ℕ). answerOf (record { unit = x; capacity = capacity; len = 0; mark = none }) lent limit terms (wishOf wish) rate (rule.preFor (wishOf wish) limit rate x) ring) unit
 
   numbered : Numbered rows
   numbered = (omega arith, (omega arith, (omega arith, (omega arith, (omega arith, (omega arith, tt))))))
@@ -76,8 +77,8 @@ module _ (channels capacity limit : ℕ) (terms : Terms) (wish : Pretrigger) (ra
     -- one of the rows 1 to 6
     pub start-refused : (n ≡ 0 → ⊥) → refused n ≡ startOf channels capacity limit terms wish rate lent ring
     start-refused h =
-        let kept = rule.keptOf (wishOf wish) limit rate u in
-        refused-is (freshOf store limit (armedBy terms) kept) _ n (rows-stop rows (keptRow store (kept .samples) ring ∷ []) (λ z. h (told ∙ z)) ∙ sym told) h
+        let kept = rule.preFor (wishOf wish) limit rate u in
+        refused-is (freshOf u capacity limit (armedBy terms) kept) _ n (rows-stop rows (preRow store (kept .samples) ring ∷ []) (λ z. h (told ∙ z)) ∙ sym told) h
         ∙ start-is kept refl
 
     module _ (none-holds : n ≡ 0) where
@@ -97,11 +98,11 @@ module _ (channels capacity limit : ℕ) (terms : Terms) (wish : Pretrigger) (ra
           let most : pre ≤ 67108864 = omega (arith, sound .capacity-most) in
           omega (arith, mul-le-mul most (sound .unit-most))
 
-      module _ (k : rule.Kept) (kept : k ≡ rule.keptOf (wishOf wish) limit rate u) where
-        by : (b : Bool) → keptRow store (k .samples) ring .holds ≡ b → unless (cond b 7 0) (freshOf store limit (armedBy terms) k) ≡ startOf channels capacity limit terms wish rate lent ring
+      module _ (k : rule.Pre) (kept : k ≡ rule.preFor (wishOf wish) limit rate u) where
+        by : (b : Bool) → preRow store (k .samples) ring .holds ≡ b → unless (cond b 7 0) (freshOf u capacity limit (armedBy terms) k) ≡ startOf channels capacity limit terms wish rate lent ring
         by b e =
-            ap (λ (x : ℕ). unless x (freshOf store limit (armedBy terms) k))
-            (ap (λ (x : Bool). cond {A = ℕ} x 7 0) (sym e) ∙ sym (rows-then rows (keptRow store (k .samples) ring ∷ []) numbered (sym told ∙ none-holds)))
+            ap (λ (x : ℕ). unless x (freshOf u capacity limit (armedBy terms) k))
+            (ap (λ (x : Bool). cond {A = ℕ} x 7 0) (sym e) ∙ sym (rows-then rows (preRow store (k .samples) ring ∷ []) numbered (sym told ∙ none-holds)))
             ∙ start-is k kept
 
         -- row 7
@@ -111,17 +112,12 @@ module _ (channels capacity limit : ℕ) (terms : Terms) (wish : Pretrigger) (ra
         pub ring-short : k .samples < capacity → ring < k .samples * u → refused 7 ≡ startOf channels capacity limit terms wish rate lent ring
         ring-short h g = by true (rw (lt-leb capacity (k .samples) h, lt-ltb ring (k .samples * u) g))
 
-        pub accepted : k .samples < capacity → k .samples * u ≤ ring → (a : trigger.Armed) → a ≡ armedBy terms → given (freshOf store limit a k) ≡ startOf channels capacity limit terms wish rate lent ring
+        pub accepted : k .samples < capacity → k .samples * u ≤ ring → (a : trigger.Armed) → a ≡ armedBy terms → given (freshOf u capacity limit a k) ≡ startOf channels capacity limit terms wish rate lent ring
         accepted h g a e =
-            ap (λ (x : trigger.Armed). given (freshOf store limit x k)) e
+            ap (λ (x : trigger.Armed). given (freshOf u capacity limit x k)) e
             ∙ by false (rw (lt-leb capacity (k .samples) h, le-ltb ring (k .samples * u) g))
 
 -- ---- over a list of terms, start is 01's
--- rows 1 to 7
-abbrev startRows : Settings → Lent → ℕ → List Row
-startRows st lent ring =
-    settingsRows (fresh (st .channels) (st .capacity)) lent (st .limit) (lineWrong (st .terms)) (st .wish) (st .rate) ++ (keptRow (fresh (st .channels) (st .capacity)) (preOf st) ring ∷ [])
-
 seven : (st : Settings) (lent : Lent) (ring : ℕ) → Numbered (startRows st lent ring)
 seven st lent ring = (omega arith, (omega arith, (omega arith, (omega arith, (omega arith, (omega arith, (omega arith, tt)))))))
 
@@ -130,7 +126,7 @@ module _ (channels capacity limit : ℕ) (list : List TriggerTerm) (wish : Pretr
   st = settingsOf channels capacity limit list wish rate
 
   abbrev made : trigger.Armed → Begun
-  made armed = freshOf (fresh channels capacity) limit armed (rule.keptOf (wishOf wish) limit rate (unitOf channels))
+  made armed = freshOf (unitOf channels) capacity limit armed (rule.preFor (wishOf wish) limit rate (unitOf channels))
 
   armed-same : startRefusal st lent ring ≡ 0 → made (armedBy (termsOf list)) ≡ begun st
   armed-same e = ap made (terms-armed list (all-passed (startRows st lent ring) (seven st lent ring) e .1 .1 .0))
@@ -138,7 +134,7 @@ module _ (channels capacity limit : ℕ) (list : List TriggerTerm) (wish : Pretr
   pub start-rule : startOf channels capacity limit (termsOf list) wish rate lent ring ≡ startRule st lent ring
   unfolding startOf
   start-rule =
-      ap (λ (w : Bool). unless (firstOf (settingsRows (fresh channels capacity) lent limit w (wishOf wish) rate ++ (keptRow (fresh channels capacity) (preOf st) ring ∷ []))) (made (armedBy (termsOf list)))) (terms-wrong list)
+      ap (λ (w : Bool). unless (firstOf (settingsRows (fresh channels capacity) lent limit w (wishOf wish) rate (preRow (fresh channels capacity) (preOf st) ring ∷ []))) (made (armedBy (termsOf list)))) (terms-wrong list)
       ∙ unless-same (startRefusal st lent ring) (made (armedBy (termsOf list))) (begun st) armed-same
 
 -- one term t, added to none

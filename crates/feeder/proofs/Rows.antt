@@ -7,9 +7,8 @@ use native.Mathlib.Nat.{mul-le-mul}
 use native.Mathlib.Omega.{arith}
 use lib.Dec.{ltb, leb, eqb}
 use borrow.Author.Tests.{leb-false, le-ltb}
-use Rattle.rules.specs.Refusal.{Store, Lent, Row, firstOf, storeWrong, lentShort, storeRefusal, Recorder, recorderWrong, ringNeed, pushRefusal}
-use Rattle.rules.proofs.Refusal.{row-passed, neither, ranged, Sound, MarkInside, rows-passed, SoundRecorder, push-passed}
-use Rattle.feeder.specs.Record.{placeWrong, settingWrong, ringShort, recorderRows, recorderRefusal}
+use Rattle.rules.specs.Refusal.{Store, Lent, Row, firstOf, storeWrong, lentShort, storeRefusal, Recorder, recorderWrong, ringNeed, placeWrong, settingWrong, ringShort, recorderRows, recorderRefusal}
+use Rattle.rules.proofs.Refusal.{row-passed, neither, ranged, Sound, MarkInside, rows-passed, SoundRecorder, recorder-rest, recorder-passed}
 
 -- ---- rows in order
 abbrev pub Numbered : List Row → Type 0
@@ -51,15 +50,6 @@ store-passed st lent e f =
     (t .0, t .1)
 
 -- ---- a recorder after start
--- row 1 is the store's half, then the recorder's
-pub halves : (r : Recorder) → recorderWrong r ≡ (storeWrong (r .store) || settingWrong r)
-halves r =
-    go (storeWrong (r .store)) (ltb (r .store .capacity) (r .limit)) (leb (r .store .capacity) (r .pre)) (ltb (r .pre) (r .kept)) (placeWrong (r .pre) (r .place)) (not (eqb (r .limit) 0) && ltb (r .limit) (r .store .len))
-  where
-    go : (w a b c d e : Bool) → (w || a || b || c || d || e) ≡ (w || (a || b || c || d || e))
-    go true a b c d e = refl
-    go false a b c d e = refl
-
 -- the recorder's half, by its tests
 pub setting-by : (r : Recorder) (a b c d z l : Bool)
     → ltb (r .store .capacity) (r .limit) ≡ a
@@ -113,8 +103,7 @@ module _ (r : Recorder) (lent : Lent) (ring n : ℕ) (told : n ≡ storeRefusal 
   by : (w a s g : Bool) → wrong ≡ w → settingWrong r ≡ a → short ≡ s → ringShort r ring ≡ g → two w a s g ≡ recorderRefusal r lent ring
   by w a s g ew ea es eg =
       sym
-      (ap (λ (b : Bool). cond {A = ℕ} b 1 (cond (short || ringShort r ring) 2 0)) (halves r)
-      ∙ ap (λ (b : Bool). two b (settingWrong r) short (ringShort r ring)) ew
+      (ap (λ (b : Bool). two b (settingWrong r) short (ringShort r ring)) ew
       ∙ ap (λ (b : Bool). two w b short (ringShort r ring)) ea
       ∙ ap (λ (b : Bool). two w a b (ringShort r ring)) es
       ∙ ap (λ (b : Bool). two w a s b) eg)
@@ -146,34 +135,10 @@ module _ (r : Recorder) (lent : Lent) (ring n : ℕ) (told : n ≡ storeRefusal 
         let most : r .pre ≤ 67108864 = omega (arith, g .capacity-most) in
         omega (arith, mul-le-mul most (g .unit-most))
 
--- ---- the whole of a push's rows
-module _ (r : Recorder) (lent : Lent) (ring n : ℕ) where
-  abbrev room : Row
-  room = record { number = 8; holds = ltb (r .store .capacity) (r .store .len + n) }
-
-  -- a row of these two decides
-  pub push-stops : (recorderRefusal r lent ring ≡ 0 → ⊥) → pushRefusal r lent ring n ≡ recorderRefusal r lent ring
-  push-stops h = rows-stop (recorderRows r lent ring) (room ∷ []) h
-
-  -- else row 8
-  pub push-then : recorderRefusal r lent ring ≡ 0 → pushRefusal r lent ring n ≡ cond (ltb (r .store .capacity) (r .store .len + n)) 8 0
-  push-then e = rows-then (recorderRows r lent ring) (room ∷ []) (omega arith, (omega arith, tt)) e
-
 -- rows 1 and 2 let a recorder pass only within its bounds
 pub recorder-sound : (r : Recorder) (lent : Lent) (ring : ℕ) → recorderRefusal r lent ring ≡ 0 → SoundRecorder r lent ring
-recorder-sound r lent ring e =
-    let t = all-passed (recorderRows r lent ring) (omega arith, (omega arith, tt)) e in
-    let w = neither (storeWrong (r .store)) (settingWrong r) .0 (sym (halves r) ∙ t .0) in
-    let len-most : r .store .len + 0 ≤ r .store .capacity = omega (arith, ranged (r .store) (w .0) .len-most) in
-    push-passed r lent ring 0 .0 (push-then r lent ring 0 e ∙ ap (λ (b : Bool). cond {A = ℕ} b 8 0) (le-ltb (r .store .capacity) (r .store .len + 0) len-most)) .0
+recorder-sound r lent ring e = recorder-passed r lent ring [] .0 e .0
 
 -- and let each within its bounds pass
 pub sound-recorder : (r : Recorder) (lent : Lent) (ring : ℕ) → SoundRecorder r lent ring → recorderRefusal r lent ring ≡ 0
-sound-recorder r lent ring s = go (recorderRefusal r lent ring) (push-stops r lent ring 0)
-  where
-    none-holds : pushRefusal r lent ring 0 ≡ 0
-    none-holds = push-passed r lent ring 0 .1 (s, omega (arith, s .store .len-most))
-
-    go : (n : ℕ) → ((n ≡ 0 → ⊥) → pushRefusal r lent ring 0 ≡ n) → n ≡ 0
-    go zero h = refl
-    go (suc n) h = sym (h (λ z. omega arith)) ∙ none-holds
+sound-recorder r lent ring s = recorder-rest r lent ring s []

@@ -11,14 +11,15 @@ ghost use mathlib.Core.Path.{_≡_};
 ghost use mathlib.Core.Bool.{Bool};
 ghost use mathlib.Core.List.{[], _∷_};
 ghost use lib.ListN.{length};
+ghost use Rattle.rules.specs.Start.{startRule};
 ghost use Rattle.rules.specs.Sample.{unitOf};
-ghost use Rattle.rules.specs.Pretrigger.{keptOf};
-ghost use Rattle.rules.specs.Refusal.{firstOf, wishWrong, numberWrong};
+ghost use Rattle.rules.specs.Pretrigger.{preFor};
+ghost use Rattle.rules.specs.Refusal.{firstOf, wishWrong, numberWrong, placeWrong, settingWrong, recorderRefusal, settingsRows};
 ghost use Rattle.terms.specs.Terms.{armedBy};
 ghost use Rattle.float.specs.Samples.{keptAs};
 ghost use Rattle.capture.specs.Record.{storeOf, lentNumbers};
-ghost use Rattle.feeder.specs.Record.{wishOf, armedAs, recorderOf, placeWrong, settingWrong, recorderRefusal};
-ghost use Rattle.feeder.specs.Start.{Workable, settingsRows, startedOf, startOf, startRule, settingsOf};
+ghost use Rattle.feeder.specs.Record.{wishOf, armedAs, recorderOf};
+ghost use Rattle.feeder.specs.Start.{Workable, startedOf, startOf, settingsOf};
 
 // 01's "armed with five masks or unarmed".
 pub enum Armed {
@@ -148,7 +149,7 @@ fn number_wrong(wish: Pretrigger, rate: usize) -> bool
 // The samples kept before the trigger, and whether the cap cut them.
 fn pretrigger_samples(wish: Pretrigger, limit: usize, rate: usize, unit: usize) -> Kept
     requires { ⌜ Workable (wishOf wish) limit rate unit ⌝ }
-    ensures { λ r. ⌜ keptAs r ≡ keptOf (wishOf wish) limit rate unit ⌝ }
+    ensures { λ r. ⌜ keptAs r ≡ preFor (wishOf wish) limit rate unit ⌝ }
 {
     match wish {
         Pretrigger::Fraction(p) => {
@@ -175,7 +176,7 @@ fn settings_refusal(
     n3: usize,
     n4: usize,
 ) -> u8
-    ensures { λ r. ⌜ r ≡ firstOf (settingsRows (storeOf fresh) (lentNumbers samples n1 n2 n3 n4) limit wrong (wishOf wish) rate) ⌝ }
+    ensures { λ r. ⌜ r ≡ firstOf (settingsRows (storeOf fresh) (lentNumbers samples n1 n2 n3 n4) limit wrong (wishOf wish) rate []) ⌝ }
 {
     let first = capture::refusal(fresh, samples, n1, n2, n3, n4);
     if first != 0 {

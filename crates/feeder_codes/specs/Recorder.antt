@@ -7,7 +7,7 @@ use Rattle.rules.specs.Refusal.{Recorder}
 use Rattle.rules.specs.Selection.{Reply, refused, going-on, complete}
 use Rattle.feeder.specs.declared.Pretrigger.{Pretrigger}
 use Rattle.feeder.specs.declared.Pretrigger.the-variants.{Fraction, Seconds}
-use Rattle.feeder.specs.Start.{Begun}
+use Rattle.rules.specs.Start.{Begun}
 use Rattle.feeder_numbers.specs.Numbers.{recorderNumbers, pushedNumbers}
 use Rattle.codes.specs.Code.{noneCode}
 use Rattle.codes.specs.Record.{flagNumber}

@@ -6,10 +6,12 @@ use native.Mathlib.Nat.{zero-mul, zero-min, sub-self, zero-sub, div-mul-le-self}
 use native.Mathlib.Omega.{arith}
 use borrow.Author.Tests.{eq-eqb, ne-eqb, lt-ltb, le-ltb}
 use lib.ListN.{length, drop}
-use Rattle.rules.specs.Sample.{sampleOf, countOf}
+use Rattle.rules.specs.Ring.{keptBytes}
+use Rattle.rules.specs.Push.{firedBy, wanted, passed, leftOf}
+use Rattle.rules.specs.Sample.{sampleOf, sampleCount}
 use Rattle.rules.specs.Trigger.{firstFire}
 use Rattle.rules.specs.Selection.{refused, going-on}
-use Rattle.rules.specs.Refusal.{Recorder, Lent}
+use Rattle.rules.specs.Refusal.{Recorder, Lent, recorderRefusal}
 use Rattle.rebuild.specs.Rebuild.{levelAfter}
 use Rattle.rebuild.proofs.Right.{after-none}
 use Rattle.store.specs.Stored.{firstNodes}
@@ -18,17 +20,18 @@ use Rattle.terms.specs.Terms.{asMasks, previousOf}
 use Rattle.scan.specs.Scan.{Holds}
 use Rattle.run_write.specs.declared.Taken.{Taken}
 use Rattle.run_write.specs.Run.{RunRoom, Takes}
-use Rattle.ring.specs.Bytes.{units, keptBytes}
-use Rattle.ring.specs.Push.{storeBytes, firedBy, wanted, passed, firingBytes, takenBytes, pushBytes}
+use Rattle.ring.specs.Bytes.{units}
+use Rattle.ring.specs.Push.{storeBytes, firingBytes, takenBytes, pushBytes, leftBy}
+use Rattle.ring.proofs.Left.{left-is}
 use Rattle.capture.specs.Record.{lentOf}
 use Rattle.feeder.specs.declared.Armed.{Armed}
 use Rattle.feeder.specs.declared.Armed.the-variants.{Unarmed, Waiting}
 use Rattle.feeder.specs.declared.Feeder.{Feeder}
-use Rattle.feeder.specs.Record.{armedAs, recorderOf, recorderRefusal}
+use Rattle.feeder.specs.Record.{armedAs, recorderOf}
 use Rattle.feeder.proofs.Rows.{recorder-sound}
 use Rattle.feeder_push.specs.declared.Pushed.{Pushed}
 use Rattle.feeder_push.specs.declared.Pushed.the-variants.{Refused, GoingOn}
-use Rattle.feeder_push.specs.Push.{leftOf, Pushes}
+use Rattle.feeder_push.specs.Push.{Pushes}
 use Rattle.feeder_push.specs.Inner.{Answers, Stores, PushRoom, WaitRoom, Waits}
 use Rattle.feeder_push.proofs.Left.{stores-is}
 use Rattle.feeder_push.proofs.Fires.{run-in}
@@ -48,16 +51,20 @@ module _ (f : Feeder) (s : List ℕ) (lv : ℕ → List ℕ) (g b : List ℕ) wh
   u = f .capture .unitsize
 
   abbrev n : ℕ
-  n = countOf u b
+  n = sampleCount u b
 
   -- no sample went to the store: no level changed
   levels-stay : (s′ : List ℕ) (l : ℕ) → lv l ≡ levelAfter (firstNodes u s′ (lv 1) (f .capture .len) (f .capture .len)) lv (f .capture .len) (f .capture .len - f .capture .len) l
   levels-stay s′ l = sym (after-none (firstNodes u s′ (lv 1) (f .capture .len) (f .capture .len)) lv (f .capture .len) (f .capture .len - f .capture .len) l (sub-self (f .capture .len)))
 
+  -- rows 1 and 2
+  by-rows : (k : ℕ) → k ≡ recorderRefusal c lent (length g) → (k ≡ 0 → ⊥) → record { reply = refused k; recorder = c; samples = s; ring = g } ≡ leftBy c lent s g b
+  unfolding leftBy
+  by-rows k e z = rw (ne-eqb (recorderRefusal c lent (length g)) 0 (λ y. z (e ∙ y))) (ap (λ (x : ℕ). record { reply = refused x; recorder = c; samples = s; ring = g }) e)
+
   pub pushed-refused : (k : ℕ) → k ≡ recorderRefusal c lent (length g) → (k ≡ 0 → ⊥) → Pushes f b s lv g (Refused k f) s lv g
-  unfolding leftOf
   pushed-refused k e z = record {
-    left-is = rw (ne-eqb (recorderRefusal c lent (length g)) 0 (λ y. z (e ∙ y))) (ap (λ (x : ℕ). record { reply = refused x; recorder = c; samples = s; ring = g }) e);
+    left-is = by-rows k e z ∙ sym (left-is c lent s g b);
     levels-are = λ l p q. levels-stay s l;
   }
 
@@ -83,9 +90,12 @@ module _ (f : Feeder) (s : List ℕ) (lv : ℕ → List ℕ) (g b : List ℕ) wh
       bytes = room .bytes;
     }
 
+    past-rows : leftBy c lent s g b ≡ pushBytes c s g b
+    unfolding leftBy
+    past-rows = rw (eq-eqb (recorderRefusal c lent (length g)) 0 free)
+
     pushed-is : leftOf c lent s g b ≡ pushBytes c s g b
-    unfolding leftOf
-    pushed-is = rw (eq-eqb (recorderRefusal c lent (length g)) 0 free)
+    pushed-is = left-is c lent s g b ∙ past-rows
 
     -- ---- unarmed
     module _ (is : f .masks ≡ Unarmed) where

@@ -13,9 +13,9 @@ use Rattle.lines.specs.Held.{Held}
 use Rattle.store.proofs.Fits.{sound-room}
 use Rattle.run_write.specs.declared.Taken.{Taken}
 use Rattle.run_write.specs.Run.{countIn, RunRoom, Takes}
-use Rattle.ring.specs.Ring.{placeAfter}
-use Rattle.ring.specs.Bytes.{units, keptBytes}
-use Rattle.ring.specs.Push.{firedBy, waitedFor, wanted, passed}
+use Rattle.rules.specs.Ring.{placeAfter, keptBytes}
+use Rattle.rules.specs.Push.{firedBy, waitedFor, wanted, passed}
+use Rattle.ring.specs.Bytes.{units}
 use Rattle.ring.proofs.Bytes.{units-length}
 use Rattle.feeder_push.specs.declared.Pushed.{Pushed}
 use Rattle.feeder_push.specs.Inner.{Answers, Stores, PushRoom}

@@ -19,9 +19,10 @@ use Rattle.store.proofs.Stored.{none-samples, none-levels}
 use Rattle.run_write.specs.declared.Taken.{Taken}
 use Rattle.run_write.specs.declared.Taken.the-variants.{Full, Count}
 use Rattle.run_write.specs.Run.{countIn, Takes}
-use Rattle.ring.specs.Bytes.{joined}
-use Rattle.ring.specs.Step.{roomFor, replyOf}
-use Rattle.ring.specs.Push.{withLen, storable, storeBytes}
+use Rattle.rules.specs.Ring.{written}
+use Rattle.rules.specs.Push.{roomFor, withLen}
+use Rattle.rules.specs.Selection.{replyOf}
+use Rattle.ring.specs.Push.{storable, storeBytes}
 use Rattle.feeder.specs.declared.Feeder.{Feeder}
 use Rattle.feeder.specs.Record.{recorderOf}
 use Rattle.feeder_push.specs.declared.Pushed.{Pushed}
@@ -53,7 +54,7 @@ pub answers-some : (back c : Recorder) (t : Taken) (k : ℕ) (r : Pushed) → t 
 answers-some back c t k r e reply recorder = subst⁻¹ (λ (x : Taken). Answers back c x r) e (record { reply-is = reply; recorder-is = recorder })
 
 -- ---- the bytes of k samples, in the other form
-paste-joined : (s : List ℕ) (at : ℕ) (x : List ℕ) (k : ℕ) → k ≤ length x → paste s at x k ≡ joined s at (take k x)
+paste-joined : (s : List ℕ) (at : ℕ) (x : List ℕ) (k : ℕ) → k ≤ length x → paste s at x k ≡ written s at (take k x)
 paste-joined s at x k h =
     ap (λ (z : List ℕ). take at s ++ take k x ++ z) (sym (drop-drop k at s) ∙ ap (λ (j : ℕ). drop j (drop at s)) (sym (length-take-le k x h)))
     ∙ append-assoc (take at s) (take k x) (drop (length (take k x)) (drop at s))
@@ -85,7 +86,7 @@ module _ (back c : Recorder) (n : ℕ) (x s : List ℕ) (lv : ℕ → List ℕ) 
       which : (leb (c .store .len + storable c n) (c .store .capacity) ≡ true) × (storable c n ≡ k)
       which = is-some (leb (c .store .len + storable c n) (c .store .capacity)) (storable c n) k (d .taken-is)
 
-      samples-left : s′ ≡ joined s (c .store .len * c .store .unit) (take (k * c .store .unit) x)
+      samples-left : s′ ≡ written s (c .store .len * c .store .unit) (take (k * c .store .unit) x)
       samples-left = d .memory .samples-are ∙ paste-joined s (c .store .len * c .store .unit) x (k * c .store .unit) (d .enough)
 
       reply-left : replyAs r ≡ replyOf (c .armed) (c .limit) (c .store .len + k)

@@ -7,11 +7,14 @@ use native.Mathlib.Decide.{ℕ-discrete}
 use native.Mathlib.Omega.{arith}
 use lib.ListN.{length}
 use borrow.Author.Tests.{eq-eqb, ne-eqb}
+use Rattle.rules.specs.Push.{Left}
+use Rattle.rules.specs.Refusal.{recorderRefusal}
 use Rattle.rules.specs.Node.{span, topLevel}
 use Rattle.rules.specs.Sample.{sampleOf}
 use Rattle.rules.specs.Selection.{refused}
 use Rattle.rules.proofs.Refusal.{SoundRecorder}
-use Rattle.ring.specs.Push.{Left, pushBytes}
+use Rattle.ring.specs.Push.{pushBytes, leftBy}
+use Rattle.ring.proofs.Left.{left-is}
 use Rattle.ring.proofs.Push.{sound-ready}
 use Rattle.ring.proofs.Grows.{Grows, push-grows}
 use Rattle.node.specs.Memory.{nodeIn, Right, RightAt}
@@ -23,10 +26,10 @@ use Rattle.store.proofs.Fits.{sound-room}
 use Rattle.store.proofs.Written.{SameNew, written-alike}
 use Rattle.capture.specs.Record.{storeOf, lentOf}
 use Rattle.feeder.specs.declared.Feeder.{Feeder}
-use Rattle.feeder.specs.Record.{recorderOf, recorderRefusal}
+use Rattle.feeder.specs.Record.{recorderOf}
 use Rattle.feeder.proofs.Rows.{recorder-sound, sound-recorder}
 use Rattle.feeder_push.specs.declared.Pushed.{Pushed}
-use Rattle.feeder_push.specs.Push.{replyAs, feederIn, leftOf, Pushes}
+use Rattle.feeder_push.specs.Push.{replyAs, feederIn, Pushes}
 
 -- one push
 module _ {f : Feeder} {b s : List ℕ} {lv : ℕ → List ℕ} {g : List ℕ} {v : Pushed} {s′ : List ℕ} {lv′ : ℕ → List ℕ} {g′ : List ℕ} (fit : Pushes f b s lv g v s′ lv′ g′) where
@@ -46,8 +49,8 @@ module _ {f : Feeder} {b s : List ℕ} {lv : ℕ → List ℕ} {g : List ℕ} {v
   -- ---- where rows 1 and 2 refuse nothing
   module _ (sound : SoundRecorder (recorderOf f) (lentOf s lv) (length g)) where
     pub one-push : after ≡ pushBytes (recorderOf f) s g b
-    unfolding leftOf
-    one-push = fit .left-is ∙ ap left-by (eq-eqb number 0 (sound-recorder (recorderOf f) (lentOf s lv) (length g) sound))
+    unfolding leftBy
+    one-push = fit .left-is ∙ left-is (recorderOf f) (lentOf s lv) s g b ∙ ap left-by (eq-eqb number 0 (sound-recorder (recorderOf f) (lentOf s lv) (length g) sound))
 
     pub grows : Grows (recorderOf f) (recorderOf (feederIn v)) s s′
     grows = subst⁻¹ (λ (x : Left). Grows (recorderOf f) (x .recorder) s (x .samples)) one-push (push-grows (recorderOf f) s g b (sound-ready (recorderOf f) (lentOf s lv) s g refl sound))
@@ -60,8 +63,8 @@ module _ {f : Feeder} {b s : List ℕ} {lv : ℕ → List ℕ} {g : List ℕ} {v
 
   -- ---- whether they do or not
   same-len : (number ≡ 0 → ⊥) → feederIn v .capture .len ≡ f .capture .len
-  unfolding leftOf
-  same-len z = ap (λ (x : Left). x .recorder .store .len) (fit .left-is ∙ ap left-by (ne-eqb number 0 z))
+  unfolding leftBy
+  same-len z = ap (λ (x : Left). x .recorder .store .len) (fit .left-is ∙ left-is (recorderOf f) (lentOf s lv) s g b ∙ ap left-by (ne-eqb number 0 z))
 
   accepted : number ≡ 0 → SoundRecorder (recorderOf f) (lentOf s lv) (length g)
   accepted = recorder-sound (recorderOf f) (lentOf s lv) (length g)

@@ -4,12 +4,13 @@ use mathlib.Core.List.{List}
 use Prim.Native.Nat.{ℕ, _+_, _-_, _*_, _≤_, _<_, max}
 use Rattle.rules.specs.Node.{topLevel}
 use Rattle.rules.specs.Trigger.{unarmed}
-use Rattle.rules.specs.Selection.{Reply, refused}
+use Rattle.rules.specs.Selection.{Reply, refused, replyOf}
 use Rattle.rules.specs.Refusal.{Recorder}
 use Rattle.rules.proofs.Refusal.{SoundRecorder}
-use Rattle.ring.specs.Step.{replyOf}
-use Rattle.ring.specs.Bytes.{units, ringBytes}
-use Rattle.ring.specs.Push.{Left, withLen, storeBytes, waitedFor}
+use Rattle.rules.specs.Ring.{ringBytes}
+use Rattle.rules.specs.Push.{Left, withLen, waitedFor}
+use Rattle.ring.specs.Bytes.{units}
+use Rattle.ring.specs.Push.{storeBytes}
 use Rattle.rebuild.specs.Rebuild.{levelAfter}
 use Rattle.store.specs.Stored.{firstNodes}
 use Rattle.run_write.specs.declared.Taken.{Taken}

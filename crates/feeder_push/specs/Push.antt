@@ -1,19 +1,15 @@
 -- What a push answers and what it leaves, whatever it is given. 01: Selection and recorder; Where each number is checked, 1, 2 and 8.
 use mathlib.Core.Path.{_≡_}
-use mathlib.Core.Bool.{cond}
 use mathlib.Core.List.{List}
 use Prim.Native.Nat.{ℕ, _-_, _≤_}
-use lib.Dec.{eqb}
-use lib.ListN.{length}
 use Rattle.rules.specs.Node.{topLevel}
-use Rattle.rules.specs.Refusal.{Lent, Recorder}
 use Rattle.rules.specs.Selection.{Reply, refused, going-on, complete}
-use Rattle.ring.specs.Push.{Left, pushBytes}
+use Rattle.rules.specs.Push.{leftOf}
 use Rattle.rebuild.specs.Rebuild.{levelAfter}
 use Rattle.store.specs.Stored.{firstNodes}
 use Rattle.capture.specs.Record.{lentOf}
 use Rattle.feeder.specs.declared.Feeder.{Feeder}
-use Rattle.feeder.specs.Record.{recorderOf, recorderRefusal}
+use Rattle.feeder.specs.Record.{recorderOf}
 use Rattle.feeder_push.specs.declared.Pushed.{Pushed}
 use Rattle.feeder_push.specs.declared.Pushed.the-variants.{Refused, GoingOn, Complete}
 
@@ -28,13 +24,6 @@ abbrev pub feederIn : Pushed → Feeder
 feederIn (Refused k f) = f
 feederIn (GoingOn f) = f
 feederIn (Complete f) = f
-
--- rows 1 and 2 leave everything as it was given; past them it is one push, which has row 8
-unfoldable pub leftOf : Recorder → Lent → List ℕ → List ℕ → List ℕ → Left
-leftOf c lent samples ring bytes =
-    cond (eqb (recorderRefusal c lent (length ring)) 0)
-    (pushBytes c samples ring bytes)
-    (record { reply = refused (recorderRefusal c lent (length ring)); recorder = c; samples = samples; ring = ring })
 
 -- a push of bytes, over any memory: its answer, and what it leaves. Each node that covers a new sample is made: 01, Store, and 02, CR 2
 pub record Pushes (f : Feeder) (bytes samples : List ℕ) (levels : ℕ → List ℕ) (ring : List ℕ) (answer : Pushed) (samples′ : List ℕ) (levels′ : ℕ → List ℕ) (ring′ : List ℕ) : Type 0 where

@@ -5,8 +5,9 @@ use lines::Mask;
 use terms::TriggerTerm;
 ghost use mathlib.Core.Path.{_≡_};
 ghost use lib.ListN.{length};
+ghost use Rattle.rules.specs.Start.{startRule};
 ghost use Rattle.capture.specs.Record.{lentNumbers};
-ghost use Rattle.feeder.specs.Start.{startedOf, startRule, settingsOf};
+ghost use Rattle.feeder.specs.Start.{startedOf, settingsOf};
 
 // 01's start of a recorder. Its answer is 01's for the settings: feeder/proofs/Begun, start-rule.
 pub fn start_list<'a>(

@@ -9,16 +9,17 @@ use borrow.Author.Tests.{eq-eqb, le-ltb, ltb-false}
 use lib.Dec.{ltb}
 use lib.ListN.{length, getD, set}
 use lib.Seq.{sets, set-getD, paste}
-use Rattle.rules.specs.Sample.{sampleOf, countOf, samplesOf}
+use Rattle.rules.specs.Sample.{sampleOf, sampleCount, samplesOf}
 use Rattle.rules.specs.Trigger as rule
 use Rattle.rules.specs.Selection.{going-on}
-use Rattle.rules.specs.Refusal.{Store, Lent, Recorder}
+use Rattle.rules.specs.Refusal.{Store, Lent, Recorder, recorderRefusal}
 use Rattle.rules.proofs.Refusal.{Sound, SoundRecorder}
 use Rattle.rules.proofs.Sample.{list-length}
 use Rattle.rules.proofs.Trigger.{fire-le}
-use Rattle.ring.specs.Ring.{placeAfter}
+use Rattle.rules.specs.Ring.{placeAfter}
+use Rattle.rules.specs.Push.{Left, waitedFor}
 use Rattle.ring.specs.Bytes.{units}
-use Rattle.ring.specs.Push.{Left, waitedFor, firingBytes, takenBytes, pushBytes}
+use Rattle.ring.specs.Push.{firingBytes, takenBytes, pushBytes, leftBy}
 use Rattle.ring_write.proofs.Copy.{copy-end}
 use Rattle.ring_write.proofs.Place.{place-ahead}
 use Rattle.ring_write.proofs.Runs.{one-run, run-room}
@@ -27,10 +28,11 @@ use Rattle.capture.specs.declared.Mark.the-variants.{Absent}
 use Rattle.capture.specs.Record.{markOf, storeOf}
 use Rattle.terms.specs.Terms.{asMasks, previousOf}
 use Rattle.scan.proofs.Last.{last-some}
-use Rattle.feeder.specs.Record.{armedAs, recorderOf, recorderRefusal}
+use Rattle.feeder.specs.Record.{armedAs, recorderOf}
 use Rattle.feeder.proofs.Rows.{sound-recorder}
 use Rattle.feeder_numbers.specs.Numbers.{markIn, armedIn, previousIn, feederFrom, markedNumber, markNumber, waitsNumber, pushedNumbers}
-use Rattle.feeder_push.specs.Push.{leftOf}
+use Rattle.rules.specs.Push.{leftOf}
+use Rattle.ring.proofs.Left.{left-is}
 use Rattle.feeder_wait.specs.Wait.{Waiting, masksOf, fireOf, CopyRoom, FewRoom, FewWent, Untouched, FewAfter, waitedOf, ShortWent, ShortAfter}
 
 -- the room of k samples at a unit v that is known
@@ -122,20 +124,23 @@ module _ (r : List ℕ) (lent : Lent) (g b : List ℕ) (w : Waiting r lent (leng
       ∙ set-getD r 7 0
 
   -- ---- all its samples, of which none fires
-  module _ (some-samples : 1 ≤ countOf u b) (ahead : countOf u b < getD r 6 0 - getD r 15 0) (new g′ : List ℕ) (d : FewWent r g b u (countOf u b) new g′) where
+  module _ (some-samples : 1 ≤ sampleCount u b) (ahead : sampleCount u b < getD r 6 0 - getD r 15 0) (new g′ : List ℕ) (d : FewWent r g b u (sampleCount u b) new g′) where
     abbrev n : ℕ
-    n = countOf u b
+    n = sampleCount u b
 
     count : length (samplesOf u b) ≡ n
     count = list-length (sampleOf u b) 0 n
 
-    left : (s : List ℕ) → leftOf c lent s g b ≡ record { reply = going-on; recorder = waitedOf r b; samples = s; ring = g′ }
-    unfolding leftOf pushBytes
-    left s =
+    past-rows : (s : List ℕ) → leftBy c lent s g b ≡ record { reply = going-on; recorder = waitedOf r b; samples = s; ring = g′ }
+    unfolding leftBy pushBytes
+    past-rows s =
         rw (eq-eqb (recorderRefusal c lent (length g)) 0 free)
         (ap (λ (a : rule.Armed). takenBytes a c s g b) armed-is
         ∙ ap (firingBytes c s g b n) (d .none-fires)
         ∙ rw (le-ltb n n (omega arith)) (ap (λ (x : List ℕ). record { reply = going-on; recorder = waitedOf r b; samples = s; ring = x }) (sym (d .ring-is))))
+
+    left : (s : List ℕ) → leftOf c lent s g b ≡ record { reply = going-on; recorder = waitedOf r b; samples = s; ring = g′ }
+    left s = left-is c lent s g b ∙ past-rows s
 
     numbers : new ≡ pushedNumbers (waitedOf r b) r
     numbers =
@@ -163,8 +168,8 @@ module _ (r : List ℕ) (lent : Lent) (g b : List ℕ) (w : Waiting r lent (leng
   -- at a unit v and a count k that are known
   pub short-is : (v k : ℕ) → u ≡ v → k ≡ length b / v → 1 ≤ k → k < getD r 6 0 - getD r 15 0 → (new g′ : List ℕ) (t : Bool) → FewAfter t r g b v k new g′ → ShortAfter t r lent g b new g′
   short-is v k ev ek some-samples ahead new g′ true d =
-      went (subst (λ (x : ℕ). 1 ≤ x) same some-samples) (subst (λ (x : ℕ). x < getD r 6 0 - getD r 15 0) same ahead) new g′ (subst (λ (x : ℕ). FewWent r g b x (countOf u b) new g′) (sym ev) (subst (λ (x : ℕ). FewWent r g b v x new g′) same d))
+      went (subst (λ (x : ℕ). 1 ≤ x) same some-samples) (subst (λ (x : ℕ). x < getD r 6 0 - getD r 15 0) same ahead) new g′ (subst (λ (x : ℕ). FewWent r g b x (sampleCount u b) new g′) (sym ev) (subst (λ (x : ℕ). FewWent r g b v x new g′) same d))
     where
-      same : k ≡ countOf u b
+      same : k ≡ sampleCount u b
       same = ek ∙ ap (λ (x : ℕ). length b / x) (sym ev)
   short-is v k ev ek some-samples ahead new g′ false d = d

@@ -11,13 +11,14 @@ use Rattle.rules.specs.Trigger.{firstFire}
 use Rattle.rules.specs.Selection.{going-on}
 use Rattle.rules.specs.Refusal.{Lent, Recorder, mostSamples}
 use Rattle.rules.proofs.Refusal.{Sound}
-use Rattle.ring.specs.Bytes.{units, ringBytes}
-use Rattle.ring.specs.Push.{waitedFor}
+use Rattle.ring.specs.Bytes.{units}
+use Rattle.rules.specs.Ring.{ringBytes}
+use Rattle.rules.specs.Push.{waitedFor}
 use Rattle.terms.specs.declared.Masks.{Masks}
 use Rattle.terms.specs.Terms.{asMasks, previousOf}
 use Rattle.feeder.specs.Record.{recorderOf}
 use Rattle.feeder_numbers.specs.Numbers.{masksIn, previousIn, feederFrom, pushedNumbers}
-use Rattle.feeder_push.specs.Push.{leftOf}
+use Rattle.rules.specs.Push.{leftOf}
 
 -- the recorder waits, nothing is stored and there is no mark; rows 1 and 2 do not hold, but for the ring's place
 pub record Waiting (numbers : List ℕ) (lent : Lent) (ring : ℕ) : Type 0 where

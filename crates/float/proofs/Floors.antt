@@ -15,7 +15,7 @@ use lib.Ieee.Order.{le-of-values}
 use lib.Ieee.Positive.{num, den, positive, above, den-pos, own-value, positive-of-value, above-of-le, values-of-le}
 use lib.Ieee.Scale.{finite}
 use borrow.Author.Tests.{lt-ltb, le-ltb}
-use Rattle.rules.specs.Floor.{Whole, at, floorOf, nearestOf, count}
+use Rattle.rules.specs.Floor.{Whole, at, floorOf, nearestOf, natural}
 use Rattle.rules.specs.Pixel.{moved}
 use Rattle.rules.specs.Pretrigger.{nought, one, clamp, times}
 use Rattle.rules.proofs.Round.{Upto}
@@ -132,11 +132,11 @@ nearest-num (fin false m e) p = ap (λ (z : ℕ). at (pos z)) (sym (halved (m * 
 pub less : (m : ℕ) (e : ℤ) (k : ℕ) (lo : Float) → 0 < k → HasValue lo false 1 k → T (not (le lo (fin false m e))) → m * up e * k < 1 * down e
 less m e k lo K v t = lt-of-not-le (λ (h : 1 * down e ≤ m * up e * k). T-not (le lo (fin false m e)) t (le-of-values lo (fin false m e) 1 k (m * up e) (down e) K (down-pos e) v (refl, refl) h))
 
-no-count : (k : ℕ) → count (at (negℤ (pos k))) ≡ 0
+no-count : (k : ℕ) → natural (at (negℤ (pos k))) ≡ 0
 no-count zero = refl
 no-count (suc k) = refl
 
-pub no-floor : (x : Float) → T (not (le one x)) → count (floorOf x) ≡ 0
+pub no-floor : (x : Float) → T (not (le one x)) → natural (floorOf x) ≡ 0
 unfolding floorOf
 no-floor nan t = refl
 no-floor (inf true) t = refl
@@ -150,7 +150,7 @@ no-floor (fin false m e) t = div-eq-of-lt (tidy (m * up e) (down e) (less m e 1 
 abbrev pub half : Float
 half = fin false 1 (negsuc 0)
 
-pub no-nearest : (x : Float) → T (not (le half x)) → count (nearestOf x) ≡ 0
+pub no-nearest : (x : Float) → T (not (le half x)) → natural (nearestOf x) ≡ 0
 unfolding nearestOf
 no-nearest nan t = refl
 no-nearest (inf true) t = refl

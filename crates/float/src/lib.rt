@@ -6,9 +6,9 @@ ghost use lib.IntN.{pos};
 ghost use lib.Ieee.{isNan};
 ghost use lib.Ieee.Positive.{num, den, positive};
 ghost use lib.Ieee.Scale.{finite};
-ghost use Rattle.rules.specs.Floor.{floorOf, nearestOf, count};
+ghost use Rattle.rules.specs.Floor.{floorOf, nearestOf, natural};
 ghost use Rattle.rules.specs.Pixel.{moved};
-ghost use Rattle.rules.specs.Pretrigger.{seconds, clamp, fractionOf, keptOf};
+ghost use Rattle.rules.specs.Pretrigger.{seconds, clamp, fractionOf, preFor};
 ghost use Rattle.float.specs.Places.{placeOf};
 ghost use Rattle.float.specs.Sizes.{Under, Shiftable, ceilOf};
 ghost use Rattle.float.specs.Samples.{keptAs};
@@ -97,7 +97,7 @@ pub fn floor_in(x: f64, origin: u64, hi: u64) -> Place
 // The floor of x, 0 where that is negative.
 fn whole_part(x: f64) -> u64
     requires { ⌜ Under (2 ^ 53) x ⌝ }
-    ensures { λ r. ⌜ r ≡ count (floorOf x) ⌝ }
+    ensures { λ r. ⌜ r ≡ natural (floorOf x) ⌝ }
 {
     if x >= 1.0 { shifted(x, 0) } else { 0 }
 }
@@ -105,7 +105,7 @@ fn whole_part(x: f64) -> u64
 // The whole number nearest to x, a half up, 0 where that is negative: half of floor(2x) + 1.
 fn nearest(x: f64) -> u64
     requires { ⌜ Under (2 ^ 52) x ⌝ }
-    ensures { λ r. ⌜ r ≡ count (nearestOf x) ⌝ }
+    ensures { λ r. ⌜ r ≡ natural (nearestOf x) ⌝ }
 {
     if x >= 0.5 { (shifted(x, 1) + 1) / 2 } else { 0 }
 }
@@ -132,7 +132,7 @@ pub fn fraction_samples(limit: u64, p: f64) -> u64
 // t seconds, clamped to 0..1, at a rate: rounded, and at most 67,108,864 / unit.
 pub fn seconds_samples(t: f64, rate: u64, unit: u64) -> Kept
     requires { ⌜ rate ≤ 1000000000 ⌝ ∗ ⌜ 0 < unit ⌝ }
-    ensures { λ r. ⌜ keptAs r ≡ keptOf (seconds t) 0 rate unit ⌝ }
+    ensures { λ r. ⌜ keptAs r ≡ preFor (seconds t) 0 rate unit ⌝ }
 {
     let wanted = nearest((rate as f64) * clamped(1.0, t));
     let cap = 67108864 / unit;

@@ -8,14 +8,15 @@ use borrow.Author.Tests.{ne-eqb}
 use lib.Ieee.{Float}
 use lib.ListN.{length, getD, set}
 use lib.Seq.{set-getD}
-use Rattle.rules.specs.Answer.{Answer, unless}
+use Rattle.rules.specs.Reading.{copiedTo}
+use Rattle.rules.specs.Answer.{Answer, unless, unrefused}
 use Rattle.rules.specs.Walk.{Counted}
-use Rattle.rules.specs.Sample.{sampleOf, countOf}
+use Rattle.rules.specs.Sample.{sampleOf, sampleCount}
 use Rattle.rules.specs.Refusal.{copied, renderRefusal}
 use Rattle.capture.specs.declared.Capture.{Capture}
 use Rattle.capture.specs.declared.Copied.{Copied}
 use Rattle.capture.specs.Record.{storeOf, lentOf}
-use Rattle.capture.specs.Calls.{Copies, copiedOf, over, unrefused}
+use Rattle.capture.specs.Calls.{Copies, copiedOf}
 use Rattle.summary.specs.Summary.{summed}
 use Rattle.render.specs.declared.Drawn.{Drawn}
 use Rattle.render.specs.Render.{drawnOf, drawn, Draws}
@@ -51,7 +52,7 @@ module _ (bytes : List ℕ) (levels : ℕ → List ℕ) (start count : ℕ) (out
       → CopiesOut c′ bytes levels start count output code old new output′
   copies-told r code old new d e o = record {
     count-is = told-by number plain copiedOf (λ (x : Capture). copiedFor x bytes levels start count output) r code old new d (e .answer-is) o;
-    output-is = e .output-is ∙ ap (λ (x : Capture). over (sampleOf (x .unitsize) bytes) start (unrefused (copyRefusal x bytes levels start count output) (copied (x .len) start count)) output) d;
+    output-is = e .output-is ∙ ap (λ (x : Capture). copiedTo (sampleOf (x .unitsize) bytes) start (unrefused (copyRefusal x bytes levels start count output) (copied (x .len) start count)) output) d;
   }
 
 -- the code of an answer that has no value
@@ -88,6 +89,6 @@ module _ (bytes samples : List ℕ) (levels : ℕ → List ℕ) (samples′ : Li
   unfolding takenOf
   append-refused code numbers numbers′ e h =
       e .numbers-are
-      ∙ ap (λ (b : Bool). set numbers 2 (getD numbers 2 0 + cond b (countOf (getD numbers 0 0) bytes) 0)) (ne-eqb (refusalOf (captureIn numbers) samples levels bytes) 0 (λ z. h (e .code-is ∙ z)))
+      ∙ ap (λ (b : Bool). set numbers 2 (getD numbers 2 0 + cond b (sampleCount (getD numbers 0 0) bytes) 0)) (ne-eqb (refusalOf (captureIn numbers) samples levels bytes) 0 (λ z. h (e .code-is ∙ z)))
       ∙ ap (λ (k : ℕ). set numbers 2 k) (add-zero (getD numbers 2 0))
       ∙ set-getD numbers 2 0

@@ -5,15 +5,16 @@ use Prim.Native.Nat.{ℕ}
 use lib.Bits.{bitAnd}
 use lib.Ieee.{Float}
 use lib.IntN.{ℤ}
-use Rattle.rules.specs.Sample.{sampleOf}
-use Rattle.rules.specs.Answer.{Answer}
+use Rattle.rules.specs.Reading.{copiedTo}
+use Rattle.rules.specs.Sample.{sampleOf, cutLines}
+use Rattle.rules.specs.Answer.{Answer, unrefused}
 use Rattle.rules.specs.Refusal.{copied}
 use Rattle.rules.specs.Walk.{Counted}
 use Rattle.rules.specs.Mill.{placeAt, MillBurst}
 use Rattle.capture.specs.declared.Capture.{Capture}
 use Rattle.capture.specs.declared.Copied.{Copied}
 use Rattle.capture.specs.Record.{storeOf, lentOf}
-use Rattle.capture.specs.Calls.{copiedOf, over, unrefused}
+use Rattle.capture.specs.Calls.{copiedOf}
 use Rattle.summary.specs.Summary.{summed}
 use Rattle.render.specs.declared.Drawn.{Drawn}
 use Rattle.render.specs.Render.{drawnOf}
@@ -38,7 +39,7 @@ module _ (bytes : List ℕ) (levels : ℕ → List ℕ) (grant : ℕ) (output ou
     count-is = told-by number plain copiedOf (λ (x : Capture). copiedFor x bytes levels grant start count output) r code old new d (done .answer-is) o;
     output-is =
         done .output-is
-        ∙ ap (λ (x : Capture). over (λ i. bitAnd (sampleOf (x .unitsize) bytes i) grant) (placeAt (originIn x) start) (unrefused (copyRefusal x bytes levels grant start count output) (copied (x .len) (placeAt (originIn x) start) count)) output) d;
+        ∙ ap (λ (x : Capture). copiedTo (cutLines grant (sampleOf (x .unitsize) bytes)) (placeAt (originIn x) start) (unrefused (copyRefusal x bytes levels grant start count output) (copied (x .len) (placeAt (originIn x) start) count)) output) d;
   }
     where
       done : MillCopies (storeOf c) bytes levels grant start count output r output′

@@ -5,6 +5,7 @@ use mathlib.Core.List.{List}
 use Prim.Native.Nat.{ℕ}
 use lib.Ieee.{Float}
 use lib.ListN.{length}
+use Rattle.rules.specs.Start.{Begun}
 use Rattle.rules.specs.Answer.{Answer}
 use Rattle.rules.specs.Refusal.{Lent}
 use Rattle.capture.specs.Record.{lentOf}
@@ -13,7 +14,7 @@ use Rattle.terms.specs.Terms.{termsOf}
 use Rattle.term_bytes.specs.Bytes.{termsIn}
 use Rattle.feeder.specs.declared.Pretrigger.{Pretrigger}
 use Rattle.feeder.specs.declared.Started.{Started}
-use Rattle.feeder.specs.Start.{Begun, startedOf, startOf}
+use Rattle.feeder.specs.Start.{startedOf, startOf}
 use Rattle.feeder.proofs.Begun.{start-rule}
 use Rattle.codes.specs.Code.{plain, Out}
 use Rattle.feeder_codes.specs.Recorder.{wishIn, begunNumbers, cutNumber}

@@ -9,7 +9,7 @@ use Rattle.rules.specs.Selection.{going-on}
 use Rattle.rules.specs.Refusal.{Lent}
 use Rattle.rebuild.proofs.Right.{after-none}
 use Rattle.store.specs.Stored.{firstNodes}
-use Rattle.ring.specs.Push.{Left}
+use Rattle.rules.specs.Push.{Left, leftOf}
 use Rattle.node.specs.Memory.{levelOf}
 use Rattle.capture.specs.Record.{lentNumbers, lentOf}
 use Rattle.capture.proofs.Answer.{lent-same}
@@ -17,7 +17,7 @@ use Rattle.feeder.specs.declared.Feeder.{Feeder}
 use Rattle.feeder.specs.Record.{recorderOf}
 use Rattle.feeder_push.specs.declared.Pushed.{Pushed}
 use Rattle.feeder_numbers.specs.Numbers.{feederFrom}
-use Rattle.feeder_push.specs.Push.{leftOf, replyAs, feederIn, Pushes}
+use Rattle.feeder_push.specs.Push.{replyAs, feederIn, Pushes}
 use Rattle.feeder_wait.specs.Wait.{Untouched, waitedOf, ShortWent, ShortAfter}
 use Rattle.feeder_codes.specs.Recorder.{replyCode, numbersAfter}
 use Rattle.logic_core.specs.Recorder.{levelFor, PushesOut}

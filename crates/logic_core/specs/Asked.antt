@@ -8,15 +8,17 @@ use lib.ListN.{length}
 use Rattle.rules.specs.Sample.{sampleOf}
 use Rattle.rules.specs.Node.{Node, topLevel}
 use Rattle.rules.specs.Pixel.{View, pixelRange}
-use Rattle.rules.specs.Answer.{Answer, unless}
+use Rattle.rules.specs.Answer.{Answer, unless, unrefused}
 use Rattle.rules.specs.Refusal.{Store, Lent, fresh, storeRefusal, getRefusal, samplesRefusal, renderRefusal, copied}
 use Rattle.capture.specs.declared.Capture.{Capture}
 use Rattle.capture.specs.Record.{storeOf, lentOf}
-use Rattle.capture.specs.Calls.{needRefusal, memoryNeed, over, unrefused}
+use Rattle.capture.specs.Calls.{needRefusal, memoryNeed}
 use Rattle.append.specs.Append.{refusalOf, takenOf}
 use Rattle.store.specs.Stored.{Stored}
 use Rattle.summary.specs.Summary.{summaryOf, summed}
-use Rattle.whole.specs.Wrong.{Place, firstWrong}
+use Rattle.rules.specs.Reading.{copiedTo}
+use Rattle.rules.specs.Wrong.{NodeAt, wholeAnswer}
+use Rattle.whole.specs.Wrong.{heldIn}
 use Rattle.render.specs.Render.{drawn}
 use Rattle.codes.specs.Code.{plain, Out}
 use Rattle.codes.specs.Record.{number, lenNumber}
@@ -46,13 +48,13 @@ module _ (c : Capture) (samples : List ℕ) (levels : ℕ → List ℕ) where
   abbrev pub drawRefusal : Float → Float → ℕ → List ℕ → ℕ
   drawRefusal start spp width output = renderRefusal (storeOf c) (lentOf samples levels) (viewOf start spp) width (length output)
 
-  abbrev pub wrongFor : Answer (Option Place)
-  wrongFor = unless (storeRefusal (storeOf c) (lentOf samples levels)) (firstWrong (sampleOf (c .unitsize) samples) (c .len) levels 1 topLevel)
+  abbrev pub wrongFor : Answer (Option NodeAt)
+  wrongFor = unless (storeRefusal (storeOf c) (lentOf samples levels)) (wholeAnswer (sampleOf (c .unitsize) samples) (c .len) (heldIn levels))
 
 -- samples: the count behind a pointer, and the output
 pub record CopiesOut (c : Capture) (samples : List ℕ) (levels : ℕ → List ℕ) (start count : ℕ) (output : List ℕ) (code old new : ℕ) (output′ : List ℕ) : Type 0 where
   pub count-is : Out number (plain (copiedFor c samples levels start count output)) code old new
-  pub output-is : output′ ≡ over (sampleOf (c .unitsize) samples) start (unrefused (copyRefusal c samples levels start count output) (copied (c .len) start count)) output
+  pub output-is : output′ ≡ copiedTo (sampleOf (c .unitsize) samples) start (unrefused (copyRefusal c samples levels start count output) (copied (c .len) start count)) output
 
 -- append: the code, the record's numbers, of which only len changes, and the memory
 pub record AppendsOut (c : Capture) (bytes samples : List ℕ) (levels : ℕ → List ℕ) (code : ℕ) (numbers numbers′ samples′ : List ℕ) (levels′ : ℕ → List ℕ) : Type 0 where

@@ -7,16 +7,16 @@ use lib.Bits.{bitAnd}
 use lib.Ieee.{Float}
 use lib.IntN.{ℤ}
 use lib.ListN.{length}
-use Rattle.rules.specs.Sample.{sampleOf}
+use Rattle.rules.specs.Reading.{copiedTo}
+use Rattle.rules.specs.Sample.{sampleOf, cutLines}
 use Rattle.rules.specs.Node.{Node}
 use Rattle.rules.specs.Search.{cutSummary}
 use Rattle.rules.specs.Pixel.{rangeFrom}
-use Rattle.rules.specs.Answer.{Answer, unless}
+use Rattle.rules.specs.Answer.{Answer, unless, unrefused}
 use Rattle.rules.specs.Refusal.{storeRefusal, copied}
 use Rattle.rules.specs.Mill.{placeAt, millGetRefusal, millSamplesRefusal, millSummaryRefusal}
 use Rattle.capture.specs.declared.Capture.{Capture}
 use Rattle.capture.specs.Record.{storeOf, lentOf}
-use Rattle.capture.specs.Calls.{over, unrefused}
 use Rattle.summary.specs.Summary.{summaryOf, summed}
 use Rattle.mill.specs.Reader.{originIn}
 use Rattle.mill_read.specs.Read.{Extent, extentOf}
@@ -47,7 +47,7 @@ module _ (c : Capture) (samples : List ℕ) (levels : ℕ → List ℕ) where
 -- samples: the count behind a pointer, and the output
 pub record CopiesOut (c : Capture) (samples : List ℕ) (levels : ℕ → List ℕ) (grant : ℕ) (start : ℤ) (count : ℕ) (output : List ℕ) (code old new : ℕ) (output′ : List ℕ) : Type 0 where
   pub count-is : Out number (plain (copiedFor c samples levels grant start count output)) code old new
-  pub output-is : output′ ≡ over (λ i. bitAnd (sampleOf (c .unitsize) samples i) grant) (placeAt (originIn c) start) (unrefused (copyRefusal c samples levels grant start count output) (copied (c .len) (placeAt (originIn c) start) count)) output
+  pub output-is : output′ ≡ copiedTo (cutLines grant (sampleOf (c .unitsize) samples)) (placeAt (originIn c) start) (unrefused (copyRefusal c samples levels grant start count output) (copied (c .len) (placeAt (originIn c) start) count)) output
 
 -- render: the code, and the output
 pub record DrawsOut (c : Capture) (samples : List ℕ) (levels : ℕ → List ℕ) (grant : ℕ) (start spp : Float) (width : ℕ) (output : List ℕ) (code : ℕ) (output′ : List ℕ) : Type 0 where

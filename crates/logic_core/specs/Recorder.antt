@@ -7,14 +7,14 @@ use lib.Ieee.{Float}
 use lib.ListN.{length}
 use Rattle.rules.specs.Node.{topLevel}
 use Rattle.rules.specs.Answer.{Answer}
-use Rattle.ring.specs.Push.{Left}
+use Rattle.rules.specs.Push.{Left, leftOf}
+use Rattle.rules.specs.Start.{Begun, startRule}
 use Rattle.rebuild.specs.Rebuild.{levelAfter}
 use Rattle.store.specs.Stored.{firstNodes}
 use Rattle.capture.specs.Record.{lentOf}
 use Rattle.feeder.specs.declared.Feeder.{Feeder}
 use Rattle.feeder.specs.Record.{recorderOf}
-use Rattle.feeder.specs.Start.{Begun, startRule, settingsOf}
-use Rattle.feeder_push.specs.Push.{leftOf}
+use Rattle.feeder.specs.Start.{settingsOf}
 use Rattle.term_bytes.specs.Bytes.{termsIn}
 use Rattle.feeder_codes.specs.Recorder.{wishIn, replyCode, numbersAfter}
 

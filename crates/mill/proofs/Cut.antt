@@ -7,8 +7,8 @@ use native.Mathlib.Omega.{arith}
 use lib.Bits.{bitAnd}
 use lib.ListN.{length, getD, take, drop, set, length-take, length-append, length-drop, length-map}
 use lib.Seq.{take-suc, drop-cons, set-at, getD-at, take-at, drop-at}
-use Rattle.rules.specs.Sample.{listFrom}
-use Rattle.capture.specs.Calls.{over}
+use Rattle.rules.specs.Sample.{listFrom, cutLines}
+use Rattle.rules.specs.Reading.{copiedTo}
 use Rattle.capture.proofs.Calls.{length-from}
 use Rattle.mill.specs.Reader.{cutFirst}
 
@@ -51,8 +51,8 @@ module _ (grant : ℕ) where
   cut-from s p zero = refl
   cut-from s p (suc n) = ap (λ (l : List ℕ). granted (s p) ∷ l) (cut-from s (p + 1) n)
 
-  pub cut-over : (s : ℕ → ℕ) (p n : ℕ) (output : List ℕ) → cutFirst grant n (over s p n output) ≡ over (λ i. bitAnd (s i) grant) p n output
-  unfolding cutFirst over
+  pub cut-over : (s : ℕ → ℕ) (p n : ℕ) (output : List ℕ) → cutFirst grant n (copiedTo s p n output) ≡ copiedTo (cutLines grant s) p n output
+  unfolding cutFirst copiedTo
   cut-over s p n output =
       ap₂ (λ (a b : List ℕ). map granted a ++ b) (take-at (listFrom s p n) (drop n output) n (length-from s p n)) (drop-at (listFrom s p n) (drop n output) n (length-from s p n))
       ∙ ap (λ (l : List ℕ). l ++ drop n output) (cut-from s p n)

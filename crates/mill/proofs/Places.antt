@@ -11,7 +11,7 @@ use mir.Val.{Fits, SFits, toZ, ofZ}
 use mir.ValLaws.{toZ-ofZ, toZ-pos, half-full}
 use borrow.Author.Tests.{ltb-true, ltb-false, le-ltb, le-leb, lt-leb}
 use Rattle.rules.specs.Refusal.{mostSamples}
-use Rattle.rules.specs.Mill.{counted, placeAt, before}
+use Rattle.rules.specs.Mill.{millPlace, placeAt, beforeFirst}
 use Rattle.rules.proofs.Origin.{difference}
 
 -- ---- a number that was read from its bits
@@ -57,7 +57,7 @@ pub whole-fits : (z : ℤ) (n : ℕ) → z ≡ pos n → n < 2 ^ 63 → SFits w6
 whole-fits z n e h = subst⁻¹ (SFits w64) e (record { sfits = h })
 
 -- ---- where the run starts
-pub before-is : (origin : ℕ) (p : ℤ) → ltZ p (pos 0) ≡ true → leb origin (mag p) ≡ before origin p
+pub before-is : (origin : ℕ) (p : ℤ) → ltZ p (pos 0) ≡ true → leb origin (mag p) ≡ beforeFirst origin p
 before-is origin (pos n) h = let z : _≡_ {A = ℕ} 0 1 = omega (arith, ltb-true n 0 h) in absurd (omega arith)
 before-is origin (negsuc n) h = go (ltb origin (suc n)) refl
   where
@@ -65,7 +65,7 @@ before-is origin (negsuc n) h = go (ltb origin (suc n)) refl
     go true e = le-leb origin n (omega (arith, ltb-true origin (suc n) e)) ∙ sym e
     go false e = lt-leb origin n (omega (arith, ltb-false origin (suc n) e)) ∙ sym e
 
-pub not-before : (origin : ℕ) (p : ℤ) → ltZ p (pos 0) ≡ false → false ≡ before origin p
+pub not-before : (origin : ℕ) (p : ℤ) → ltZ p (pos 0) ≡ false → false ≡ beforeFirst origin p
 not-before origin (pos n) h = refl
 not-before origin (negsuc n) h = let z : _≡_ {A = ℕ} 0 1 = cc in absurd (omega arith)
 
@@ -75,7 +75,7 @@ place-below origin (pos n) h = let z : _≡_ {A = ℕ} 0 1 = omega (arith, ltb-t
 place-below origin (negsuc n) h = omega arith
 
 -- it is there to be taken
-pub room-below : (origin : ℕ) (p : ℤ) → ltZ p (pos 0) ≡ true → before origin p ≡ false → mag p + 1 ≤ origin
+pub room-below : (origin : ℕ) (p : ℤ) → ltZ p (pos 0) ≡ true → beforeFirst origin p ≡ false → mag p + 1 ≤ origin
 room-below origin (pos n) h e = let z : _≡_ {A = ℕ} 0 1 = omega (arith, ltb-true n 0 h) in absurd (omega arith)
 room-below origin (negsuc n) h e = omega (arith, ltb-false origin (suc n) e)
 
@@ -100,5 +100,5 @@ module _ (a b : ℕ) (ha : a < 2 ^ 63) (hb : b < 2 ^ 63) where
   difference-fits = subst⁻¹ (SFits w64) difference-is (record { sfits = difference-small a b (2 ^ 63) ha hb })
 
 -- a place that was counted, as it is read back from its bits
-pub counted-back : (origin i : ℕ) → origin ≤ mostSamples → i ≤ mostSamples → (r : ℤ) → r ≡ counted origin i → toZ w64 (ofZ w64 r) ≡ counted origin i
-counted-back origin i ho hi r e = ap (λ (z : ℤ). toZ w64 (ofZ w64 z)) e ∙ toZ-ofZ w64 (counted origin i) (record { sfits = difference-small i origin (2 ^ 63) (omega arith) (omega arith) })
+pub counted-back : (origin i : ℕ) → origin ≤ mostSamples → i ≤ mostSamples → (r : ℤ) → r ≡ millPlace origin i → toZ w64 (ofZ w64 r) ≡ millPlace origin i
+counted-back origin i ho hi r e = ap (λ (z : ℤ). toZ w64 (ofZ w64 z)) e ∙ toZ-ofZ w64 (millPlace origin i) (record { sfits = difference-small i origin (2 ^ 63) (omega arith) (omega arith) })

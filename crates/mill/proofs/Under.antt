@@ -9,7 +9,7 @@ use lib.IntN.{ℤ}
 use lib.ListN.{length}
 use Rattle.rules.specs.Answer.{refused, given, unless, seen}
 use Rattle.rules.specs.Refusal.{Store, Lent, Row, firstOf, storeRows, mostSamples}
-use Rattle.rules.specs.Mill.{originOf, before}
+use Rattle.rules.specs.Mill.{originOf, beforeFirst}
 use Rattle.rules.proofs.Refusal.{Sound, MarkInside, rows-passed, rows-rest}
 use Rattle.node.specs.Memory.{levelOf}
 use Rattle.capture.specs.Record.{lentNumbers, lentOf}
@@ -40,8 +40,8 @@ three-passed false false false h = (refl, refl, refl)
 pub record Passed (st : Store) (lent : Lent) (p q : ℤ) : Type 0 where
   pub sound : Sound st lent
   pub origin-small : originOf (st .mark) ≤ mostSamples
-  pub first : before (originOf (st .mark)) p ≡ false
-  pub second : before (originOf (st .mark)) q ≡ false
+  pub first : beforeFirst (originOf (st .mark)) p ≡ false
+  pub second : beforeFirst (originOf (st .mark)) q ≡ false
 
 pub origin-inside : (mark : Option ℕ) (len : ℕ) → ((k : ℕ) → mark ≡ some k → k ≤ len) → originOf mark ≤ len
 origin-inside none len h = omega arith
@@ -63,13 +63,13 @@ module _ (st : Store) (samples l1 l2 l3 l4 : List ℕ) (outside : Bool) (p q : �
   number-is : n ≡ firstOf (storeRows st lent (millRows st outside p q))
   number-is = is ∙ ap (λ (l : Lent). firstOf (storeRows st l (millRows st outside p q))) (lent-same samples l1 l2 l3 l4)
 
-  through : n ≡ 0 → Sound st lent × MarkInside st × (three outside (before o p) (before o q) 0 ≡ 0)
+  through : n ≡ 0 → Sound st lent × MarkInside st × (three outside (beforeFirst o p) (beforeFirst o q) 0 ≡ 0)
   through z = rows-passed st lent (millRows st outside p q) .0 (sym number-is ∙ z)
 
   pub passed : n ≡ 0 → Passed st lent p q
   passed z =
       let t = through z in
-      let b = three-passed outside (before o p) (before o q) (t .2) in
+      let b = three-passed outside (beforeFirst o p) (beforeFirst o q) (t .2) in
       record { sound = t .0; origin-small = omega (arith, origin-inside (st .mark) (st .len) (t .1), t .0 .len-most, t .0 .capacity-most); first = b .1; second = b .2 }
 
   -- the service's own rows
@@ -78,7 +78,7 @@ module _ (st : Store) (samples l1 l2 l3 l4 : List ℕ) (outside : Bool) (p q : �
     pub rows-under : n ≡ 0 → firstOf (storeRows st lent (millRows st outside p q ++ rest)) ≡ firstOf (storeRows st lent rest)
     rows-under z =
         let t = through z in
-        let b = three-passed outside (before o p) (before o q) (t .2) in
+        let b = three-passed outside (beforeFirst o p) (beforeFirst o q) (t .2) in
         rows-rest st lent (t .0) (t .1) (millRows st outside p q ++ rest) ∙ (λ i. three (b .0 i) (b .1 i) (b .2 i) (firstOf rest)) ∙ sym (rows-rest st lent (t .0) (t .1) rest)
 
     -- and where one of them refuses, it does
@@ -97,8 +97,8 @@ module _ (st : Store) (samples l1 l2 l3 l4 : List ℕ) (outside : Bool) (p q : �
   given-under a z = ap (λ (k : ℕ). unless k a) (sym z ∙ number-is ∙ rows-under [] z)
 
 -- what `place_at` requires, of the origin as the code worked it out
-pub first-placed : {st : Store} {lent : Lent} {p q : ℤ} → Passed st lent p q → (origin : ℕ) → origin ≡ originOf (st .mark) → (origin ≤ mostSamples) × (before origin p ≡ false)
-first-placed {st} {lent} {p} {q} h origin e = (omega (arith, h .origin-small), ap (λ (x : ℕ). before x p) e ∙ h .first)
+pub first-placed : {st : Store} {lent : Lent} {p q : ℤ} → Passed st lent p q → (origin : ℕ) → origin ≡ originOf (st .mark) → (origin ≤ mostSamples) × (beforeFirst origin p ≡ false)
+first-placed {st} {lent} {p} {q} h origin e = (omega (arith, h .origin-small), ap (λ (x : ℕ). beforeFirst x p) e ∙ h .first)
 
-pub second-placed : {st : Store} {lent : Lent} {p q : ℤ} → Passed st lent p q → (origin : ℕ) → origin ≡ originOf (st .mark) → (origin ≤ mostSamples) × (before origin q ≡ false)
-second-placed {st} {lent} {p} {q} h origin e = (omega (arith, h .origin-small), ap (λ (x : ℕ). before x q) e ∙ h .second)
+pub second-placed : {st : Store} {lent : Lent} {p q : ℤ} → Passed st lent p q → (origin : ℕ) → origin ≡ originOf (st .mark) → (origin ≤ mostSamples) × (beforeFirst origin q ≡ false)
+second-placed {st} {lent} {p} {q} h origin e = (omega (arith, h .origin-small), ap (λ (x : ℕ). beforeFirst x q) e ∙ h .second)

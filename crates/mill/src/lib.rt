@@ -8,7 +8,7 @@ ghost use Prim.Native.Nat.{_≤_};
 ghost use lib.ListN.{length};
 ghost use lib.Signed.{mag};
 ghost use Rattle.rules.specs.Refusal.{mostSamples, firstOf, storeRows};
-ghost use Rattle.rules.specs.Mill.{counted, placeAt, before, beyond};
+ghost use Rattle.rules.specs.Mill.{millPlace, placeAt, beforeFirst, beyond};
 ghost use Rattle.capture.specs.Record.{storeOf, lentNumbers};
 ghost use Rattle.mill.specs.Reader.{originIn, millRows, cutFirst};
 
@@ -35,7 +35,7 @@ fn magnitude(p: i64) -> usize
 
 // Row 13: p lies before the first sample.
 pub fn lies_before(origin: usize, p: i64) -> bool
-    ensures { λ r. ⌜ r ≡ before origin p ⌝ }
+    ensures { λ r. ⌜ r ≡ beforeFirst origin p ⌝ }
 {
     let n = magnitude(p);
     if p < 0 {
@@ -46,7 +46,7 @@ pub fn lies_before(origin: usize, p: i64) -> bool
 
 // The place of the run that p is.
 pub fn place_at(origin: usize, p: i64) -> usize
-    requires { ⌜ (origin ≤ mostSamples) × (before origin p ≡ false) ⌝ }
+    requires { ⌜ (origin ≤ mostSamples) × (beforeFirst origin p ≡ false) ⌝ }
     ensures { λ r. ⌜ r ≡ placeAt origin p ⌝ }
 {
     let n = magnitude(p);
@@ -59,7 +59,7 @@ pub fn place_at(origin: usize, p: i64) -> usize
 // The place i of the run, as a mill counts it.
 pub fn counted_from(origin: usize, i: usize) -> i64
     requires { ⌜ (origin ≤ mostSamples) × (i ≤ mostSamples) ⌝ }
-    ensures { λ r. ⌜ r ≡ counted origin i ⌝ }
+    ensures { λ r. ⌜ r ≡ millPlace origin i ⌝ }
 {
     i as i64 - origin as i64
 }

@@ -9,8 +9,9 @@ use lib.Dec.{ltb}
 use lib.IntN.{ℤ, pos}
 use lib.ListN.{length}
 use borrow.Author.Tests.{ltb-false}
+use Rattle.rules.specs.Reading.{copiedTo}
 use Rattle.rules.specs.Sample.{sampleOf}
-use Rattle.rules.specs.Answer.{refused, unless}
+use Rattle.rules.specs.Answer.{refused, unless, unrefused}
 use Rattle.rules.specs.Refusal.{Store, Lent, Row, firstOf, storeRows, copied, copyRow, samplesRefusal}
 use Rattle.rules.specs.Mill.{originOf, placeAt, millSamplesRefusal}
 use Rattle.rules.proofs.Refusal.{rows-passed, row-passed}
@@ -18,7 +19,7 @@ use Rattle.node.specs.Memory.{levelOf}
 use Rattle.capture.specs.declared.Copied.{Copied}
 use Rattle.capture.specs.declared.Copied.the-variants.{Refused, Count}
 use Rattle.capture.specs.Record.{lentNumbers, lentOf}
-use Rattle.capture.specs.Calls.{copiedOf, over, unrefused, Copies}
+use Rattle.capture.specs.Calls.{copiedOf, Copies}
 use Rattle.capture.proofs.Answer.{unless-given}
 use Rattle.capture.proofs.Calls.{none-copied, all-copied, over-none, length-over}
 use Rattle.mill.specs.Reader.{millRows, cutFirst}
@@ -70,7 +71,7 @@ module _ (st : Store) (bytes l1 l2 l3 l4 : List ℕ) (grant : ℕ) (p : ℤ) (co
     pub copies-none : (m : ℕ) → r ≡ Refused m → MillCopies st bytes levels grant p count output r output′
     copies-none m e = record {
       answer-is = answer;
-      output-is = service .output-is ∙ ap (λ (x : ℕ). over (sampleOf (st .unit) bytes) i x output) none ∙ sym (over-none (sampleOf (st .unit) bytes) i output) ∙ over-none shown i output ∙ ap (λ (x : ℕ). over shown i x output) (sym (ap (λ (x : ℕ). unrefused x k) same ∙ none));
+      output-is = service .output-is ∙ ap (λ (x : ℕ). copiedTo (sampleOf (st .unit) bytes) i x output) none ∙ sym (over-none (sampleOf (st .unit) bytes) i output) ∙ over-none shown i output ∙ ap (λ (x : ℕ). copiedTo shown i x output) (sym (ap (λ (x : ℕ). unrefused x k) same ∙ none));
     }
       where
         none : unrefused (samplesRefusal st lent i count (length output)) k ≡ 0
@@ -83,8 +84,8 @@ module _ (st : Store) (bytes l1 l2 l3 l4 : List ℕ) (grant : ℕ) (p : ℤ) (co
       enough : m ≤ length output
       enough = omega (arith, passes .1, ltb-false (length output) k (row-passed 11 0 (ltb (length output) k) (omega arith) .0 (rows-passed st lent own .0 (passes .0) .2) .0))
 
-      copied-is : output′ ≡ over (sampleOf (st .unit) bytes) i m output
-      copied-is = service .output-is ∙ ap (λ (x : ℕ). over (sampleOf (st .unit) bytes) i (unrefused x k) output) (passes .0) ∙ ap (λ (x : ℕ). over (sampleOf (st .unit) bytes) i x output) (passes .1)
+      copied-is : output′ ≡ copiedTo (sampleOf (st .unit) bytes) i m output
+      copied-is = service .output-is ∙ ap (λ (x : ℕ). copiedTo (sampleOf (st .unit) bytes) i (unrefused x k) output) (passes .0) ∙ ap (λ (x : ℕ). copiedTo (sampleOf (st .unit) bytes) i x output) (passes .1)
 
       -- there is room to cut
       pub copies-room : m ≤ length output′
@@ -93,5 +94,5 @@ module _ (st : Store) (bytes l1 l2 l3 l4 : List ℕ) (grant : ℕ) (p : ℤ) (co
       pub copies-count : (cut-to : List ℕ) → cut-to ≡ cutFirst grant m output′ → MillCopies st bytes levels grant p count output (Count m) cut-to
       copies-count cut-to is-cut = record {
         answer-is = sym (ap copiedOf e) ∙ answer;
-        output-is = is-cut ∙ ap (cutFirst grant m) copied-is ∙ cut-over grant (sampleOf (st .unit) bytes) i m output ∙ ap (λ (x : ℕ). over shown i x output) (sym (passes .1)) ∙ all-copied shown i k output _ (same ∙ passes .0);
+        output-is = is-cut ∙ ap (cutFirst grant m) copied-is ∙ cut-over grant (sampleOf (st .unit) bytes) i m output ∙ ap (λ (x : ℕ). copiedTo shown i x output) (sym (passes .1)) ∙ all-copied shown i k output _ (same ∙ passes .0);
       }

@@ -7,13 +7,14 @@ use Prim.Native.Nat.{ℕ}
 use lib.Bits.{bitAnd}
 use lib.IntN.{ℤ}
 use lib.ListN.{length}
-use Rattle.rules.specs.Sample.{sampleOf}
-use Rattle.rules.specs.Answer.{Answer, refused, given, unless}
+use Rattle.rules.specs.Reading.{copiedTo}
+use Rattle.rules.specs.Sample.{sampleOf, cutLines}
+use Rattle.rules.specs.Answer.{Answer, refused, given, unless, unrefused}
 use Rattle.rules.specs.Refusal.{Store, copied}
-use Rattle.rules.specs.Mill.{originOf, counted, placeAt, millSamplesRefusal}
+use Rattle.rules.specs.Mill.{originOf, millPlace, placeAt, millSamplesRefusal}
 use Rattle.capture.specs.declared.Copied.{Copied}
 use Rattle.capture.specs.Record.{lentOf}
-use Rattle.capture.specs.Calls.{copiedOf, over, unrefused}
+use Rattle.capture.specs.Calls.{copiedOf}
 use Rattle.mill_read.specs.declared.Bounded.{Bounded}
 use Rattle.mill_read.specs.declared.Bounded.the-variants as bounded
 
@@ -29,7 +30,7 @@ isMarked none = false
 isMarked (some mark) = true
 
 abbrev pub extentFor : Option ℕ → ℕ → Extent
-extentFor mark len = record { first = counted (originOf mark) 0; end = counted (originOf mark) len; marked = isMarked mark }
+extentFor mark len = record { first = millPlace (originOf mark) 0; end = millPlace (originOf mark) len; marked = isMarked mark }
 
 abbrev pub extentOf : Store → Extent
 extentOf st = extentFor (st .mark) (st .len)
@@ -42,4 +43,4 @@ boundedOf (bounded.Run b) = given (record { first = b .first; end = b .end; mark
 -- the granted lines of the samples from place p of the mill on, as many as are copied, and after them what output had
 pub record MillCopies (st : Store) (bytes : List ℕ) (levels : ℕ → List ℕ) (grant : ℕ) (p : ℤ) (count : ℕ) (output : List ℕ) (r : Copied) (output′ : List ℕ) : Type 0 where
   pub answer-is : copiedOf r ≡ unless (millSamplesRefusal st (lentOf bytes levels) p count (length output)) (copied (st .len) (placeAt (originOf (st .mark)) p) count)
-  pub output-is : output′ ≡ over (λ i. bitAnd (sampleOf (st .unit) bytes i) grant) (placeAt (originOf (st .mark)) p) (unrefused (millSamplesRefusal st (lentOf bytes levels) p count (length output)) (copied (st .len) (placeAt (originOf (st .mark)) p) count)) output
+  pub output-is : output′ ≡ copiedTo (cutLines grant (sampleOf (st .unit) bytes)) (placeAt (originOf (st .mark)) p) (unrefused (millSamplesRefusal st (lentOf bytes levels) p count (length output)) (copied (st .len) (placeAt (originOf (st .mark)) p) count)) output

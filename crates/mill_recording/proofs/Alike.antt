@@ -10,7 +10,7 @@ use lib.Dec.{eqb}
 use lib.IntN.{ℤ}
 use lib.ListN.{length}
 use borrow.Author.Tests.{eqb-true}
-use Rattle.rules.specs.Sample.{listFrom}
+use Rattle.rules.specs.Sample.{listFrom, Within, cutLines}
 use Rattle.rules.specs.Node.{nodeOf}
 use Rattle.rules.specs.Search.{summary, cutSummary}
 use Rattle.rules.specs.Walk.{through, nextSearch, previousSearch}
@@ -22,7 +22,7 @@ use Rattle.rules.specs.Answer.{unless}
 use Rattle.rules.proofs.Sample.{list-same}
 use Rattle.rules.proofs.Refusal.{row-passed}
 use Rattle.rules.proofs.Row.{from-stored}
-use Rattle.alike.specs.Alike.{Within, Alike}
+use Rattle.alike.specs.Alike.{Alike}
 use Rattle.alike.proofs.Alike.{same-alike, row-alike}
 use Rattle.mill_read.specs.Read.{extentFor}
 use Rattle.pixel.specs.Ranges.{viewAs}
@@ -70,7 +70,7 @@ module _ (grant : ℕ) (one two : Recording) (same : Same grant one two) where
     samples = λ p n output₁ output₂ e.
         agreed (λ x. x) (a₁ .samples-are p n output₁) (a₂ .samples-are p n output₂)
         (both (λ x j. millSamplesRows x j p n (length output₁)) (λ f x j. listFrom (λ i. bitAnd (f i) grant) (placeAt (originOf x) p) (copied j (placeAt (originOf x) p) n)) (λ z. copies p n)
-        ∙ ap (λ (l : ℕ). unless (firstOf (millSamplesRows (mark two) (len two) p n l)) (listFrom (λ i. bitAnd (s two i) grant) (placeAt (originOf (mark two)) p) (copied (len two) (placeAt (originOf (mark two)) p) n))) e);
+        ∙ ap (λ (l : ℕ). unless (firstOf (millSamplesRows (mark two) (len two) p n l)) (listFrom (cutLines grant (s two)) (placeAt (originOf (mark two)) p) (copied (len two) (placeAt (originOf (mark two)) p) n))) e);
     summaries = λ a b.
         agreed (λ x. x) (a₁ .summary-is a b) (a₂ .summary-is a b)
         (both (λ x n. millSummaryRows x a b) (λ f x n. cutSummary grant (summary f n (placeAt (originOf x) a) (placeAt (originOf x) b))) (λ z. rules .summaries (at a) (at b)));
@@ -93,10 +93,10 @@ module _ (grant : ℕ) (one two : Recording) (same : Same grant one two) where
         ∙ ap (λ (l : ℕ). unless (firstOf (viewRows (viewAs view) width l)) (cutPixels grant (rowBy (nodeOf (s two)) (rangeFrom (originOf (mark two)) (viewAs view) (len two)) 0 width))) e);
   }
     where
-      copies : (p : ℤ) (n : ℕ) → listFrom (λ i. bitAnd (s one i) grant) (at p) (copied (len one) (at p) n) ≡ listFrom (λ i. bitAnd (s two i) grant) (at p) (copied (len two) (at p) n)
+      copies : (p : ℤ) (n : ℕ) → listFrom (cutLines grant (s one)) (at p) (copied (len one) (at p) n) ≡ listFrom (cutLines grant (s two)) (at p) (copied (len two) (at p) n)
       copies p n =
-          list-same (λ i. bitAnd (s one i) grant) (λ i. bitAnd (s two i) grant) (at p) (at p) (copied (len one) (at p) n) (λ j h. same .runs .lines (at p + j) (copied-inside (len one) (at p) n j h))
-          ∙ ap (λ (l : ℕ). listFrom (λ i. bitAnd (s two i) grant) (at p) (copied l (at p) n)) (same .runs .len)
+          list-same (cutLines grant (s one)) (cutLines grant (s two)) (at p) (at p) (copied (len one) (at p) n) (λ j h. same .runs .lines (at p + j) (copied-inside (len one) (at p) n j h))
+          ∙ ap (λ (l : ℕ). listFrom (cutLines grant (s two)) (at p) (copied l (at p) n)) (same .runs .len)
 
 pub mill-learns : MillLearns
 mill-learns grant one two = (mill-answers one grant, mill-answers two grant, mill-alike grant one two)

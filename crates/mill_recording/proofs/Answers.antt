@@ -13,15 +13,16 @@ use lib.ListN.{length, length-map, take, drop}
 use lib.Seq.{take-at}
 use borrow.Author.Tests.{leb-false}
 use denote.Ref.{at-last}
-use Rattle.rules.specs.Sample.{sampleOf, listFrom}
+use Rattle.rules.specs.Reading.{copiedTo}
+use Rattle.rules.specs.Sample.{sampleOf, listFrom, cutLines}
 use Rattle.rules.specs.Node.{nodeOf}
 use Rattle.rules.specs.Search.{summary, cutSummary}
 use Rattle.rules.specs.Walk.{Counted, through, nextSearch, previousSearch}
 use Rattle.rules.specs.Burst.{burstSearch}
 use Rattle.rules.specs.Pixel.{rowBy, rangeFrom, cutPixels}
 use Rattle.rules.specs.Refusal.{Row, Lent, firstOf, storeRows, viewRows, renderRefusal, copied}
-use Rattle.rules.specs.Mill.{MillBurst, originOf, placeAt, before, shownPlace, shownBurst, millGetRows, millSamplesRows, millSummaryRows, millSearchRows, millSamplesRefusal}
-use Rattle.rules.specs.Answer.{Answer, refused, given, unless}
+use Rattle.rules.specs.Mill.{MillBurst, originOf, placeAt, beforeFirst, shownPlace, shownBurst, millGetRows, millSamplesRows, millSummaryRows, millSearchRows, millSamplesRefusal}
+use Rattle.rules.specs.Answer.{Answer, refused, given, unless, unrefused}
 use Rattle.rules.proofs.Sample.{list-length, list-same}
 use Rattle.rules.proofs.Refusal.{row-passed, rows-left}
 use Rattle.rules.proofs.Row.{row-length, from-stored}
@@ -32,7 +33,7 @@ use Rattle.capture.specs.declared.Got.the-variants as got
 use Rattle.capture.specs.declared.Copied.{Copied}
 use Rattle.capture.specs.declared.Copied.the-variants as copies
 use Rattle.capture.specs.Record.{markOf, storeOf, lentOf}
-use Rattle.capture.specs.Calls.{gotOf, copiedOf, over, unrefused}
+use Rattle.capture.specs.Calls.{gotOf, copiedOf}
 use Rattle.summary.specs.Summary.{summedOf, summed}
 use Rattle.pixel.specs.declared.View.{View}
 use Rattle.pixel.specs.Ranges.{viewAs}
@@ -84,7 +85,7 @@ unless-same (suc n) x y e = refl
 pub got-inside : (mark : Option ℕ) (len : ℕ) (p : ℤ) → firstOf (millGetRows mark len p) ≡ 0 → placeAt (originOf mark) p < len
 got-inside mark len p z =
     let i = placeAt (originOf mark) p in
-    let rest = row-passed 13 _ (before (originOf mark) p) (zero-lt-suc 12) .0 z .1 in
+    let rest = row-passed 13 _ (beforeFirst (originOf mark) p) (zero-lt-suc 12) .0 z .1 in
     leb-false len i (row-passed 9 0 (leb len i) (zero-lt-suc 8) .0 rest .0)
 
 -- samples that are copied are the run's
@@ -191,14 +192,14 @@ module _ (r : Recording) where
       copy-seen (suc number) count (copies.Count j) o x e h = let z : _≡_ {A = ℕ} 0 1 = cc in absurd (omega arith)
 
       -- the numbers that were copied
-      copied-list : (number : ℕ) (o : List ℕ) → o ≡ over (shown t) i (unrefused number (copied (c .len) i n)) output → number ≡ 0 → take (copied (c .len) i n) o ≡ listFrom (shown t) i (copied (c .len) i n)
-      unfolding over
+      copied-list : (number : ℕ) (o : List ℕ) → o ≡ copiedTo (shown t) i (unrefused number (copied (c .len) i n)) output → number ≡ 0 → take (copied (c .len) i n) o ≡ listFrom (shown t) i (copied (c .len) i n)
+      unfolding copiedTo
       copied-list number o e z =
           let count = copied (c .len) i n in
-          ap (take count) (e ∙ ap (λ (j : ℕ). over (shown t) i (unrefused j count) output) z) ∙ take-at (listFrom (shown t) i count) (drop count output) count (list-length (shown t) i count)
+          ap (take count) (e ∙ ap (λ (j : ℕ). copiedTo (shown t) i (unrefused j count) output) z) ∙ take-at (listFrom (shown t) i count) (drop count output) count (list-length (shown t) i count)
 
       samples-are : Answered (MaySamples c m grant p n output) samplesIn
-          (unless (firstOf (millSamplesRows (mark r) (len r) p n (length output))) (listFrom (λ i. bitAnd (s r i) grant) (place r p) (copied (len r) (place r p) n)))
+          (unless (firstOf (millSamplesRows (mark r) (len r) p n (length output))) (listFrom (cutLines grant (s r)) (place r p) (copied (len r) (place r p) n)))
       samples-are =
           let v = copied-for (unless copies-number (copied (c .len) i n)) in
           record {
@@ -206,7 +207,7 @@ module _ (r : Recording) where
                 copy-seen copies-number (copied (c .len) i n) (v .answer) (v .output) _ (may .3 .answer-is) (copied-list copies-number (v .output) (may .3 .output-is))
                 ∙ asked-run (λ x j. millSamplesRows x j p n (length output)) (λ f x j. listFrom (shown f) (placeAt (originOf x) p) (copied j (placeAt (originOf x) p) n))
                 (λ z. list-same (shown t) (shown (s r)) i i (copied (c .len) i n) (λ j h. ap (λ (v : ℕ). bitAnd v grant) (agree r (i + j) (copied-inside (c .len) i n j h))));
-            answer = record { answer = v .0; output = over (shown t) i (unrefused copies-number (copied (c .len) i n)) output };
+            answer = record { answer = v .0; output = copiedTo (shown t) i (unrefused copies-number (copied (c .len) i n)) output };
             allowed = (([], ([], ([], tt))), somewhere, anywhere, record { answer-is = v .1; output-is = refl });
           }
 

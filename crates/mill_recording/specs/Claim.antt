@@ -9,7 +9,7 @@ use lib.IntN.{ℤ}
 use lib.ListN.{length, take}
 use contract.Lifetimes.{Lfts}
 use denote.Ref.{at-last}
-use Rattle.rules.specs.Sample.{listFrom}
+use Rattle.rules.specs.Sample.{listFrom, cutLines}
 use Rattle.rules.specs.Node.{nodeOf}
 use Rattle.rules.specs.Search.{summary, cutSummary}
 use Rattle.rules.specs.Walk.{through, nextSearch, previousSearch}
@@ -101,7 +101,7 @@ pub record MillAnswers (grant : ℕ) (r : Recording) : Type 0 where
   pub get-is : (p : ℤ) → Answered (MayGet (store r) (r .memory) grant p) gotOf (unless (firstOf (millGetRows (mark r) (len r) p)) (bitAnd (s r (place r p)) grant))
   pub samples-are : (p : ℤ) (n : ℕ) (output : List ℕ)
       → Answered (MaySamples (store r) (r .memory) grant p n output) samplesIn
-      (unless (firstOf (millSamplesRows (mark r) (len r) p n (length output))) (listFrom (λ i. bitAnd (s r i) grant) (place r p) (copied (len r) (place r p) n)))
+      (unless (firstOf (millSamplesRows (mark r) (len r) p n (length output))) (listFrom (cutLines grant (s r)) (place r p) (copied (len r) (place r p) n)))
   pub summary-is : (a b : ℤ) → Answered (MaySummary (store r) (r .memory) grant a b) summedOf (unless (firstOf (millSummaryRows (mark r) a b)) (cutSummary grant (summary (s r) (len r) (place r a) (place r b))))
   pub next-is : (mask : ℕ) (p : ℤ) → Answered (MayNext (store r) (r .memory) grant mask p) foundOf (unless (firstOf (millSearchRows grant mask (mark r) p)) (through (shownPlace (origin r)) (nextSearch (s r) (len r) mask (place r p))))
   pub previous-is : (mask : ℕ) (p : ℤ) → Answered (MayPrevious (store r) (r .memory) grant mask p) foundOf (unless (firstOf (millSearchRows grant mask (mark r) p)) (through (shownPlace (origin r)) (previousSearch (s r) (len r) mask (place r p))))

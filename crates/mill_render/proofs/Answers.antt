@@ -14,7 +14,7 @@ use Rattle.rules.proofs.Row.{from-stored}
 use Rattle.node.specs.Memory.{levelOf, Right}
 use Rattle.capture.specs.declared.Capture.{Capture}
 use Rattle.capture.specs.Record.{storeOf, lentOf}
-use Rattle.capture.specs.Calls.{unrefused}
+use Rattle.rules.specs.Answer.{unrefused}
 use Rattle.capture.proofs.Calls.{unrefused-none}
 use Rattle.pixel.specs.declared.View.{View}
 use Rattle.pixel.specs.Ranges.{viewAs}

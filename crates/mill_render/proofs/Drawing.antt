@@ -13,7 +13,7 @@ use Rattle.rules.specs.Refusal.{Store, Lent, storeRefusal, renderRefusal}
 use Rattle.rules.specs.Mill.{originOf}
 use Rattle.rules.proofs.Refusal.{rows-passed}
 use Rattle.rules.proofs.Row.{Stored, row-length, row-same}
-use Rattle.capture.specs.Calls.{unrefused}
+use Rattle.rules.specs.Answer.{unrefused}
 use Rattle.capture.proofs.Answer.{refused-is, given-is}
 use Rattle.capture.proofs.Calls.{unrefused-none}
 use Rattle.render.specs.declared.Drawn.the-variants.{Refused, Done}

@@ -6,10 +6,9 @@ use Prim.Native.Nat.{ℕ, _*_}
 use lib.ListN.{length, drop}
 use Rattle.rules.specs.Node.{Node}
 use Rattle.rules.specs.Pixel.{View, Range, rowBy, cutPixels, rangeFrom}
-use Rattle.rules.specs.Answer.{unless}
+use Rattle.rules.specs.Answer.{unless, unrefused}
 use Rattle.rules.specs.Refusal.{Store, Lent, renderRefusal}
 use Rattle.rules.specs.Mill.{originOf}
-use Rattle.capture.specs.Calls.{unrefused}
 use Rattle.render.specs.declared.Drawn.{Drawn}
 use Rattle.render.specs.Render.{drawnOf}
 

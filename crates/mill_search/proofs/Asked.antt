@@ -12,7 +12,7 @@ use mir.Val.{SFits, toZ, ofZ}
 use Rattle.rules.specs.Answer.{Answer, refused, given, unless, seen}
 use Rattle.rules.specs.Burst.{Burst, places, burstedBy}
 use Rattle.rules.specs.Refusal.{Lent, firstOf, storeRows, storeRefusal, mostSamples}
-use Rattle.rules.specs.Mill.{placeAt, before, beyond}
+use Rattle.rules.specs.Mill.{placeAt, beforeFirst, beyond}
 use Rattle.rules.specs.Walk.{Counted, Walked, through, allLevels}
 use Rattle.node.specs.Memory.{levelOf, readerOf}
 use Rattle.capture.specs.declared.Capture.{Capture}
@@ -64,7 +64,7 @@ module _ (c : Capture) (samples l1 l2 l3 l4 : List ℕ) (grant mask : ℕ) (plac
     pub asked-given : {A : Type 0} (a : A) → given a ≡ unless (storeRefusal (storeOf c) lent) a
     asked-given a = given-under (storeOf c) samples l1 l2 l3 l4 (beyond grant mask) p (pos 0) n rows-are a z
 
-    pub asked-placed : (origin ≤ mostSamples) × (before origin p ≡ false)
+    pub asked-placed : (origin ≤ mostSamples) × (beforeFirst origin p ≡ false)
     asked-placed = first-placed let-pass origin origin-is
 
     -- the service's answer to the question `find`, at a place i

@@ -7,7 +7,7 @@ use native.Mathlib.Omega.{arith}
 use lib.IntN.{pos, negsuc}
 use lib.Dec.{leb, ltb, eqb}
 use borrow.Author.Tests.{ltb-true, ltb-false, le-leb, lt-leb}
-use Rattle.rules.specs.Floor.{Whole, none, under, over, at, count}
+use Rattle.rules.specs.Floor.{Whole, none, under, over, at, natural}
 use Rattle.rules.specs.Pixel.{Range, below0, reaches, endOf, rangeOf}
 use Rattle.float.specs.declared.Place.the-variants.{At, Beyond}
 use Rattle.float.specs.Places.{placeOf}
@@ -17,7 +17,7 @@ abbrev unless : Bool → ℕ → ℕ → Option Range
 unless b from to = cond b Option.none (some (record { from = from; to = to }))
 
 -- where a lies
-spans : (a : Whole) (n len : ℕ) → spannedBy (placeOf a len) n len ≡ unless (reaches a len) (count a) (endAt (count a) n len)
+spans : (a : Whole) (n len : ℕ) → spannedBy (placeOf a len) n len ≡ unless (reaches a len) (natural a) (endAt (natural a) n len)
 spans none n len = refl
 spans under n len = refl
 spans over n len = refl
@@ -36,19 +36,19 @@ whole : (a len : ℕ) → endAt a len len ≡ len
 whole a len = omega arith
 
 module _ (a : Whole) (len : ℕ) where
-  spans-to : (k : ℕ) → endAt (count a) len len ≡ k → spannedBy (placeOf a len) len len ≡ unless (reaches a len) (count a) k
-  spans-to k e = spans a len len ∙ ap (λ (k : ℕ). unless (reaches a len) (count a) k) e
+  spans-to : (k : ℕ) → endAt (natural a) len len ≡ k → spannedBy (placeOf a len) len len ≡ unless (reaches a len) (natural a) k
+  spans-to k e = spans a len len ∙ ap (λ (k : ℕ). unless (reaches a len) (natural a) k) e
 
-  ends : (b : Whole) → endedBy (placeOf a len) (placeOf b len) len ≡ cond (below0 b) Option.none (unless (reaches a len) (count a) (endOf b (count a) len))
+  ends : (b : Whole) → endedBy (placeOf a len) (placeOf b len) len ≡ cond (below0 b) Option.none (unless (reaches a len) (natural a) (endOf b (natural a) len))
   ends none = refl
   ends under = refl
-  ends over = spans-to len (whole (count a) len)
+  ends over = spans-to len (whole (natural a) len)
   ends (at (negsuc k)) = refl
   ends (at (pos n)) = go (ltb n len) refl
     where
-      go : (t : Bool) → ltb n len ≡ t → endedBy (placeOf a len) (cond t (At n) Beyond) len ≡ unless (reaches a len) (count a) (endAt (count a) n len)
+      go : (t : Bool) → ltb n len ≡ t → endedBy (placeOf a len) (cond t (At n) Beyond) len ≡ unless (reaches a len) (natural a) (endAt (natural a) n len)
       go true e = spans a n len
-      go false e = spans-to (endAt (count a) n len) (last (count a) n len (ltb-false n len e))
+      go false e = spans-to (endAt (natural a) n len) (last (natural a) n len (ltb-false n len e))
 
 -- the three tests, in either order
 tests : (l b a : Bool) (r : Option Range) → cond l Option.none (cond b Option.none (cond a Option.none r)) ≡ cond (b || a || l) Option.none r
@@ -62,4 +62,4 @@ tests false false false r = refl
 pub covers : (a b : Whole) (len : ℕ) → coverBy (placeOf a len) (placeOf b len) len ≡ rangeOf a b len
 covers a b len =
     ap (λ (r : Option Range). cond (eqb len 0) Option.none r) (ends a len b)
-    ∙ tests (eqb len 0) (below0 b) (reaches a len) (some (record { from = count a; to = endOf b (count a) len }))
+    ∙ tests (eqb len 0) (below0 b) (reaches a len) (some (record { from = natural a; to = endOf b (natural a) len }))

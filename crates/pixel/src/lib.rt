@@ -2,7 +2,7 @@
 ghost use mathlib.Core.Path.{_≡_};
 ghost use Prim.Native.Nat.{_≤_, _<_};
 ghost use lib.IntN.{pos};
-ghost use Rattle.rules.specs.Pixel.{edge, moved, rangeFrom};
+ghost use Rattle.rules.specs.Pixel.{pixelEdge, moved, rangeFrom};
 ghost use Rattle.float.specs.Places.{placeOf};
 ghost use Rattle.pixel.specs.Ranges.{viewAs, rangeAs, endAt, spannedBy, coverBy};
 use float::Place;
@@ -21,7 +21,7 @@ pub enum Pixel {
 // Where floor(start + px × spp), counted from origin, lies: the product is rounded, then the sum.
 fn edge_in(v: View, px: u64, origin: u64, len: u64) -> Place
     requires { ⌜ px ≤ 65536 ⌝ ∗ ⌜ origin ≤ len ⌝ ∗ ⌜ len ≤ 67108864 ⌝ }
-    ensures { λ r. ⌜ r ≡ placeOf (moved (pos origin) (edge (viewAs v) px)) len ⌝ }
+    ensures { λ r. ⌜ r ≡ placeOf (moved (pos origin) (pixelEdge (viewAs v) px)) len ⌝ }
 {
     // 32 bits convert in one instruction, 64 do only where px is known to be small
     let column = px as u32;

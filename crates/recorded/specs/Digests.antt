@@ -5,7 +5,7 @@ use Prim.Native.Nat.{ℕ, _+_, _*_, _%_}
 abbrev pub prime : ℕ
 prime = 4294967291
 
--- "(digest × 257 + number + 1) mod 4,294,967,291"
+-- (digest × 257 + number + 1) mod 4,294,967,291, as the README beside the lists says
 abbrev pub digestWith : ℕ → ℕ → ℕ
 digestWith digest n = (digest * 257 + n + 1) % prime
 

@@ -17,14 +17,13 @@ use Rattle.rules.specs.Burst.{burstSearch}
 use Rattle.rules.specs.Burst as rule-burst
 use Rattle.rules.specs.Pixel.{pixelRange, render}
 use Rattle.rules.specs.Refusal.{firstOf, storeRefusal, viewRows, renderRefusal}
-use Rattle.rules.specs.Answer.{Answer, refused, given, unless}
+use Rattle.rules.specs.Answer.{Answer, refused, given, unless, unrefused}
 use Rattle.rules.proofs.Refusal.{none-refused, rows-left}
 use Rattle.rules.proofs.Row.{row-length}
 use Rattle.alike.proofs.Below.{summary-below, render-below, next-below, previous-below, burst-below}
 use Rattle.node.specs.declared.Node.{Node}
 use Rattle.capture.specs.declared.Capture.{Capture}
 use Rattle.capture.specs.Record.{storeOf, lentOf}
-use Rattle.capture.specs.Calls.{unrefused}
 use Rattle.summary.specs.declared.Summed.{Summed}
 use Rattle.summary.specs.declared.Summed.the-variants as summed-as
 use Rattle.summary.specs.Summary.{summedOf, summaryOf, summed}

@@ -10,7 +10,8 @@ use Rattle.rules.specs.Selection.{Reply}
 use Rattle.rules.specs.Selection as reply
 use Rattle.rules.specs.Refusal.{Recorder}
 use Rattle.rules.specs.Answer.{unless, given}
-use Rattle.ring.specs.Push.{Left}
+use Rattle.rules.specs.Push.{Left, leftOf}
+use Rattle.rules.specs.Start.{begun}
 use Rattle.rebuild.specs.Rebuild.{levelAfter}
 use Rattle.store.specs.Stored.{firstNodes}
 use Rattle.node.specs.Memory.{levelOf}
@@ -24,10 +25,9 @@ use Rattle.feeder.specs.declared.Armed.{Armed}
 use Rattle.feeder.specs.declared.Armed.the-variants as armed
 use Rattle.feeder.specs.declared.Feeder.{Feeder}
 use Rattle.feeder.specs.Record.{armedAs, recorderOf}
-use Rattle.feeder.specs.Start.{begun}
 use Rattle.feeder_push.specs.declared.Pushed.{Pushed}
 use Rattle.feeder_push.specs.declared.Pushed.the-variants as pushed
-use Rattle.feeder_push.specs.Push.{replyAs, feederIn, leftOf}
+use Rattle.feeder_push.specs.Push.{replyAs, feederIn}
 use Rattle.recording.specs.Claim.{Memory, levels, settings, MayPush, Pushing, Existence}
 use Rattle.recording.specs.Claim.Pushing.{stop, step}
 use Rattle.recording.proofs.Answers.{anywhere, somewhere}

@@ -4,12 +4,13 @@ use mathlib.Core.List.{List, [], _∷_}
 use Prim.Native.Nat.{ℕ, _≤_}
 use native.Mathlib.Omega.{arith}
 use lib.ListN.{length}
+use Rattle.rules.specs.Push.{Left}
 use Rattle.rules.specs.Sample.{sampleOf}
 use Rattle.rules.specs.Node.{topLevel}
 use Rattle.rules.specs.Selection.{Reply}
 use Rattle.rules.specs.Refusal.{Store, Lent, Recorder}
 use Rattle.rules.proofs.Refusal.{Sound, SoundRecorder}
-use Rattle.ring.specs.Push.{Left, pushBytes, pushOn, pushesBytes, repliesBytes}
+use Rattle.ring.specs.Push.{pushBytes, pushOn, pushesBytes, repliesBytes}
 use Rattle.node.specs.Memory.{Right}
 use Rattle.capture.specs.Record.{lentOf}
 use Rattle.feeder.specs.declared.Feeder.{Feeder}

@@ -1,30 +1,32 @@
 -- 1. selection: what a recording leaves is 01's run, with its mark, right levels and answers.
 use mathlib.Core.Path.{_≡_, refl, sym, ap, _∙_, subst}
+use mathlib.Core.Bool.{Bool, cond}
 use mathlib.Core.List.{List}
-use Prim.Native.Nat.{ℕ, _%_, _<_}
-use native.Mathlib.Nat.{zero-add, mod-lt}
+use Prim.Native.Nat.{ℕ, _+_, _%_, _≤_, _<_}
+use native.Mathlib.Nat.{mod-lt}
 use native.Mathlib.Omega.{arith}
+use borrow.Author.Tests.{ne-eqb}
 use lib.ListN.{length, getD}
 use Rattle.rules.specs.Sample.{sampleOf}
 use Rattle.rules.specs.Trigger.{Masks, unarmed, waiting}
-use Rattle.rules.specs.Selection.{accepted}
+use Rattle.rules.specs.Selection.{slotOf, besideOf}
 use Rattle.rules.specs.Refusal.{Lent, Recorder, startRefusal}
 use Rattle.rules.proofs.Refusal.{SoundRecorder}
 use Rattle.ring.specs.Bytes.{units}
-use Rattle.ring.specs.Push.{Left, pushesBytes, repliesBytes, started, startedWith}
+use Rattle.ring.specs.Push.{pushesBytes, repliesBytes, startedWith}
 use Rattle.ring.proofs.Bytes.{units-at, units-length}
 use Rattle.ring.proofs.Push.{GoesOn, standsIn}
-use Rattle.ring.proofs.Selects.{Holds, in-slot}
+use Rattle.ring.proofs.Selects.{Holds, holds-beside, in-slot}
 use Rattle.ring.proofs.Selects as state
-use Rattle.ring.proofs.Slots.{place-mod, place-zero}
 use Rattle.ring.proofs.Lists.{Recorded, start-goes, all-go, held, start-sound, start-list-sound, start-recorded}
 use Rattle.node.specs.Memory.{Right}
 use Rattle.rebuild.proofs.Right.{right-same}
 use Rattle.capture.specs.Record.{lentOf}
 use Rattle.capture.proofs.Answer.{unless-given, lent-same}
 use Rattle.feeder.specs.Record.{recorderOf, armedAs}
-use Rattle.feeder.specs.Start.{begun}
-use Rattle.recording.specs.Claim.{levels, settings, lengths, Recording, store, ruled, run, s, len, Waits, Selects}
+use Rattle.rules.specs.Push.{Left}
+use Rattle.rules.specs.Start.{freshRecorder, besideIn, begun}
+use Rattle.recording.specs.Claim.{levels, settings, lengths, Recording, store, ruled, all, run, s, len, Selects}
 use Rattle.recording.proofs.Pushes.{Going, Kept, kept-sound, all-kept}
 
 module _ (r : Recording) where
@@ -38,12 +40,12 @@ module _ (r : Recording) where
   last = pushesBytes begins (r .pushes)
 
   -- ---- the start
-  start-is : (startRefusal (settings (r .setup)) lent (length (r .before .ring)) ≡ 0) × (recorderOf (r .fresh) ≡ started (ruled r))
+  start-is : (startRefusal (settings (r .setup)) lent (length (r .before .ring)) ≡ 0) × (recorderOf (r .fresh) ≡ freshRecorder (ruled r))
   start-is =
       let t = unless-given (begun (settings (r .setup))) (startRefusal (settings (r .setup)) lent (length (r .before .ring))) (record { recorder = recorderOf (r .fresh); was-cut = r .was-cut }) (sym (r .started)) in
       (t .0, sym (ap (λ b. b .recorder) (t .1)))
 
-  sound-start : SoundRecorder (started (ruled r)) lent (length (r .before .ring))
+  sound-start : SoundRecorder (freshRecorder (ruled r)) lent (length (r .before .ring))
   sound-start = start-sound (settings (r .setup)) (r .before .samples) (r .before .ring) lent refl (start-is .0)
 
   goes : (rest : List (List ℕ)) → GoesOn (ruled r) (length (r .before .samples)) (length (r .before .ring)) (pushesBytes begins rest)
@@ -101,27 +103,28 @@ module _ (r : Recording) where
   right = kept .right
 
   -- ---- the ring
-  abbrev all : List ℕ
-  all = accepted (ruled r) (r .pushes)
-
   ring-is : units (last .recorder .store .unit) (last .recorder .pre) (last .ring) ≡ units (ruled r .unit) (ruled r .pre) (r .memory .ring)
   ring-is = λ i. units (goes (r .pushes) .unit i) (goes (r .pushes) .pre i) (sym (kept .ring-is) i)
 
-  waits : (masks : Masks) → armedAs (r .feeder .masks) ≡ waiting masks → Waits (ruled r .unit) (ruled r .pre) all (r .feeder) (r .memory .ring)
-  waits masks e = go (held (ruled r) (r .before .samples) (r .before .ring) (sound-start .store .samples) (sound-start .ring) (r .pushes))
+  -- what the list over definitions says of the record and the ring
+  holds : Holds (ruled r) (units (ruled r .unit) (ruled r .pre) (r .before .ring)) (all r) (standsIn last)
+  holds = held (ruled r) (r .before .samples) (r .before .ring) (sound-start .store .samples) (sound-start .ring) (r .pushes)
+
+  beside-is : besideIn (recorderOf (r .feeder)) ≡ besideOf (ruled r) (all r)
+  beside-is = ap besideIn (kept .recorder-is) ∙ holds-beside (ruled r) (units (ruled r .unit) (ruled r .pre) (r .before .ring)) (all r) (standsIn last) holds
+
+  slots : (masks : Masks) → armedAs (r .feeder .masks) ≡ waiting masks
+      → (k : ℕ) → k < length (all r) → length (all r) ≤ k + ruled r .pre → sampleOf (ruled r .unit) (r .memory .ring) (slotOf (ruled r .pre) k) ≡ getD (all r) k 0
+  slots masks e k h l = go holds
     where
-      go : Holds (ruled r) (units (ruled r .unit) (ruled r .pre) (r .before .ring)) all (standsIn last) → Waits (ruled r .unit) (ruled r .pre) all (r .feeder) (r .memory .ring)
+      go : Holds (ruled r) (units (ruled r .unit) (ruled r .pre) (r .before .ring)) (all r) (standsIn last) → sampleOf (ruled r .unit) (r .memory .ring) (slotOf (ruled r .pre) k) ≡ getD (all r) k 0
       go (state.stores o) = absurd (let a : unarmed ≡ waiting masks = sym (o .armed) ∙ ap (λ (c : Recorder). c .armed) (sym (kept .recorder-is)) ∙ e in let z : _≡_ {A = ℕ} 0 1 = cc in omega arith)
-      go (state.waits w) = record {
-        kept = ap (λ (c : Recorder). c .kept) (kept .recorder-is) ∙ w .kept ∙ omega arith;
-        place = λ h. ap (λ (c : Recorder). c .place) (kept .recorder-is) ∙ w .place ∙ place-mod (ruled r .pre) (length all) 0 h ∙ ap (λ (k : ℕ). k % ruled r .pre) (zero-add (length all));
-        no-place = λ h. ap (λ (c : Recorder). c .place) (kept .recorder-is) ∙ w .place ∙ place-zero (ruled r .pre) (length all) 0 h refl;
-        slots = λ k h l.
-            let pos : 0 < ruled r .pre = omega arith in
-            sym (units-at (ruled r .unit) (ruled r .pre) (r .memory .ring) (k % ruled r .pre) (mod-lt k pos))
-            ∙ ap (λ (x : List ℕ). getD x (k % ruled r .pre) 0) (sym ring-is)
-            ∙ in-slot (ruled r) (units (ruled r .unit) (ruled r .pre) (r .before .ring)) all (rw units-length (omega arith)) (standsIn last) w k pos h l;
-      }
+      go (state.waits w) =
+          let pos : 0 < ruled r .pre = omega arith in
+          ap (λ (b : Bool). sampleOf (ruled r .unit) (r .memory .ring) (cond b 0 (k % ruled r .pre))) (ne-eqb (ruled r .pre) 0 (λ z. omega arith))
+          ∙ sym (units-at (ruled r .unit) (ruled r .pre) (r .memory .ring) (k % ruled r .pre) (mod-lt k pos))
+          ∙ ap (λ (x : List ℕ). getD x (k % ruled r .pre) 0) (sym ring-is)
+          ∙ in-slot (ruled r) (units (ruled r .unit) (ruled r .pre) (r .before .ring)) (all r) (rw units-length (omega arith)) (standsIn last) w k pos h l
 
   pub selection : Selects r
   selection = record {
@@ -130,5 +133,6 @@ module _ (r : Recording) where
     samples-are = samples-are;
     levels-right = subst (λ (n : ℕ). Right (s r) n (levels (r .memory))) len-is (right-same (sampleOf (store r .unitsize) (r .memory .samples)) (s r) (levels (r .memory)) (store r .len) (λ i h. samples-are i (omega (arith, len-is))) (kept .right));
     replies-are = both .1 ∙ made .replies;
-    waits = waits;
+    beside-is = beside-is;
+    slots = slots;
   }

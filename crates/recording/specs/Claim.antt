@@ -7,22 +7,22 @@ use mathlib.Core.Bool.{Bool, true}
 use mathlib.Core.List.{List, [], _∷_}
 use mathlib.Core.Logic.{_↔_}
 use mathlib.Core.Option.{Option}
-use Prim.Native.Nat.{ℕ, _+_, _*_, _%_, _^_, _≤_, _<_, min}
+use Prim.Native.Nat.{ℕ, _+_, _*_, _^_, _≤_, _<_}
 use lib.Ieee.{Float, binary64, fits}
 use lib.ListN.{length, take, getD}
 use contract.Lifetimes.{Lfts}
 use denote.Ref.{RefT, at-last}
-use Rattle.rules.specs.Sample.{sampleOf}
+use Rattle.rules.specs.Sample.{Word, sampleOf, Within}
 use Rattle.rules.specs.Search.{summary, cutSummary}
 use Rattle.rules.specs.Walk.{nextSearch, previousSearch}
 use Rattle.rules.specs.Burst.{burstSearch}
 use Rattle.rules.specs.Pixel.{render, cutPixels}
 use Rattle.rules.specs.Trigger.{Masks, waiting}
-use Rattle.rules.specs.Selection.{Settings, Rule, ruleOf, accepted, runOf, Reply, repliesOf}
+use Rattle.rules.specs.Selection.{Settings, Rule, ruleOf, accepted, runOf, slotOf, besideOf, Reply, repliesOf}
 use Rattle.rules.specs.Selection as selected
 use Rattle.rules.specs.Refusal.{Lent, firstOf, viewRows, startRefusal}
 use Rattle.rules.specs.Answer.{Answer, refused, given, unless, seen}
-use Rattle.alike.specs.Alike.{Within}
+use Rattle.rules.specs.Start.{startRule, besideIn}
 use Rattle.alike.specs.Alike as alike
 use Rattle.node.specs.Memory.{levelOf, Right}
 use Rattle.capture.specs.declared.Capture.{Capture}
@@ -47,8 +47,8 @@ use Rattle.feeder.specs.declared.Feeder.{Feeder}
 use Rattle.feeder.specs.declared.Pretrigger.{Pretrigger}
 use Rattle.feeder.specs.declared.Started.{Started}
 use Rattle.feeder.specs.declared.Started.the-variants.{Fresh}
-use Rattle.feeder.specs.Record.{armedAs}
-use Rattle.feeder.specs.Start.{startedOf, startRule, settingsOf}
+use Rattle.feeder.specs.Record.{armedAs, recorderOf}
+use Rattle.feeder.specs.Start.{startedOf, settingsOf}
 use Rattle.feeder_push.specs.declared.Pushed.{Pushed}
 use Rattle.feeder_push.specs.Push.{replyAs, feederIn}
 use Rattle.feeder_push.proofs.push.Reads as push
@@ -172,6 +172,10 @@ store r = r .feeder .capture
 abbrev pub ruled : Recording → Rule
 ruled r = ruleOf (settings (r .setup))
 
+-- the samples of the accepted pushes
+abbrev pub all : Recording → List ℕ
+all r = accepted (ruled r) (r .pushes)
+
 -- "The run is what 01's selection rule takes from the accepted pushes of the list."
 abbrev pub run : Recording → List ℕ
 run r = runOf (ruled r) (r .pushes)
@@ -186,13 +190,6 @@ s r i = getD (run r) i 0
 abbrev pub len : Recording → ℕ
 len r = length (run r)
 
--- while the recorder waits for its trigger: "the armed sample numbered k, from 0, goes to slot k mod pre". `all` are the samples so far
-pub record Waits (unit pre : ℕ) (all : List ℕ) (f : Feeder) (ring : List ℕ) : Type 0 where
-  pub kept : f .kept ≡ min (length all) pre
-  pub place : 0 < pre → f .place ≡ length all % pre
-  pub no-place : pre ≡ 0 → f .place ≡ 0
-  pub slots : (k : ℕ) → k < length all → length all ≤ k + pre → sampleOf unit ring (k % pre) ≡ getD all k 0
-
 pub record Selects (r : Recording) : Type 0 where
   -- "Length and mark are those in the record, and both are the run's."
   pub len-is : store r .len ≡ len r
@@ -201,7 +198,11 @@ pub record Selects (r : Recording) : Type 0 where
   pub levels-right : Right (s r) (len r) (levels (r .memory))
   -- refused with 8, complete, and going on, each exactly when 01 says
   pub replies-are : r .replies ≡ repliesOf (ruled r) (r .pushes)
-  pub waits : (masks : Masks) → armedAs (r .feeder .masks) ≡ waiting masks → Waits (ruled r .unit) (ruled r .pre) (accepted (ruled r) (r .pushes)) (r .feeder) (r .memory .ring)
+  -- armed or not, previous sample, ring place and kept count: while it waits, once it has fired, and where it was never armed
+  pub beside-is : besideIn (recorderOf (r .feeder)) ≡ besideOf (ruled r) (all r)
+  -- while it waits: "the armed sample numbered k, from 0, goes to slot k mod pre"
+  pub slots : (masks : Masks) → armedAs (r .feeder .masks) ≡ waiting masks
+      → (k : ℕ) → k < length (all r) → length (all r) ≤ k + ruled r .pre → sampleOf (ruled r .unit) (r .memory .ring) (slotOf (ruled r .pre) k) ≡ getD (all r) k 0
 
 -- ---- 2. answers
 -- whatever a call may answer comes to x, and there is something that it may answer
@@ -224,12 +225,9 @@ pub record Answers (r : Recording) : Type 0 where
       (unless (firstOf (viewRows (viewAs view) width (length output))) (render (s r) (len r) (viewAs view) width))
 
 -- ---- 3. looking alike
--- the ranges of usize, of u16, which is Mask, and of f64
+-- the ranges of usize and of f64; a mask's is Word
 abbrev pub Usize : ℕ → Type 0
 Usize n = n < 2 ^ 64
-
-abbrev pub U16 : ℕ → Type 0
-U16 n = n < 2 ^ 16
 
 abbrev pub F64 : Float → Type 0
 F64 x = fits binary64 x ≡ true
@@ -250,9 +248,9 @@ pub record LookAlike (v : ℕ) (c₁ : Capture) (m₁ : Memory) (c₂ : Capture)
       → Agree (MayRender c₁ m₁ view width output₁) (MayRender c₂ m₂ view width output₂) (λ x. seen (cutPixels v) (pixelsIn width x))
   -- "and the same next, previous and burst answers, jumps included, for every mask within them"; each has its count of nodes read (02, CR 3:
   -- "two recordings that look alike to a viewer also give equal counts for every mask within the viewer's lines")
-  pub nexts : (mask from : ℕ) → U16 mask → Within mask v → Usize from → Agree (MayNext c₁ m₁ mask from) (MayNext c₂ m₂ mask from) foundOf
-  pub previouses : (mask from : ℕ) → U16 mask → Within mask v → Usize from → Agree (MayPrevious c₁ m₁ mask from) (MayPrevious c₂ m₂ mask from) foundOf
-  pub bursts : (mask sample gap tolerance budget : ℕ) → U16 mask → Within mask v → Usize sample → Usize gap → Usize tolerance → Usize budget
+  pub nexts : (mask from : ℕ) → Word mask → Within mask v → Usize from → Agree (MayNext c₁ m₁ mask from) (MayNext c₂ m₂ mask from) foundOf
+  pub previouses : (mask from : ℕ) → Word mask → Within mask v → Usize from → Agree (MayPrevious c₁ m₁ mask from) (MayPrevious c₂ m₂ mask from) foundOf
+  pub bursts : (mask sample gap tolerance budget : ℕ) → Word mask → Within mask v → Usize sample → Usize gap → Usize tolerance → Usize budget
       → Agree (MayBurst c₁ m₁ mask sample gap tolerance budget) (MayBurst c₂ m₂ mask sample gap tolerance budget) burstAs
 
 -- "their runs have the same length, the same mark and the same chosen lines at every sample"

@@ -12,7 +12,7 @@ use Rattle.rules.specs.Node.{Node}
 use Rattle.rules.specs.Pixel.{View, pixelRange}
 use Rattle.rules.specs.Refusal.{Store, Lent, mostPixels, firstOf, storeRefusal, viewRows, renderRefusal}
 use Rattle.rules.proofs.Refusal.{neither, row-passed, sound}
-use Rattle.capture.specs.Calls.{unrefused}
+use Rattle.rules.specs.Answer.{unrefused}
 use Rattle.capture.proofs.Answer.{refused-is, given-is}
 use Rattle.capture.proofs.Calls.{unrefused-none}
 use Rattle.render.specs.declared.Drawn.the-variants.{Refused, Done}

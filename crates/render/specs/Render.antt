@@ -6,10 +6,9 @@ use Prim.Native.Nat.{ℕ, _*_, _≤_, _<_}
 use lib.ListN.{length, drop}
 use Rattle.rules.specs.Node.{Node, leaf}
 use Rattle.rules.specs.Pixel.{View, Range, pixelRange, rowBy}
-use Rattle.rules.specs.Answer.{Answer, refused, given, unless}
+use Rattle.rules.specs.Answer.{Answer, refused, given, unless, unrefused}
 use Rattle.rules.specs.Refusal.{Store, Lent, mostPixels, renderRefusal}
 use Rattle.rules.proofs.Refusal.{Sound}
-use Rattle.capture.specs.Calls.{unrefused}
 use Rattle.render.specs.declared.Drawn.{Drawn}
 use Rattle.render.specs.declared.Drawn.the-variants.{Refused, Done}
 

@@ -8,10 +8,11 @@ use native.Mathlib.Omega.{arith}
 use borrow.Author.Tests.{ne-eqb, eq-eqb}
 use lib.ListN.{length, take, drop, getD, set, length-take, length-drop, length-append}
 use lib.Seq.{drop-drop, drop-append-add, take-at, drop-at, length-take-le, set-split}
+use Rattle.rules.specs.Ring.{nextSlot, written, putBytes, ringBytes, keptBytes}
 use Rattle.rules.specs.Sample.{sampleOf, listFrom}
 use Rattle.rules.proofs.Sample.{list-length, list-at, list-append, list-take, list-drop, sample-take, from-take, from-append, from-drop, from-after}
-use Rattle.ring.specs.Ring.{put, next, ringAfter, readOut}
-use Rattle.ring.specs.Bytes.{units, joined, putBytes, ringBytes, keptBytes}
+use Rattle.ring.specs.Ring.{put, ringAfter, readOut}
+use Rattle.ring.specs.Bytes.{units}
 use Rattle.ring.proofs.Ring.{next-lt}
 use Rattle.ring.proofs.Slots.{read-parts}
 
@@ -57,11 +58,11 @@ units-append u a c x y e =
     start = omega arith
 
 -- ---- stores
-pub joined-length : (s : List ℕ) (at : ℕ) (x : List ℕ) → at + length x ≤ length s → length (joined s at x) ≡ length s
+pub joined-length : (s : List ℕ) (at : ℕ) (x : List ℕ) → at + length x ≤ length s → length (written s at x) ≡ length s
 joined-length s at x h = simp (length-append, length-take, length-drop) (omega arith)
 
 -- past x nothing changes
-pub joined-past : (s : List ℕ) (at : ℕ) (x : List ℕ) (k : ℕ) → at + length x ≤ k → k ≤ length s → drop k (joined s at x) ≡ drop k s
+pub joined-past : (s : List ℕ) (at : ℕ) (x : List ℕ) (k : ℕ) → at + length x ≤ k → k ≤ length s → drop k (written s at x) ≡ drop k s
 joined-past s at x k h r =
     ap (λ (y : List ℕ). drop k y) (sym (append-assoc (take at s) x rest))
     ∙ ap (λ (j : ℕ). drop j (take at s ++ x ++ rest)) split
@@ -80,9 +81,9 @@ joined-past s at x k h r =
     whole = omega arith
 
 -- copies in a row are one copy
-pub joined-joined : (s : List ℕ) (at : ℕ) (x y : List ℕ) → at + length x ≤ length s → joined (joined s at x) (at + length x) y ≡ joined s at (x ++ y)
+pub joined-joined : (s : List ℕ) (at : ℕ) (x y : List ℕ) → at + length x ≤ length s → written (written s at x) (at + length x) y ≡ written s at (x ++ y)
 joined-joined s at x y h =
-    ap (λ (z : List ℕ). joined z (at + length x) y) (sym (append-assoc (take at s) x rest))
+    ap (λ (z : List ℕ). written z (at + length x) y) (sym (append-assoc (take at s) x rest))
     ∙ ap₂ (λ (a b : List ℕ). a ++ (y ++ drop (length y) b)) (take-at (take at s ++ x) rest (at + length x) sized) (drop-at (take at s ++ x) rest (at + length x) sized)
     ∙ append-assoc (take at s) x (y ++ drop (length y) rest)
     ∙ ap (λ (z : List ℕ). take at s ++ z) (sym (append-assoc x y (drop (length y) rest)) ∙ ap (λ (z : List ℕ). x ++ y ++ z) (drop-drop (length y) (length x) (drop at s) ∙ ap (λ (k : ℕ). drop k (drop at s)) (sym (length-append x y))))
@@ -101,9 +102,9 @@ units-joined u a k s x rest h e =
     (sym (units-take-bytes u k (x ++ rest) (k * u) (omega arith)) ∙ ap (units u k) (take-at x rest (k * u) e))
 
 -- one sample's bytes put at slot j of n
-pub units-put : (u j n : ℕ) (g x : List ℕ) → length x ≡ u → j < n → n * u ≤ length g → units u n (joined g (j * u) x) ≡ set (units u n g) j (sampleOf u x 0)
+pub units-put : (u j n : ℕ) (g x : List ℕ) → length x ≡ u → j < n → n * u ≤ length g → units u n (written g (j * u) x) ≡ set (units u n g) j (sampleOf u x 0)
 units-put u j n g x e h r =
-    ap (λ (k : ℕ). units u k (joined g (j * u) x)) more
+    ap (λ (k : ℕ). units u k (written g (j * u) x)) more
     ∙ units-append u j (1 + d) (take (j * u) g) (x ++ rest) (length-take-le (j * u) g room)
     ∙ ap₂ (λ (v w : List ℕ). v ++ w) before (units-append u 1 d x rest one ∙ ap₂ (λ (v w : List ℕ). v ++ w) (units-one u x) after)
     ∙ sym (set-split (units u n g) j (sampleOf u x 0) (rw (units-length u n g) h))
@@ -169,8 +170,8 @@ pub ring-bytes : (u pre n : ℕ) (g : List ℕ) (place : ℕ) (b : List ℕ) →
 unfolding ringBytes ringAfter
 ring-bytes u pre zero g place b h r l = ap (ringAfter pre (units u pre g) place) (sym (units-none u b))
 ring-bytes u pre (suc n) g place b h r l =
-    ring-bytes u pre n (putBytes u pre g place (take u b)) (next pre place) (drop u b) (next-lt pre place) (rw (put-bytes-length u pre g place (take u b) h r one) r) (simp length-drop (omega arith))
-    ∙ ap (λ (x : List ℕ). ringAfter pre x (next pre place) (units u n (drop u b))) (put-bytes u pre g place (take u b) h r one ∙ ap (put pre (units u pre g) place) (own-bytes u b))
+    ring-bytes u pre n (putBytes u pre g place (take u b)) (nextSlot pre place) (drop u b) (next-lt pre place) (rw (put-bytes-length u pre g place (take u b) h r one) r) (simp length-drop (omega arith))
+    ∙ ap (λ (x : List ℕ). ringAfter pre x (nextSlot pre place) (units u n (drop u b))) (put-bytes u pre g place (take u b) h r one ∙ ap (put pre (units u pre g) place) (own-bytes u b))
     ∙ ap (ringAfter pre (units u pre g) place) (sym (units-more u n b))
   where
     one : length (take u b) ≡ u
@@ -180,18 +181,18 @@ pub ring-bytes-length : (u pre n : ℕ) (g : List ℕ) (place : ℕ) (b : List �
 unfolding ringBytes
 ring-bytes-length u pre zero g place b h r l = refl
 ring-bytes-length u pre (suc n) g place b h r l =
-    ring-bytes-length u pre n (putBytes u pre g place (take u b)) (next pre place) (drop u b) (next-lt pre place) (rw same r) (simp length-drop (omega arith)) ∙ same
+    ring-bytes-length u pre n (putBytes u pre g place (take u b)) (nextSlot pre place) (drop u b) (next-lt pre place) (rw same r) (simp length-drop (omega arith)) ∙ same
   where
     same : length (putBytes u pre g place (take u b)) ≡ length g
     same = put-bytes-length u pre g place (take u b) h r (length-take-le u b (omega arith))
 
 -- ---- a turn of the loop that writes: i samples of b have been written
 pub bytes-turn : (u pre : ℕ) (g : List ℕ) (place i k : ℕ) (b : List ℕ) → 0 < pre
-    → ringBytes u pre (joined g (place * u) (take u (drop (i * u) b))) (next pre place) k (drop ((i + 1) * u) b) ≡ ringBytes u pre g place (suc k) (drop (i * u) b)
+    → ringBytes u pre (written g (place * u) (take u (drop (i * u) b))) (nextSlot pre place) k (drop ((i + 1) * u) b) ≡ ringBytes u pre g place (suc k) (drop (i * u) b)
 unfolding ringBytes
 bytes-turn u pre g place i k b p =
     rw (ne-eqb pre 0 (λ e. omega arith))
-    (ap (ringBytes u pre (joined g (place * u) (take u (drop (i * u) b))) (next pre place) k) (sym (drop-drop u (i * u) b ∙ ap (λ (x : ℕ). drop x b) more)))
+    (ap (ringBytes u pre (written g (place * u) (take u (drop (i * u) b))) (nextSlot pre place) k) (sym (drop-drop u (i * u) b ∙ ap (λ (x : ℕ). drop x b) more)))
   where
     more : i * u + u ≡ (i + 1) * u
     more = omega arith
@@ -204,14 +205,14 @@ bytes-end u pre g place b = refl
 pub bytes-none : (u pre n : ℕ) (g : List ℕ) (place : ℕ) (b : List ℕ) → pre ≡ 0 → ringBytes u pre g place n b ≡ g
 unfolding ringBytes
 bytes-none u pre zero g place b e = refl
-bytes-none u pre (suc n) g place b e = rw (eq-eqb pre 0 e) (bytes-none u pre n g (next pre place) (drop u b) e)
+bytes-none u pre (suc n) g place b e = rw (eq-eqb pre 0 e) (bytes-none u pre n g (nextSlot pre place) (drop u b) e)
 
 -- memory past the slots is not written
 pub bytes-past : (u pre n : ℕ) (g : List ℕ) (place : ℕ) (b : List ℕ) → place < max pre 1 → pre * u ≤ length g → n * u ≤ length b → drop (pre * u) (ringBytes u pre g place n b) ≡ drop (pre * u) g
 unfolding ringBytes
 bytes-past u pre zero g place b h r l = refl
 bytes-past u pre (suc n) g place b h r l =
-    bytes-past u pre n (putBytes u pre g place (take u b)) (next pre place) (drop u b) (next-lt pre place) (rw (put-bytes-length u pre g place (take u b) h r one) r) (simp length-drop (omega arith))
+    bytes-past u pre n (putBytes u pre g place (take u b)) (nextSlot pre place) (drop u b) (next-lt pre place) (rw (put-bytes-length u pre g place (take u b) h r one) r) (simp length-drop (omega arith))
     ∙ past (decLt 0 pre)
   where
     one : length (take u b) ≡ u

@@ -8,10 +8,10 @@ use lib.Dec.{ltb, leb}
 use lib.ListN.{length, drop, getD, length-append, List·getD-append}
 use Rattle.rules.specs.Sample.{sampleOf, samplesOf}
 use Rattle.rules.specs.Trigger.{Armed, unarmed, waiting, firstFire}
-use Rattle.rules.specs.Selection.{Rule, refused, going-on}
+use Rattle.rules.specs.Selection.{Rule, refused, going-on, replyOf}
 use Rattle.rules.specs.Refusal.{Recorder}
 use Rattle.ring.specs.Bytes.{units}
-use Rattle.ring.specs.Step.{State, Done, replyOf, withMore, moreOf, lenWith, storing, fired, headOf, waited, taken, step}
+use Rattle.ring.specs.Step.{State, Done, withMore, moreOf, lenWith, storing, fired, headOf, waited, taken, step}
 use Rattle.ring.specs.Push.{pushBytes}
 use Rattle.ring.proofs.Bytes.{units-length, units-at}
 use Rattle.ring.proofs.Push.{ruleIn, stands, Ready, push-carried, Goes, push-goes}

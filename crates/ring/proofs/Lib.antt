@@ -3,5 +3,6 @@ pub mod Slots
 pub mod Bytes
 pub mod Selects
 pub mod Push
+pub mod Left
 pub mod Grows
 pub mod Lists

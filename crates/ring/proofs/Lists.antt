@@ -5,6 +5,8 @@ use mathlib.Core.Option.{none, Option·none-ne-some}
 use Prim.Native.Nat.{ℕ, _*_, _≤_, _<_}
 use native.Mathlib.Omega.{arith}
 use lib.ListN.{length}
+use Rattle.rules.specs.Push.{Left}
+use Rattle.rules.specs.Start.{freshRecorder}
 use Rattle.rules.specs.Sample.{samplesOf}
 use Rattle.rules.specs.Selection.{Settings, ruleOf, Rule, accepted, runOf, markOf, Reply, repliesOf}
 use Rattle.rules.specs.Refusal.{startRefusal, Lent}
@@ -13,7 +15,7 @@ use Rattle.rules.proofs.Start.{SoundStart, start-passed, pre-below}
 use Rattle.rules.proofs.Refusal.{Sound, SoundRecorder}
 use Rattle.ring.specs.Bytes.{units}
 use Rattle.ring.specs.Step.{State, Done, step, steps, replies, fresh}
-use Rattle.ring.specs.Push.{Left, pushOn, pushesBytes, repliesBytes, started, startedWith}
+use Rattle.ring.specs.Push.{pushOn, pushesBytes, repliesBytes, startedWith}
 use Rattle.ring.proofs.Bytes.{units-length, units-none}
 use Rattle.ring.proofs.Selects.{Holds, all-hold, fresh-holds, Selects, selects}
 use Rattle.ring.proofs.Push.{ruleIn, standsIn, carried, push-carried, step-rule, GoesOn, push-goes}
@@ -104,7 +106,7 @@ module _ (r : Rule) (s g : List ℕ) (hs : r .capacity * r .unit ≤ length s) (
 
 -- ---- rows 1 and 2 again
 -- the bounds that the record and the memory had at the start hold after any list; pre is below a limit, so that the mark stays inside the run
-pub list-sound : (r : Rule) (s g : List ℕ) (lent : Lent) → lent .samples ≡ length s → SoundRecorder (started r) lent (length g) → (0 < r .limit → r .pre < r .limit)
+pub list-sound : (r : Rule) (s g : List ℕ) (lent : Lent) → lent .samples ≡ length s → SoundRecorder (freshRecorder r) lent (length g) → (0 < r .limit → r .pre < r .limit)
     → (pushes : List (List ℕ)) → SoundRecorder (pushesBytes (startedWith r s g) pushes .recorder) lent (length (pushesBytes (startedWith r s g) pushes .ring))
 list-sound r s g lent e start below pushes = record {
   store = store-sound;
@@ -145,7 +147,7 @@ module _ (st : Settings) (s g : List ℕ) (lent : Lent) (e : lent .samples ≡ l
   start : SoundStart st lent (length g)
   start = start-passed st lent (length g) .0 ok
 
-  pub start-sound : SoundRecorder (started (ruleOf st)) lent (length g)
+  pub start-sound : SoundRecorder (freshRecorder (ruleOf st)) lent (length g)
   start-sound = record {
     store = start .store;
     mark = λ k q. absurd (Option·none-ne-some k q);

@@ -9,15 +9,17 @@ use lib.Dec.{ltb, leb}
 use borrow.Author.Tests.{leb-true, ltb-true}
 use lib.ListN.{length, take, drop, length-drop, length-append}
 use lib.Seq.{length-take-le}
-use Rattle.rules.specs.Sample.{sampleOf, countOf, samplesOf}
+use Rattle.rules.specs.Ring.{written, ringBytes, keptBytes}
+use Rattle.rules.specs.Push.{roomFor, Left, withLen, firedBy, waitedFor, wanted, passed}
+use Rattle.rules.specs.Sample.{sampleOf, sampleCount, samplesOf}
 use Rattle.rules.specs.Trigger.{Armed, unarmed, waiting, firstFire}
-use Rattle.rules.specs.Selection.{Rule, refused, going-on}
+use Rattle.rules.specs.Selection.{Rule, refused, going-on, replyOf}
 use Rattle.rules.specs.Refusal.{Recorder, Lent}
 use Rattle.rules.proofs.Sample.{samples-at}
 use Rattle.rules.proofs.Refusal.{SoundRecorder}
-use Rattle.ring.specs.Bytes.{units, joined, ringBytes, keptBytes}
-use Rattle.ring.specs.Step.{State, Done, roomFor, replyOf, withMore, storing, fired, headOf, waited, firing, taken, step}
-use Rattle.ring.specs.Push.{Left, withLen, storable, storeBytes, firedBy, waitedFor, wanted, passed, firingBytes, takenBytes, pushBytes}
+use Rattle.ring.specs.Bytes.{units}
+use Rattle.ring.specs.Step.{State, Done, withMore, storing, fired, headOf, waited, firing, taken, step}
+use Rattle.ring.specs.Push.{storable, storeBytes, firingBytes, takenBytes, pushBytes}
 use Rattle.ring.proofs.Ring.{Turns, turns-all}
 use Rattle.ring.proofs.Slots.{firing-parts}
 use Rattle.ring.proofs.Bytes.{joined-length, units-length, units-take, units-take-bytes, units-append, units-joined, units-drop, ring-bytes, ring-bytes-length, kept-size, kept-read}
@@ -57,7 +59,7 @@ sound-ready c lent s g e h = record { len = h .store .len-most; samples = omega 
 
 -- ---- to the store
 abbrev storedLeft : Recorder → List ℕ → List ℕ → ℕ → List ℕ → Left
-storedLeft c s g k x = record { reply = replyOf (c .armed) (c .limit) (c .store .len + k); recorder = withLen c (c .store .len + k); samples = joined s (c .store .len * c .store .unit) (take (k * c .store .unit) x); ring = g }
+storedLeft c s g k x = record { reply = replyOf (c .armed) (c .limit) (c .store .len + k); recorder = withLen c (c .store .len + k); samples = written s (c .store .len * c .store .unit) (take (k * c .store .unit) x); ring = g }
 
 abbrev refusedLeft : Recorder → List ℕ → List ℕ → Left
 refusedLeft back s g = record { reply = refused 8; recorder = back; samples = s; ring = g }
@@ -75,7 +77,7 @@ module _ (back c : Recorder) (s g : List ℕ) (n : ℕ) (x : List ℕ) (room : c
       size : length (take (k * unitIn c) x) ≡ k * unitIn c
       size = length-take-le (k * unitIn c) x (omega (arith, bytes, mul-le-mul-right (unitIn c) h))
 
-      in-store : units (unitIn c) (c .store .len + k) (joined s (c .store .len * unitIn c) (take (k * unitIn c) x)) ≡ units (unitIn c) (c .store .len) s ++ take k (units (unitIn c) n x)
+      in-store : units (unitIn c) (c .store .len + k) (written s (c .store .len * unitIn c) (take (k * unitIn c) x)) ≡ units (unitIn c) (c .store .len) s ++ take k (units (unitIn c) n x)
       in-store =
           units-joined (unitIn c) (c .store .len) k s (take (k * unitIn c) x) _ inside size
           ∙ ap (λ (y : List ℕ). units (unitIn c) (c .store .len) s ++ y) (units-take-bytes (unitIn c) k x (k * unitIn c) (omega arith) ∙ sym (units-take (unitIn c) k n x h))
@@ -104,7 +106,7 @@ module _ (c : Recorder) (s g b : List ℕ) (ok : Ready c s g) where
   u = unitIn c
 
   abbrev n : ℕ
-  n = countOf u b
+  n = sampleCount u b
 
   abbrev p : List ℕ
   p = samplesOf u b
@@ -242,7 +244,7 @@ module _ (r : Rule) (a z : ℕ) (c : Recorder) (s g b : List ℕ) (ok : Goes r a
     ready = record { len = ok .ready .len; samples = ok .ready .samples; place = omega arith; kept = omega arith; ring = ok .ready .ring };
   }
 
-  waited-goes : Goes r a z (waitedFor c (samplesOf (unitIn c) b)) s (ringBytes (unitIn c) (c .pre) g (c .place) (countOf (unitIn c) b) b)
+  waited-goes : Goes r a z (waitedFor c (samplesOf (unitIn c) b)) s (ringBytes (unitIn c) (c .pre) g (c .place) (sampleCount (unitIn c) b) b)
   waited-goes = record {
     unit = ok .unit;
     capacity = ok .capacity;
@@ -259,8 +261,8 @@ module _ (r : Rule) (a z : ℕ) (c : Recorder) (s g b : List ℕ) (ok : Goes r a
     };
   }
     where
-      same : length (ringBytes (unitIn c) (c .pre) g (c .place) (countOf (unitIn c) b) b) ≡ length g
-      same = ring-bytes-length (unitIn c) (c .pre) (countOf (unitIn c) b) g (c .place) b (ok .ready .place) (ok .ready .ring) (div-mul-le-self (length b) (unitIn c))
+      same : length (ringBytes (unitIn c) (c .pre) g (c .place) (sampleCount (unitIn c) b) b) ≡ length g
+      same = ring-bytes-length (unitIn c) (c .pre) (sampleCount (unitIn c) b) g (c .place) b (ok .ready .place) (ok .ready .ring) (div-mul-le-self (length b) (unitIn c))
 
       turns : Turns (c .pre) (units (unitIn c) (c .pre) g) (c .place) (c .kept)
       turns = record { place-in = ok .ready .place; kept-in = ok .ready .kept; room = rw units-length (omega arith) }
@@ -269,12 +271,12 @@ module _ (r : Rule) (a z : ℕ) (c : Recorder) (s g b : List ℕ) (ok : Goes r a
   unfolding pushBytes
   push-goes = go (c .armed)
     where
-      armed : (i : ℕ) (t : Bool) → ltb i (countOf (unitIn c) b) ≡ t → GoesOn r a z (cond t
-          (storeBytes c (firedBy c (sampleOf (unitIn c) b i) i) s g (wanted c i + (countOf (unitIn c) b - passed c i)) (handed c s g b (ok .ready) i))
-          (record { reply = going-on; recorder = waitedFor c (samplesOf (unitIn c) b); samples = s; ring = ringBytes (unitIn c) (c .pre) g (c .place) (countOf (unitIn c) b) b }))
+      armed : (i : ℕ) (t : Bool) → ltb i (sampleCount (unitIn c) b) ≡ t → GoesOn r a z (cond t
+          (storeBytes c (firedBy c (sampleOf (unitIn c) b i) i) s g (wanted c i + (sampleCount (unitIn c) b - passed c i)) (handed c s g b (ok .ready) i))
+          (record { reply = going-on; recorder = waitedFor c (samplesOf (unitIn c) b); samples = s; ring = ringBytes (unitIn c) (c .pre) g (c .place) (sampleCount (unitIn c) b) b }))
       armed i true e = store-goes r a z c (firedBy c (sampleOf (unitIn c) b i) i) s g _ _ (enough c s g b (ok .ready) i (ltb-true _ _ e)) ok (fired-goes _ i)
       armed i false e = waited-goes
 
       go : (x : Armed) → GoesOn r a z (takenBytes x c s g b)
-      go unarmed = store-goes r a z c c s g (countOf (unitIn c) b) b (div-mul-le-self (length b) (unitIn c)) ok ok
-      go (waiting m) = armed (firstFire m (c .previous) (samplesOf (unitIn c) b)) (ltb (firstFire m (c .previous) (samplesOf (unitIn c) b)) (countOf (unitIn c) b)) refl
+      go unarmed = store-goes r a z c c s g (sampleCount (unitIn c) b) b (div-mul-le-self (length b) (unitIn c)) ok ok
+      go (waiting m) = armed (firstFire m (c .previous) (samplesOf (unitIn c) b)) (ltb (firstFire m (c .previous) (samplesOf (unitIn c) b)) (sampleCount (unitIn c) b)) refl

@@ -10,7 +10,8 @@ use lib.Dec.{ltb, eqb}
 use borrow.Author.Tests.{ltb-true, lt-ltb, le-ltb, ne-eqb}
 use lib.ListN.{length, take, drop, set, length-take, length-drop, length-append, length-set, drop-of-length-le}
 use lib.Seq.{take-set-lt, drop-set-lt, take-suc-set, drop-append-le, drop-drop}
-use Rattle.ring.specs.Ring.{ending, put, next, ringAfter, placeAfter, turned, readOut}
+use Rattle.rules.specs.Ring.{nextSlot, placeAfter}
+use Rattle.ring.specs.Ring.{ending, put, ringAfter, turned, readOut}
 
 -- ---- laws of ending
 pub ending-length : (n : ℕ) (xs : List ℕ) → length (ending n xs) ≡ min n (length xs)
@@ -37,17 +38,17 @@ ending-again n xs ys =
 
 -- ---- laws of next
 -- `place < max pre 1` is a place below pre, or 0 where there is no slot
-pub next-lt : (pre place : ℕ) → next pre place < max pre 1
+pub next-lt : (pre place : ℕ) → nextSlot pre place < max pre 1
 next-lt pre place = go (ltb (place + 1) pre) refl
   where
     go : (b : Bool) → ltb (place + 1) pre ≡ b → cond b (place + 1) 0 < max pre 1
     go true e = omega (arith, ltb-true (place + 1) pre e)
     go false e = omega arith
 
-pub next-in : (pre place : ℕ) → place + 1 < pre → next pre place ≡ place + 1
+pub next-in : (pre place : ℕ) → place + 1 < pre → nextSlot pre place ≡ place + 1
 next-in pre place h = rw (lt-ltb (place + 1) pre h)
 
-pub next-wraps : (pre place : ℕ) → pre ≤ place + 1 → next pre place ≡ 0
+pub next-wraps : (pre place : ℕ) → pre ≤ place + 1 → nextSlot pre place ≡ 0
 next-wraps pre place h = rw (le-ltb (place + 1) pre h)
 
 -- ---- a turn of the ring
@@ -59,7 +60,7 @@ module _ (pre : ℕ) (g : List ℕ) (place : ℕ) (inside : place < pre) (room :
   all-length = turned-length pre g place (omega arith) room
 
   -- the oldest sample goes, v comes
-  turned-put : (v : ℕ) → turned pre (set g place v) (next pre place) ≡ drop 1 (turned pre g place) ++ (v ∷ [])
+  turned-put : (v : ℕ) → turned pre (set g place v) (nextSlot pre place) ≡ drop 1 (turned pre g place) ++ (v ∷ [])
   turned-put v = go (decLt (place + 1) pre)
     where
       one-there : 1 ≤ length (drop place (take pre g))
@@ -71,7 +72,7 @@ module _ (pre : ℕ) (g : List ℕ) (place : ℕ) (inside : place < pre) (room :
       stored : take (place + 1) (set g place v) ≡ take place g ++ (v ∷ [])
       stored = rw (add-one) (take-suc-set g place v (omega arith))
 
-      go : Dec (place + 1 < pre) → turned pre (set g place v) (next pre place) ≡ drop 1 (turned pre g place) ++ (v ∷ [])
+      go : Dec (place + 1 < pre) → turned pre (set g place v) (nextSlot pre place) ≡ drop 1 (turned pre g place) ++ (v ∷ [])
       go (yes h) = rw (next-in pre place h, oldest, stored, take-set-lt pre g place v inside, drop-set-lt (place + 1) (take pre g) place v (omega arith)) (sym (append-assoc (drop (place + 1) (take pre g)) (take place g) (v ∷ [])))
       go (no h) = rw (next-wraps pre place (omega arith), oldest, drop-of-length-le (take pre g) {i = place + 1} all-there) (append-nil (take pre (set g place v)) ∙ ap (λ (k : ℕ). take k (set g place v)) last-slot ∙ stored)
         where
@@ -82,7 +83,7 @@ module _ (pre : ℕ) (g : List ℕ) (place : ℕ) (inside : place < pre) (room :
           all-there = simp length-take (omega arith)
 
   -- the last pre of what was kept and v
-  read-put : (v kept : ℕ) → kept ≤ pre → readOut pre (set g place v) (next pre place) (min pre (kept + 1)) ≡ ending pre (readOut pre g place kept ++ (v ∷ []))
+  read-put : (v kept : ℕ) → kept ≤ pre → readOut pre (set g place v) (nextSlot pre place) (min pre (kept + 1)) ≡ ending pre (readOut pre g place kept ++ (v ∷ []))
   unfolding readOut
   read-put v kept h =
       ap (drop (pre - min pre (kept + 1))) (turned-put v ∙ sym (drop-append-le 1 all (v ∷ []) (omega (arith, all-length))))
@@ -119,13 +120,13 @@ put-length pre g place v = go (eqb pre 0)
     go false = length-set g place v
 
 module _ (pre : ℕ) (g : List ℕ) (place kept v : ℕ) (t : Turns pre g place kept) where
-  pub turns-put : Turns pre (put pre g place v) (next pre place) (min pre (kept + 1))
+  pub turns-put : Turns pre (put pre g place v) (nextSlot pre place) (min pre (kept + 1))
   turns-put = record { place-in = next-lt pre place; kept-in = omega arith; room = rw put-length (t .room) }
 
-  pub read-turn : readOut pre (put pre g place v) (next pre place) (min pre (kept + 1)) ≡ ending pre (readOut pre g place kept ++ (v ∷ []))
+  pub read-turn : readOut pre (put pre g place v) (nextSlot pre place) (min pre (kept + 1)) ≡ ending pre (readOut pre g place kept ++ (v ∷ []))
   read-turn = go (decLt 0 pre)
     where
-      go : Dec (0 < pre) → readOut pre (put pre g place v) (next pre place) (min pre (kept + 1)) ≡ ending pre (readOut pre g place kept ++ (v ∷ []))
+      go : Dec (0 < pre) → readOut pre (put pre g place v) (nextSlot pre place) (min pre (kept + 1)) ≡ ending pre (readOut pre g place kept ++ (v ∷ []))
       go (yes h) = rw (ne-eqb pre 0 (λ e. omega arith)) (read-put pre g place (omega (arith, t .place-in)) (t .room) v kept (t .kept-in))
       go (no h) =
           none-of-length _ (read-length pre _ _ _ turns-put ∙ omega arith)
@@ -136,7 +137,7 @@ pub turns-all : (pre : ℕ) (xs : List ℕ) (g : List ℕ) (place kept : ℕ) �
 unfolding ringAfter placeAfter
 turns-all pre [] g place kept t = record { place-in = t .place-in; kept-in = omega arith; room = t .room }
 turns-all pre (v ∷ vs) g place kept t =
-    rw (← counts) (turns-all pre vs (put pre g place v) (next pre place) (min pre (kept + 1)) (turns-put pre g place kept v t))
+    rw (← counts) (turns-all pre vs (put pre g place v) (nextSlot pre place) (min pre (kept + 1)) (turns-put pre g place kept v t))
   where
     counts : min pre (min pre (kept + 1) + length vs) ≡ min pre (kept + suc (length vs))
     counts = omega arith
@@ -151,7 +152,7 @@ read-all pre [] g place kept t =
     kept-is = omega (arith, t .kept-in)
 read-all pre (v ∷ vs) g place kept t =
     ap (readOut pre _ _) counts
-    ∙ read-all pre vs (put pre g place v) (next pre place) (min pre (kept + 1)) (turns-put pre g place kept v t)
+    ∙ read-all pre vs (put pre g place v) (nextSlot pre place) (min pre (kept + 1)) (turns-put pre g place kept v t)
     ∙ ap (λ (x : List ℕ). ending pre (x ++ vs)) (read-turn pre g place kept v t)
     ∙ ending-again pre (readOut pre g place kept ++ (v ∷ [])) vs
     ∙ ap (ending pre) (append-assoc (readOut pre g place kept) (v ∷ []) vs)

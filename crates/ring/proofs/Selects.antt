@@ -11,16 +11,18 @@ use native.Mathlib.Omega.{arith}
 use lib.Dec.{ltb, leb, eqb, leb·zero}
 use borrow.Author.Tests.{ltb-true, ltb-false, ne-eqb}
 use lib.ListN.{length, take, drop, getD, length-take, length-append, take-append-drop}
-use lib.Seq.{drop-append-le, take-all, take-append-le, take-append-add}
+use lib.Seq.{drop-append-le, take-all, take-append-le, take-append-add, getD-append-add}
+use Rattle.rules.specs.Ring.{placeAfter}
+use Rattle.rules.specs.Push.{roomFor}
 use Rattle.rules.specs.Sample.{samplesOf}
 use Rattle.rules.specs.Trigger.{Masks, Armed, unarmed, firstFire, lastOf}
-use Rattle.rules.specs.Selection.{Rule, Selected, firedAt, chosen, limited, selection, acceptedFrom, accepted, runOf, markOf, Reply, refused, going-on, complete, told, repliesFrom, repliesOf}
+use Rattle.rules.specs.Selection.{Rule, Selected, firedAt, chosen, limited, selection, acceptedFrom, accepted, runOf, markOf, Beside, slotOf, stillArmed, firedOn, besideFor, besideOf, Reply, refused, going-on, replyOf, told, repliesFrom, repliesOf}
 use Rattle.rules.proofs.Trigger.{fire-le, fire-later, last-append}
-use Rattle.rules.proofs.Selection.{chosenBy, chosen-fired, Steady, without-terms, has-fired, Quiet, steady-or-quiet, steady-longer, steady-stays, quiet-chosen, limited-none, quiet-run, run-first}
-use Rattle.ring.specs.Ring.{ending, ringAfter, placeAfter, readOut}
-use Rattle.ring.specs.Step.{State, Done, roomFor, replyOf, withMore, moreOf, lenWith, storing, fired, headOf, waited, firing, taken, step, steps, replies, fresh}
+use Rattle.rules.proofs.Selection.{chosenBy, chosen-fired, Steady, without-terms, has-fired, Quiet, steady-or-quiet, steady-longer, steady-stays, quiet-chosen, beside-waits, beside-fired, beside-unarmed, beside-stays, limited-none, quiet-run, run-first}
+use Rattle.ring.specs.Ring.{ending, ringAfter, readOut}
+use Rattle.ring.specs.Step.{State, Done, withMore, moreOf, lenWith, storing, fired, headOf, waited, firing, taken, step, steps, replies, fresh}
 use Rattle.ring.proofs.Ring.{ending-again, none-of-length, Turns, read-all, read-length}
-use Rattle.ring.proofs.Slots.{ring-append, place-append, slot}
+use Rattle.ring.proofs.Slots.{ring-append, place-append, place-slot, slot}
 
 -- ---- storing under the limit
 pub take-append : (n : ℕ) (xs ys : List ℕ) → take n (xs ++ ys) ≡ take n xs ++ take (n - length xs) ys
@@ -75,7 +77,7 @@ abbrev replyFor : Rule → List ℕ → List ℕ → Reply
 replyFor r xs p = cond (fits r (xs ++ p)) (told r (xs ++ p)) (refused 8)
 
 -- a store that makes the selection of zs
-module _ (r : Rule) (back s : State) (ys zs : List ℕ) (is : s .armed ≡ unarmed) (whole : s .stored ++ moreOf r s ys ≡ selection r zs .run) where
+module _ (r : Rule) (back s : State) (ys zs : List ℕ) (is : s .armed ≡ unarmed) (steady : Steady r zs) (whole : s .stored ++ moreOf r s ys ≡ selection r zs .run) where
   store-length : lenWith r (length (s .stored)) (length ys) ≡ length (selection r zs .run)
   store-length = sym with-more ∙ ap length whole
     where
@@ -86,7 +88,7 @@ module _ (r : Rule) (back s : State) (ys zs : List ℕ) (is : s .armed ≡ unarm
   unfolding storing
   store-is =
       rw store-length
-      (ap (λ (a : Armed). cond (fits r zs) (record { reply = replyOf a (r .limit) (length (selection r zs .run)); state = withMore s (moreOf r s ys) }) (record { reply = refused 8; state = back })) is)
+      (ap (λ (a : Armed). cond (fits r zs) (record { reply = replyOf a (r .limit) (length (selection r zs .run)); state = withMore s (moreOf r s ys) }) (record { reply = refused 8; state = back })) (is ∙ sym (beside-unarmed r zs steady)))
 
 -- ---- the invariant, over the samples of the accepted pushes
 -- armed, and none has fired: all have been written into g, the ring's memory at the start
@@ -100,10 +102,15 @@ pub record Waits (r : Rule) (g xs : List ℕ) (s : State) : Type 0 where
   pub stored : s .stored ≡ []
   pub mark : s .mark ≡ none
 
+-- what a state has beside its store
+abbrev pub besideState : State → Beside
+besideState s = record { armed = s .armed; previous = s .previous; place = s .place; kept = s .kept }
+
 -- unarmed: more samples only make the run longer. The ring is not read again, and nothing is said of it.
 pub record Stores (r : Rule) (xs : List ℕ) (s : State) : Type 0 where
   pub steady : Steady r xs
   pub armed : s .armed ≡ unarmed
+  pub beside : besideState s ≡ besideOf r xs
   pub stored : s .stored ≡ selection r xs .run
   pub mark : s .mark ≡ selection r xs .mark
 
@@ -141,17 +148,16 @@ module _ (r : Rule) (g xs : List ℕ) (s : State) (o : Stores r xs s) (p : List 
   unfolding step
   store-push =
       subst⁻¹ (λ (a : Armed). Did r g xs p (taken a r s p)) (o .armed)
-      (rw (store-is r s s p (xs ++ p) (o .armed) more-run) (settle r g xs p s _ (stores o) (stores (record { steady = steady-stays r xs p (o .steady); armed = o .armed; stored = more-run; mark = more-mark }))))
-
-none-told : (limit : ℕ) → cond (eqb limit 0) going-on (cond (eqb 0 limit) complete going-on) ≡ going-on
-none-told limit = go (decLt 0 limit)
-  where
-    go : Dec (0 < limit) → cond (eqb limit 0) going-on (cond (eqb 0 limit) complete going-on) ≡ going-on
-    go (yes h) = rw (ne-eqb limit 0 (λ e. omega arith), ne-eqb 0 limit (λ e. omega arith))
-    go (no h) = rw zero-limit
-      where
-        zero-limit : limit ≡ 0
-        zero-limit = omega arith
+      (rw (store-is r s s p (xs ++ p) (o .armed) (steady-stays r xs p (o .steady)) more-run) (settle r g xs p s _ (stores o) (stores more-stored)))
+    where
+      more-stored : Stores r (xs ++ p) (withMore s (moreOf r s p))
+      more-stored = record {
+        steady = steady-stays r xs p (o .steady);
+        armed = o .armed;
+        beside = o .beside ∙ sym (beside-stays r xs p (o .steady));
+        stored = more-run;
+        mark = more-mark;
+      }
 
 -- ---- an armed push
 module _ (r : Rule) (g xs : List ℕ) (room : r .pre ≤ length g) (s : State) (w : Waits r g xs s) (p : List ℕ) where
@@ -192,7 +198,7 @@ module _ (r : Rule) (g xs : List ℕ) (room : r .pre ≤ length g) (s : State) (
     }
 
     wait-push : Did r g xs p (record { reply = going-on; state = waited r s p })
-    wait-push = record { holds = rw fitting (waits wait-after); reply = rw (fitting, quiet-run r (xs ++ p) still-quiet) (sym (none-told (r .limit))) }
+    wait-push = record { holds = rw fitting (waits wait-after); reply = rw (fitting, beside-waits r (xs ++ p) still-quiet) }
       where
         fitting : fits r (xs ++ p) ≡ true
         fitting = rw (quiet-run r (xs ++ p) still-quiet) (leb·zero (r .capacity))
@@ -238,10 +244,17 @@ module _ (r : Rule) (g xs : List ℕ) (room : r .pre ≤ length g) (s : State) (
         mark-is : min (r .pre) (s .kept + i) ≡ min at (r .pre)
         mark-is = omega (arith, w .kept)
 
+    -- "Firing keeps the firing sample as the previous one and sets kept count and ring place to 0"
+    fired-beside : besideState (fired r s p i) ≡ besideOf r all
+    fired-beside =
+        ap firedOn (sym (getD-append-add xs p i 0))
+        ∙ ap (λ (k : ℕ). firedOn (getD all k 0)) (sym place-is)
+        ∙ sym (beside-fired r all m (w .quiet .armed) (rw place-is (simp length-append (omega arith))))
+
     fire-push : Did r g xs p (storing r s (fired r s p i) (headOf r s p i ++ drop i p))
     fire-push =
-        rw (store-is r s (fired r s p i) (headOf r s p i ++ drop i p) all refl fired-run)
-        (settle r g xs p s _ (waits w) (stores (record { steady = now-steady; armed = refl; stored = fired-run; mark = fired-mark })))
+        rw (store-is r s (fired r s p i) (headOf r s p i ++ drop i p) all refl now-steady fired-run)
+        (settle r g xs p s _ (waits w) (stores (record { steady = now-steady; armed = refl; beside = fired-beside; stored = fired-run; mark = fired-mark })))
 
   armed-push : Did r g xs p (step r s p)
   unfolding step
@@ -290,11 +303,14 @@ pub fresh-holds : (r : Rule) (g : List ℕ) → Holds r g [] (fresh r g)
 fresh-holds r g = go (steady-or-quiet r [])
   where
     go : Steady r [] ⊎ Quiet r [] → Holds r g [] (fresh r g)
-    go (inl s) = stores (record { steady = s; armed = is s; stored = sym (run-first r); mark = mark-first r s })
+    go (inl s) = stores (record { steady = s; armed = is s; beside = none-beside; stored = sym (run-first r); mark = mark-first r s })
       where
         is : Steady r [] → r .armed ≡ unarmed
         is (without-terms e) = e
         is (has-fired m e h) = absurd (omega arith)
+
+        none-beside : besideState (fresh r g) ≡ besideOf r []
+        none-beside = ap (λ (a : Armed). record { armed = a; previous = none; place = 0; kept = 0 }) (is s) ∙ sym (ap (λ (a : Armed). besideFor a (r .pre) []) (is s))
     go (inr q) = waits (record { quiet = q; armed = refl; previous = last-none; ring = ring-none (r .pre) g; place = place-none (r .pre); kept = omega arith; stored = refl; mark = refl })
 
 -- ---- what the invariant says of the store
@@ -308,16 +324,31 @@ module _ (r : Rule) (g xs : List ℕ) (s : State) where
   holds-mark (waits w) = w .mark ∙ sym (ap (λ (c : Selected). c .mark) (quiet-chosen r xs (w .quiet)))
   holds-mark (stores o) = o .mark
 
+  pub holds-beside : Holds r g xs s → besideState s ≡ besideOf r xs
+  holds-beside (waits w) = held ∙ sym (beside-waits r xs (w .quiet))
+    where
+      place-is : s .place ≡ slotOf (r .pre) (length xs)
+      place-is = w .place ∙ place-slot (r .pre) (length xs)
+
+      kept-is : s .kept ≡ min (length xs) (r .pre)
+      kept-is = omega (arith, w .kept)
+
+      held : besideState s ≡ stillArmed (w .quiet .masks) (r .pre) xs
+      held = cc (w .armed, w .quiet .armed, w .previous, place-is, kept-is)
+  holds-beside (stores o) = o .beside
+
 -- ---- the claim
 pub record Selects (r : Rule) (pushes : List (List ℕ)) (s : State) (said : List Reply) : Type 0 where
   pub run : s .stored ≡ runOf r pushes
   pub mark : s .mark ≡ markOf r pushes
+  pub beside : besideState s ≡ besideOf r (accepted r pushes)
   pub replies : said ≡ repliesOf r pushes
 
 pub selects : (r : Rule) (g : List ℕ) → r .pre ≤ length g → (pushes : List (List ℕ)) → Selects r pushes (steps r (fresh r g) pushes) (replies r (fresh r g) pushes)
 selects r g room pushes = record {
   run = holds-run r g (accepted r pushes) _ (all-hold r g room pushes [] (fresh r g) (fresh-holds r g));
   mark = holds-mark r g (accepted r pushes) _ (all-hold r g room pushes [] (fresh r g) (fresh-holds r g));
+  beside = holds-beside r g (accepted r pushes) _ (all-hold r g room pushes [] (fresh r g) (fresh-holds r g));
   replies = all-replies r g room pushes [] (fresh r g) (fresh-holds r g);
 }
 

@@ -10,7 +10,9 @@ use native.Mathlib.Omega.{arith}
 use borrow.Author.Tests.{ne-eqb, eq-eqb}
 use lib.ListN.{length, take, drop, getD, length-take, length-drop, length-append, drop-of-length-le, take-append-drop}
 use lib.Seq.{drop-drop, drop-cons, drop-set-lt, drop-nil, take-nil, getD-set-same, getD-set-other, drop-append-le}
-use Rattle.ring.specs.Ring.{ending, put, next, ringAfter, placeAfter, turned, readOut}
+use Rattle.rules.specs.Selection.{slotOf}
+use Rattle.rules.specs.Ring.{nextSlot, placeAfter}
+use Rattle.ring.specs.Ring.{ending, put, ringAfter, turned, readOut}
 use Rattle.ring.proofs.Ring.{Turns, read-length, next-in, next-wraps, next-lt, turned-length, put-length}
 
 -- ---- parts
@@ -102,7 +104,7 @@ module _ (pre : ℕ) (g : List ℕ) (place kept : ℕ) (t : Turns pre g place ke
 
 -- ---- the loop that writes: one store and one place for each sample
 pub write-turn : (pre : ℕ) (g : List ℕ) (place : ℕ) (p : List ℕ) (i : ℕ) → i < length p
-    → ringAfter pre (put pre g place (getD p i 0)) (next pre place) (drop (i + 1) p) ≡ ringAfter pre g place (drop i p)
+    → ringAfter pre (put pre g place (getD p i 0)) (nextSlot pre place) (drop (i + 1) p) ≡ ringAfter pre g place (drop i p)
 unfolding ringAfter
 write-turn pre g place p i h = rw (add-one i) (sym (rw (drop-cons p i 0 h)))
 
@@ -110,7 +112,7 @@ pub write-end : (pre : ℕ) (g : List ℕ) (place : ℕ) (p : List ℕ) (i : ℕ
 unfolding ringAfter
 write-end pre g place p i h = rw (drop-of-length-le p h)
 
-pub place-turn : (pre place n : ℕ) → placeAfter pre place (suc n) ≡ placeAfter pre (next pre place) n
+pub place-turn : (pre place n : ℕ) → placeAfter pre place (suc n) ≡ placeAfter pre (nextSlot pre place) n
 unfolding placeAfter
 place-turn pre place n = refl
 
@@ -122,18 +124,18 @@ place-end pre place = refl
 pub ring-append : (pre : ℕ) (xs ys : List ℕ) (g : List ℕ) (place : ℕ) → ringAfter pre g place (xs ++ ys) ≡ ringAfter pre (ringAfter pre g place xs) (placeAfter pre place (length xs)) ys
 unfolding ringAfter placeAfter
 ring-append pre [] ys g place = refl
-ring-append pre (x ∷ xs) ys g place = ring-append pre xs ys (put pre g place x) (next pre place)
+ring-append pre (x ∷ xs) ys g place = ring-append pre xs ys (put pre g place x) (nextSlot pre place)
 
 pub place-append : (pre a b place : ℕ) → placeAfter pre place (a + b) ≡ placeAfter pre (placeAfter pre place a) b
 unfolding placeAfter
 place-append pre zero b place = ap (placeAfter pre place) (zero-add b)
-place-append pre (suc a) b place = ap (placeAfter pre place) (suc-add a b) ∙ place-append pre a b (next pre place)
+place-append pre (suc a) b place = ap (placeAfter pre place) (suc-add a b) ∙ place-append pre a b (nextSlot pre place)
 
 -- memory past the slots is not written
 pub ring-past : (pre : ℕ) (xs : List ℕ) (g : List ℕ) (place : ℕ) → place < max pre 1 → drop pre (ringAfter pre g place xs) ≡ drop pre g
 unfolding ringAfter
 ring-past pre [] g place h = refl
-ring-past pre (x ∷ xs) g place h = ring-past pre xs (put pre g place x) (next pre place) (next-lt pre place) ∙ one (decLt 0 pre)
+ring-past pre (x ∷ xs) g place h = ring-past pre xs (put pre g place x) (nextSlot pre place) (next-lt pre place) ∙ one (decLt 0 pre)
   where
     one : Dec (0 < pre) → drop pre (put pre g place x) ≡ drop pre g
     one (yes p) = rw (ne-eqb pre 0 (λ e. omega arith)) (drop-set-lt pre g place x (omega arith))
@@ -141,10 +143,10 @@ ring-past pre (x ∷ xs) g place h = ring-past pre xs (put pre g place x) (next 
 
 -- ---- sample k of those written from place on goes to slot (place + k) mod pre
 -- the next place, as a remainder
-next-mod : (pre place k : ℕ) → place < pre → (next pre place + k) % pre ≡ (place + suc k) % pre
+next-mod : (pre place k : ℕ) → place < pre → (nextSlot pre place + k) % pre ≡ (place + suc k) % pre
 next-mod pre place k h = go (decLt (place + 1) pre)
   where
-    go : Dec (place + 1 < pre) → (next pre place + k) % pre ≡ (place + suc k) % pre
+    go : Dec (place + 1 < pre) → (nextSlot pre place + k) % pre ≡ (place + suc k) % pre
     go (yes d) = rw (next-in pre place d) (ap (λ (x : ℕ). x % pre) more)
       where
         more : place + 1 + k ≡ place + suc k
@@ -157,14 +159,14 @@ next-mod pre place k h = go (decLt (place + 1) pre)
 pub place-mod : (pre n place : ℕ) → place < pre → placeAfter pre place n ≡ (place + n) % pre
 unfolding placeAfter
 place-mod pre zero place h = sym (rw (add-zero) (mod-eq-of-lt h))
-place-mod pre (suc n) place h = place-mod pre n (next pre place) (omega (arith, next-lt pre place)) ∙ next-mod pre place n h
+place-mod pre (suc n) place h = place-mod pre n (nextSlot pre place) (omega (arith, next-lt pre place)) ∙ next-mod pre place n h
 
 -- a slot that is not written stays
 untouched : (pre : ℕ) (xs : List ℕ) (g : List ℕ) (place j : ℕ) → place < pre → ((k : ℕ) → k < length xs → (place + k) % pre ≢ j) → getD (ringAfter pre g place xs) j 0 ≡ getD g j 0
 unfolding ringAfter
 untouched pre [] g place j h n = refl
 untouched pre (x ∷ xs) g place j h n =
-    untouched pre xs (put pre g place x) (next pre place) j (omega (arith, next-lt pre place)) (λ k l e. n (suc k) (omega arith) (sym (next-mod pre place k h) ∙ e))
+    untouched pre xs (put pre g place x) (nextSlot pre place) j (omega (arith, next-lt pre place)) (λ k l e. n (suc k) (omega arith) (sym (next-mod pre place k h) ∙ e))
     ∙ rw (ne-eqb pre 0 (λ e. omega arith)) (getD-set-other g place j x 0 (λ e. n 0 (omega arith) (rw add-zero (mod-eq-of-lt h ∙ sym e))))
 
 -- fewer than pre places on is another slot
@@ -186,18 +188,26 @@ pub slot : (pre : ℕ) (xs : List ℕ) (g : List ℕ) (place k : ℕ) → place 
 unfolding ringAfter
 slot pre [] g place k h r l m = absurd (omega arith)
 slot pre (x ∷ xs) g place zero h r l m =
-    ap (λ (j : ℕ). getD (ringAfter pre (put pre g place x) (next pre place) xs) j 0) here
-    ∙ untouched pre xs (put pre g place x) (next pre place) place (omega (arith, next-lt pre place)) (λ k b e. apart pre place k h (omega arith) (sym (next-mod pre place k h) ∙ e))
+    ap (λ (j : ℕ). getD (ringAfter pre (put pre g place x) (nextSlot pre place) xs) j 0) here
+    ∙ untouched pre xs (put pre g place x) (nextSlot pre place) place (omega (arith, next-lt pre place)) (λ k b e. apart pre place k h (omega arith) (sym (next-mod pre place k h) ∙ e))
     ∙ rw (ne-eqb pre 0 (λ e. omega arith)) (getD-set-same g place x 0 (omega arith))
   where
     here : (place + 0) % pre ≡ place
     here = rw add-zero (mod-eq-of-lt h)
 slot pre (x ∷ xs) g place (suc k) h r l m =
-    ap (λ (j : ℕ). getD (ringAfter pre (put pre g place x) (next pre place) xs) j 0) (sym (next-mod pre place k h))
-    ∙ slot pre xs (put pre g place x) (next pre place) k (omega (arith, next-lt pre place)) (rw put-length r) (omega arith) (omega arith)
+    ap (λ (j : ℕ). getD (ringAfter pre (put pre g place x) (nextSlot pre place) xs) j 0) (sym (next-mod pre place k h))
+    ∙ slot pre xs (put pre g place x) (nextSlot pre place) k (omega (arith, next-lt pre place)) (rw put-length r) (omega arith) (omega arith)
 
 -- no slots: the place stays 0
 pub place-zero : (pre n place : ℕ) → pre ≡ 0 → place ≡ 0 → placeAfter pre place n ≡ 0
 unfolding placeAfter
 place-zero pre zero place e z = z
-place-zero pre (suc n) place e z = place-zero pre n (next pre place) e (next-wraps pre place (omega arith))
+place-zero pre (suc n) place e z = place-zero pre n (nextSlot pre place) e (next-wraps pre place (omega arith))
+
+-- the ring place is the slot of the next sample
+pub place-slot : (pre n : ℕ) → placeAfter pre 0 n ≡ slotOf pre n
+place-slot pre n = go (decLt 0 pre)
+  where
+    go : Dec (0 < pre) → placeAfter pre 0 n ≡ slotOf pre n
+    go (yes h) = rw (ne-eqb pre 0 (λ e. omega arith)) (place-mod pre n 0 h ∙ ap (λ (x : ℕ). x % pre) (zero-add n))
+    go (no h) = rw (eq-eqb pre 0 (omega arith)) (place-zero pre n 0 (omega arith) refl)

@@ -5,10 +5,12 @@ use mathlib.Core.Option.{Option, none, some}
 use Prim.Native.Nat.{ℕ, _+_, _-_, min}
 use lib.Dec.{ltb, leb, eqb}
 use lib.ListN.{length, take, drop, getD}
+use Rattle.rules.specs.Ring.{placeAfter}
+use Rattle.rules.specs.Push.{roomFor}
 use Rattle.rules.specs.Sample.{samplesOf}
 use Rattle.rules.specs.Trigger.{Armed, unarmed, waiting, firstFire, lastOf}
-use Rattle.rules.specs.Selection.{Rule, Reply, refused, going-on, complete}
-use Rattle.ring.specs.Ring.{ending, ringAfter, placeAfter, readOut}
+use Rattle.rules.specs.Selection.{Rule, Reply, refused, going-on, replyOf}
+use Rattle.ring.specs.Ring.{ending, ringAfter, readOut}
 
 -- what changes from push to push
 pub record State : Type 0 where
@@ -25,15 +27,6 @@ pub record Done : Type 0 where
   pub state : State
 
 -- ---- to the store
--- how many of n samples the limit leaves room for
-abbrev pub roomFor : ℕ → ℕ → ℕ → ℕ
-roomFor limit len n = cond (eqb limit 0) n (min n (limit - len))
-
--- "complete exactly when the recorder is unarmed, limit is above 0 and len = limit; else going on"
-abbrev pub replyOf : Armed → ℕ → ℕ → Reply
-replyOf unarmed limit len = cond (eqb limit 0) going-on (cond (eqb len limit) complete going-on)
-replyOf (waiting m) limit len = going-on
-
 abbrev pub withMore : State → List ℕ → State
 withMore s xs = record { armed = s .armed; previous = s .previous; ring = s .ring; place = s .place; kept = s .kept; stored = s .stored ++ xs; mark = s .mark }
 

@@ -3,7 +3,7 @@ use Prim.Native.Nat.{ℕ, _+_, _-_, _%_, _≤_, _<_, max}
 use mathlib.Core.Path.{_≡_, sym, ap, _∙_}
 use native.Mathlib.Nat.{mod-lt, mod-eq-of-lt, add-mod-left}
 use native.Mathlib.Omega.{arith}
-use Rattle.ring.specs.Ring.{placeAfter}
+use Rattle.rules.specs.Ring.{placeAfter}
 use Rattle.ring.proofs.Slots.{place-mod}
 
 pub place-lt : (pre place n : ℕ) → place < pre → placeAfter pre place n < pre

@@ -9,8 +9,7 @@ use native.Mathlib.Omega.{arith}
 use borrow.Author.Tests.{ne-eqb}
 use lib.ListN.{length, take, drop, length-drop, take-append-drop}
 use lib.Seq.{drop-drop, drop-at, take-add, length-take-le}
-use Rattle.ring.specs.Ring.{next, placeAfter}
-use Rattle.ring.specs.Bytes.{joined, putBytes, ringBytes}
+use Rattle.rules.specs.Ring.{nextSlot, placeAfter, written, putBytes, ringBytes}
 use Rattle.ring.proofs.Ring.{next-in}
 use Rattle.ring.proofs.Slots.{place-mod, place-end}
 use Rattle.ring.proofs.Bytes.{joined-length, joined-joined, bytes-end, bytes-past, ring-bytes-length}
@@ -19,21 +18,21 @@ use Rattle.ring_write.proofs.Place.{place-lt}
 
 -- ---- one run
 -- no bytes
-joined-none : (u : ℕ) (g : List ℕ) (at : ℕ) (b : List ℕ) → joined g at (take (0 * u) b) ≡ g
-joined-none u g at b = ap (λ (x : ℕ). joined g at (take x b)) (zero-mul u) ∙ take-append-drop at g
+joined-none : (u : ℕ) (g : List ℕ) (at : ℕ) (b : List ℕ) → written g at (take (0 * u) b) ≡ g
+joined-none u g at b = ap (λ (x : ℕ). written g at (take x b)) (zero-mul u) ∙ take-append-drop at g
 
 module _ (u pre : ℕ) where
-  one-more : (g : List ℕ) (q k : ℕ) (b : List ℕ) → 0 < pre → ringBytes u pre (joined g (q * u) (take u b)) (next pre q) k (drop u b) ≡ ringBytes u pre g q (suc k) b
+  one-more : (g : List ℕ) (q k : ℕ) (b : List ℕ) → 0 < pre → ringBytes u pre (written g (q * u) (take u b)) (nextSlot pre q) k (drop u b) ≡ ringBytes u pre g q (suc k) b
   unfolding ringBytes
   one-more g q k b p = rw (ne-eqb pre 0 (λ e. omega arith))
 
   -- one sample, and then the bytes of k more
   put-more : (g : List ℕ) (q k : ℕ) (b : List ℕ) → q < pre → pre * u ≤ length g → suc k * u ≤ length b
-      → joined g (q * u) (take (suc k * u) b) ≡ joined (joined g (q * u) (take u b)) (suc q * u) (take (k * u) (drop u b))
+      → written g (q * u) (take (suc k * u) b) ≡ written (written g (q * u) (take u b)) (suc q * u) (take (k * u) (drop u b))
   put-more g q k b h r l =
-      ap (λ (x : List ℕ). joined g (q * u) x) (ap (λ (x : ℕ). take x b) count ∙ take-add u (k * u) b)
+      ap (λ (x : List ℕ). written g (q * u) x) (ap (λ (x : ℕ). take x b) count ∙ take-add u (k * u) b)
       ∙ sym (joined-joined g (q * u) (take u b) (take (k * u) (drop u b)) (omega (arith, one, mul-le-mul-right {m = suc q} {n = pre} u h)))
-      ∙ ap (λ (x : ℕ). joined (joined g (q * u) (take u b)) x (take (k * u) (drop u b))) here
+      ∙ ap (λ (x : ℕ). written (written g (q * u) (take u b)) x (take (k * u) (drop u b))) here
     where
       one : length (take u b) ≡ u
       one = length-take-le u b (omega arith)
@@ -44,12 +43,12 @@ module _ (u pre : ℕ) where
       here : q * u + length (take u b) ≡ suc q * u
       here = omega (arith, one)
 
-  pub one-run : (k : ℕ) (g : List ℕ) (q : ℕ) (b : List ℕ) → q + k ≤ pre → pre * u ≤ length g → k * u ≤ length b → joined g (q * u) (take (k * u) b) ≡ ringBytes u pre g q k b
+  pub one-run : (k : ℕ) (g : List ℕ) (q : ℕ) (b : List ℕ) → q + k ≤ pre → pre * u ≤ length g → k * u ≤ length b → written g (q * u) (take (k * u) b) ≡ ringBytes u pre g q k b
   one-run zero g q b h r l = joined-none u g (q * u) b ∙ sym (bytes-end u pre g q b)
   one-run (suc zero) g q b h r l =
       put-more g q 0 b (omega arith) r l
-      ∙ joined-none u (joined g (q * u) (take u b)) (suc q * u) (drop u b)
-      ∙ sym (bytes-end u pre (joined g (q * u) (take u b)) (next pre q) (drop u b))
+      ∙ joined-none u (written g (q * u) (take u b)) (suc q * u) (drop u b)
+      ∙ sym (bytes-end u pre (written g (q * u) (take u b)) (nextSlot pre q) (drop u b))
       ∙ one-more g q 0 b (omega arith)
   one-run (suc (suc k)) g q b h r l =
       put-more g q (suc k) b (omega arith) r l
@@ -58,7 +57,7 @@ module _ (u pre : ℕ) where
       ∙ one-more g q (suc k) b (omega arith)
     where
       put : List ℕ
-      put = joined g (q * u) (take u b)
+      put = written g (q * u) (take u b)
 
       same : length put ≡ length g
       same = joined-length g (q * u) (take u b) (omega (arith, length-take-le u b (omega arith), mul-le-mul-right {m = suc q} {n = pre} u (omega arith)))
@@ -70,8 +69,8 @@ module _ (u pre : ℕ) where
   write-append zero c g place b = ap₂ (λ (n k : ℕ). ringBytes u pre g place n (drop k b)) (zero-add c) (sym (zero-mul u))
   write-append (suc a) c g place b =
       ap (λ (n : ℕ). ringBytes u pre g place n b) more
-      ∙ write-append a c (putBytes u pre g place (take u b)) (next pre place) (drop u b)
-      ∙ ap (ringBytes u pre (ringBytes u pre (putBytes u pre g place (take u b)) (next pre place) a (drop u b)) (placeAfter pre (next pre place) a) c) (drop-drop (a * u) u b ∙ ap (λ (k : ℕ). drop k b) count)
+      ∙ write-append a c (putBytes u pre g place (take u b)) (nextSlot pre place) (drop u b)
+      ∙ ap (ringBytes u pre (ringBytes u pre (putBytes u pre g place (take u b)) (nextSlot pre place) a (drop u b)) (placeAfter pre (nextSlot pre place) a) c) (drop-drop (a * u) u b ∙ ap (λ (k : ℕ). drop k b) count)
     where
       more : suc a + c ≡ suc (a + c)
       more = omega arith
@@ -82,7 +81,7 @@ module _ (u pre : ℕ) where
   -- up to the end, and on from the start
   module _ (g : List ℕ) (q c : ℕ) (b : List ℕ) (h : q < pre) (hc : c ≤ pre) (r : pre * u ≤ length g) (l : (pre - q + c) * u ≤ length b) where
     upto : List ℕ
-    upto = joined g (q * u) (take ((pre - q) * u) b)
+    upto = written g (q * u) (take ((pre - q) * u) b)
 
     upto-is : upto ≡ ringBytes u pre g q (pre - q) b
     unfolding upto
@@ -94,10 +93,10 @@ module _ (u pre : ℕ) where
         whole : q + (pre - q) ≡ pre
         whole = omega arith
 
-    pub two-runs : joined (joined g (q * u) (take ((pre - q) * u) b)) 0 (take (c * u) (drop ((pre - q) * u) b)) ≡ ringBytes u pre g q (pre - q + c) b
+    pub two-runs : written (written g (q * u) (take ((pre - q) * u) b)) 0 (take (c * u) (drop ((pre - q) * u) b)) ≡ ringBytes u pre g q (pre - q + c) b
     unfolding upto
     two-runs =
-        ap (λ (at : ℕ). joined upto at (take (c * u) (drop ((pre - q) * u) b))) (sym (zero-mul u))
+        ap (λ (at : ℕ). written upto at (take (c * u) (drop ((pre - q) * u) b))) (sym (zero-mul u))
         ∙ one-run c upto 0 (drop ((pre - q) * u) b) (omega arith) (rw upto-length r) (simp length-drop (omega (arith, l, add-mul (pre - q) c u)))
         ∙ ap₂ (λ (x : List ℕ) (p : ℕ). ringBytes u pre x p c (drop ((pre - q) * u) b)) upto-is (sym at-start)
         ∙ sym (write-append (pre - q) c g q b)
@@ -107,10 +106,10 @@ module _ (u pre : ℕ) where
 
   -- ---- more samples than slots: what was there does not matter
   -- a whole turn of the ring
-  turn-form : (g : List ℕ) (q : ℕ) (x y : List ℕ) → q ≤ pre → pre * u ≤ length g → length x ≡ (pre - q) * u → length y ≡ q * u → joined (joined g (q * u) x) 0 y ≡ y ++ (x ++ drop (pre * u) g)
+  turn-form : (g : List ℕ) (q : ℕ) (x y : List ℕ) → q ≤ pre → pre * u ≤ length g → length x ≡ (pre - q) * u → length y ≡ q * u → written (written g (q * u) x) 0 y ≡ y ++ (x ++ drop (pre * u) g)
   turn-form g q x y h r ex ey =
       ap (λ (z : List ℕ). y ++ z)
-      (ap (λ (k : ℕ). drop k (joined g (q * u) x)) ey
+      (ap (λ (k : ℕ). drop k (written g (q * u) x)) ey
       ∙ drop-at (take (q * u) g) (x ++ drop (length x) (drop (q * u) g)) (q * u) (length-take-le (q * u) g (omega (arith, r, mul-le-mul-right {m = q} {n = pre} u h)))
       ∙ ap (λ (z : List ℕ). x ++ z) (drop-drop (length x) (q * u) g ∙ ap (λ (k : ℕ). drop k g) all))
     where
@@ -219,11 +218,11 @@ module _ (u pre place n m d q k : ℕ) (h : place < pre) (past : pre - place < n
       samples : d + k + (m - k) ≡ n
       samples = omega (arith, enough)
 
-  pub around-is : (g g₁ g₂ b : List ℕ) → pre * u ≤ length g → n * u ≤ length b → g₁ ≡ joined g (q * u) (take (k * u) (drop (d * u) b)) → g₂ ≡ joined g₁ 0 (take ((m - k) * u) (drop ((d + k) * u) b)) → g₂ ≡ ringBytes u pre g place n b
+  pub around-is : (g g₁ g₂ b : List ℕ) → pre * u ≤ length g → n * u ≤ length b → g₁ ≡ written g (q * u) (take (k * u) (drop (d * u) b)) → g₂ ≡ written g₁ 0 (take ((m - k) * u) (drop ((d + k) * u) b)) → g₂ ≡ ringBytes u pre g place n b
   around-is g g₁ g₂ b r l e₁ e₂ =
       e₂
-      ∙ ap₂ (λ (x y : List ℕ). joined x 0 (take ((m - k) * u) y)) e₁ (ap (λ (x : ℕ). drop x b) (add-mul d k u) ∙ sym (drop-drop (k * u) (d * u) b))
-      ∙ ap (λ (x : ℕ). joined (joined g (q * u) (take (x * u) rest)) 0 (take ((m - k) * u) (drop (x * u) rest))) ek
+      ∙ ap₂ (λ (x y : List ℕ). written x 0 (take ((m - k) * u) y)) e₁ (ap (λ (x : ℕ). drop x b) (add-mul d k u) ∙ sym (drop-drop (k * u) (d * u) b))
+      ∙ ap (λ (x : ℕ). written (written g (q * u) (take (x * u) rest)) 0 (take ((m - k) * u) (drop (x * u) rest))) ek
       ∙ two-runs u pre g q (m - k) rest inside (omega (arith, enough)) r (simp length-drop (omega (arith, ap (λ (x : ℕ). x * u) all, add-mul d m u, ap (λ (x : ℕ). x * u) whole)))
       ∙ ap (λ (x : ℕ). ringBytes u pre g q x rest) all
       ∙ ap₂ (λ (p x : ℕ). ringBytes u pre g p x (drop (d * u) b)) eq em

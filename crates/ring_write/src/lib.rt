@@ -2,8 +2,7 @@
 ghost use mathlib.Core.Path.{_≡_};
 ghost use Prim.Native.Nat.{_+_, _-_, _≤_, _<_, min, max};
 ghost use lib.ListN.{length, take, drop};
-ghost use Rattle.ring.specs.Ring.{placeAfter};
-ghost use Rattle.ring.specs.Bytes.{joined, ringBytes};
+ghost use Rattle.rules.specs.Ring.{placeAfter, written, ringBytes};
 ghost use Rattle.ring_write.specs.Room.{RingRoom};
 
 // The place after n samples.
@@ -24,7 +23,7 @@ pub fn place_after(pre: usize, place: usize, n: usize) -> usize
 // n bytes of the push, from `from` on, go to the ring's bytes from `at` on.
 fn copy_run(ring: &mut [u8], at: usize, bytes: &[u8], from: usize, n: usize)
     requires { ⌜ (at + n ≤ length (now ring)) × (from + n ≤ length (now bytes)) ⌝ }
-    ensures { λ _. ⌜ now (ring .exit) ≡ joined (now (ring .entry)) at (take n (drop from (now (bytes .entry)))) ⌝ }
+    ensures { λ _. ⌜ now (ring .exit) ≡ written (now (ring .entry)) at (take n (drop from (now (bytes .entry)))) ⌝ }
 {
     let mut i = 0;
     while i < n {

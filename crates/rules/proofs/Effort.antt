@@ -12,7 +12,7 @@ use lib.Pow.{pow-add}
 use lib.Dec.{eqb, leb}
 use borrow.Author.Tests.{eqb-true, eq-eqb, ne-eqb, leb-true, le-leb, lt-ltb, le-ltb}
 use Rattle.rules.specs.Node.{Node, quiet, span, chunk, topLevel}
-use Rattle.rules.specs.Search.{changed, up, down}
+use Rattle.rules.specs.Search.{changed, higher, lower}
 use Rattle.rules.specs.Walk.{Walked, Way, forward, backward, best, walk, walkFrom, ahead, behind, chunksFor, nextWalk, nextEntered, previousWalk, previousEntered, allLevels}
 use Rattle.rules.proofs.Search.{times, times-add}
 use Rattle.rules.proofs.Walk.{span-pos, best-top, best-above, Taken, taken-best, walk-ended, walk-past, walk-found, walk-lower, Sees}
@@ -197,7 +197,7 @@ module _ (reader : ℕ → ℕ → Node) (s : ℕ → ℕ) (len m : ℕ) (r : Tr
       walks n c p v o =
           let hi = min ((c + 1) * chunk) len in
           let k = o (zero-lt-suc n) in
-          chunk-effort (forward allLevels reader hi) (λ (p : ℕ). Unit {0}) up (changed s m) m (λ (p : ℕ). s (p - 1)) (forward-sees allLevels reader s len m r hi (omega arith)) (λ p. p) hi (forward-laid reader hi)
+          chunk-effort (forward allLevels reader hi) (λ (p : ℕ). Unit {0}) higher (changed s m) m (λ (p : ℕ). s (p - 1)) (forward-sees allLevels reader s len m r hi (omega arith)) (λ p. p) hi (forward-laid reader hi)
           p v tt (k .2) (omega (arith, k .1))
 
       go : Dec (from + 1 < len) → nextWalk allLevels reader len m from .steps ≤ 384 * nextEntered allLevels reader len m from
@@ -219,7 +219,7 @@ module _ (reader : ℕ → ℕ → Node) (s : ℕ → ℕ) (len m : ℕ) (r : Tr
 
       walks : (n c p v : ℕ) → Kept (suc n) c p v → walkFrom (behind allLevels reader .way c) m p v .steps ≤ 384
       walks n c p v o =
-          chunk-effort (backward allLevels reader (c * chunk)) (λ (p : ℕ). p ≤ len) down (changed s m) m s (backward-sees allLevels reader s len m r (c * chunk)) (λ p. len * chunk - p) (len * chunk - c * chunk)
+          chunk-effort (backward allLevels reader (c * chunk)) (λ (p : ℕ). p ≤ len) lower (changed s m) m s (backward-sees allLevels reader s len m r (c * chunk)) (λ p. len * chunk - p) (len * chunk - c * chunk)
           (backward-laid reader len (c * chunk)) p v (o .0) (o .3) (omega (arith, o .1))
 
       go : Dec (len ≡ 0) → previousWalk allLevels reader len m from .steps ≤ 384 * previousEntered allLevels reader len m from

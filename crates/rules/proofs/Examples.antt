@@ -1,4 +1,4 @@
--- The starred shelf examples of document 01, proved about its rules by computation, as one conjunction.
+-- The starred shelf examples of document 01, proved about its rules by computation, as one conjunction; and examples of document 02's CR 3 and CR 4.
 use mathlib.Core.Path.{_≡_, refl}
 use mathlib.Core.Bool.{Bool, true, false, cond}
 use mathlib.Core.List.{List, [], _∷_, _++_}
@@ -14,8 +14,8 @@ use Rattle.rules.specs.Search.{seek, next, previous, summary}
 use Rattle.rules.specs.Walk.{best, walk, chunks, entered, nextEntered, allLevels, runReader, nextSearch, previousSearch}
 use Rattle.rules.specs.Burst.{Burst, jump, burstBy, burst, jumpSteps, stepsBy, burstSearch}
 use Rattle.rules.specs.Floor.{floorOf, nearestOf}
-use Rattle.rules.specs.Pixel.{View, edge, rowBy, render}
-use Rattle.rules.specs.Pretrigger.{Pretrigger, fraction, seconds, most, times}
+use Rattle.rules.specs.Pixel.{View, pixelEdge, rowBy, render}
+use Rattle.rules.specs.Pretrigger.{Pretrigger, fraction, seconds, mostFraction, times}
 use Rattle.rules.specs.Trigger.{Term, Condition, rising, falling, high, withTerms, bothAsEdge, matches, fires, firstFire}
 use Rattle.rules.specs.Selection.{Settings, Rule, Selected, Reply, going-on, complete, refused, ruleOf, chosen, selection, acceptedFrom, runOf, markOf, repliesFrom, repliesOf}
 
@@ -62,7 +62,7 @@ pub shelf :
     × (repliesOf (ruleOf (settings rising)) ((0 ∷ 0 ∷ []) ∷ (0 ∷ 1 ∷ 1 ∷ []) ∷ []) ≡ going-on ∷ complete ∷ [])
     × (selection (ruleOf (settings rising)) (1 ∷ []) ≡ record { run = []; mark = none })
     × (selection (ruleOf (settings high)) (1 ∷ []) ≡ record { run = 1 ∷ []; mark = some 0 })
-unfolding sampleOf listFrom togglesOf nodeOf seek jump burstBy floorOf nearestOf edge rowBy most times withTerms bothAsEdge matches fires firstFire chosen selection acceptedFrom repliesFrom add mul ofInt lt
+unfolding sampleOf listFrom togglesOf nodeOf seek jump burstBy floorOf nearestOf pixelEdge rowBy mostFraction times withTerms bothAsEdge matches fires firstFire chosen selection acceptedFrom repliesFrom add mul ofInt lt
 shelf = (refl, refl, refl, refl, refl, refl, refl, refl, refl, refl, refl, refl, refl, refl, refl)
 
 -- unit 2, no terms, capacity 1: a leftover byte joins nothing, and a push without room is refused and adds nothing
@@ -72,7 +72,7 @@ plain = record { channels = 16; capacity = 1; limit = 0; terms = []; wish = seco
 pub beside :
     (runOf (ruleOf plain) ((7 ∷ []) ∷ (1 ∷ 2 ∷ []) ∷ (3 ∷ 4 ∷ []) ∷ []) ≡ 513 ∷ [])
     × (repliesOf (ruleOf plain) ((7 ∷ []) ∷ (1 ∷ 2 ∷ []) ∷ (3 ∷ 4 ∷ []) ∷ []) ≡ going-on ∷ going-on ∷ refused 8 ∷ [])
-unfolding sampleOf listFrom nearestOf most times withTerms bothAsEdge matches fires firstFire chosen selection acceptedFrom repliesFrom mul ofInt lt
+unfolding sampleOf listFrom nearestOf mostFraction times withTerms bothAsEdge matches fires firstFire chosen selection acceptedFrom repliesFrom mul ofInt lt
 beside = (refl, refl)
 
 -- 02, CR 3: what searches of A read, sample by sample; the second change of a side is searched for within the tolerance alone. And a lone change at
@@ -101,5 +101,5 @@ pub both-on-one :
     × (selection (ruleOf (turner [])) (0 ∷ 1 ∷ []) ≡ record { run = 0 ∷ 1 ∷ []; mark = some 1 })
     × (selection (ruleOf (turner (on0 high ∷ []))) (1 ∷ 0 ∷ 1 ∷ []) ≡ record { run = 1 ∷ 0 ∷ 1 ∷ []; mark = some 2 })
     × (selection (ruleOf (turner (record { line = 1; condition = high } ∷ []))) (1 ∷ 0 ∷ 2 ∷ 3 ∷ []) ≡ record { run = 0 ∷ 2 ∷ 3 ∷ []; mark = some 2 })
-unfolding floorOf most times withTerms bothAsEdge matches fires firstFire chosen selection mul ofInt lt
+unfolding floorOf mostFraction times withTerms bothAsEdge matches fires firstFire chosen selection mul ofInt lt
 both-on-one = (refl, refl, refl, refl)

@@ -6,19 +6,19 @@ use Prim.Native.Nat.{ℕ}
 use lib.IntN.{pos, negsuc}
 use lib.Ieee.{binary64, ofBits, add, mul, ofInt, lt}
 use Rattle.rules.specs.Floor.{Whole, over, at, floorOf, nearestOf}
-use Rattle.rules.specs.Pixel.{edge}
-use Rattle.rules.specs.Pretrigger.{Kept, seconds, most, times, fractionOf, keptOf}
+use Rattle.rules.specs.Pixel.{pixelEdge}
+use Rattle.rules.specs.Pretrigger.{Pre, seconds, mostFraction, times, fractionOf, preFor}
 
 -- Fraction of limit 100
 abbrev of100 : ℕ → ℕ
 of100 p = fractionOf 100 (ofBits binary64 p)
 
 -- Seconds at a rate, unit 1
-abbrev kept : ℕ → ℕ → Kept
-kept t rate = keptOf (seconds (ofBits binary64 t)) 0 rate 1
+abbrev kept : ℕ → ℕ → Pre
+kept t rate = preFor (seconds (ofBits binary64 t)) 0 rate 1
 
 abbrev edgeAt : ℕ → ℕ → ℕ → Whole
-edgeAt start spp px = edge (record { start = ofBits binary64 start; spp = ofBits binary64 spp }) px
+edgeAt start spp px = pixelEdge (record { start = ofBits binary64 start; spp = ofBits binary64 spp }) px
 
 -- Fraction 0.29, 0.57, 0.58, 0.99, 1 and +∞; Seconds 0.49999999999999994 and 0.5; the edges of (0.3, 0.7), (0.1, 0.3), (−1, 1/3) and
 -- (0, the largest binary64); −5e-324
@@ -36,5 +36,5 @@ pub computed :
     × (edgeAt 0xbff0_0000_0000_0000 0x3fd5_5555_5555_5555 3 ≡ at (pos 0))
     × (edgeAt 0x0 0x7fef_ffff_ffff_ffff 2 ≡ over)
     × (floorOf (ofBits binary64 0x8000_0000_0000_0001) ≡ at (negsuc 0))
-unfolding floorOf nearestOf edge most times ofBits add mul ofInt lt
+unfolding floorOf nearestOf pixelEdge mostFraction times ofBits add mul ofInt lt
 computed = (refl, refl, refl, refl, refl, refl, refl, refl, refl, refl, refl, refl, refl)

@@ -10,7 +10,7 @@ use lib.Bits.{bitAnd, bitXor, xor-comm}
 use lib.Dec.{eqb, leb}
 use borrow.Author.Tests.{eqb-true, eq-eqb, ne-eqb, leb-true, lt-ltb, le-ltb}
 use Rattle.rules.specs.Node.{Node, changes, nodeOf, leaf, mirror, quiet, span, chunk, topLevel}
-use Rattle.rules.specs.Search.{changed, seek, up, down, next, previous}
+use Rattle.rules.specs.Search.{changed, seek, higher, lower, next, previous}
 use Rattle.rules.specs.Walk.{nothing, forward, backward, ahead, behind, chunks, chunksFor, nextWalk, previousFrom, previousWalk}
 use Rattle.rules.proofs.Node.{node-one, Quiet, quiet-true, true-quiet}
 use Rattle.rules.proofs.Search.{times, times-up, times-down}
@@ -68,7 +68,7 @@ module _ (has : ℕ → Bool) (reader : ℕ → ℕ → Node) (s : ℕ → ℕ) 
     node-ahead : (l p : ℕ) → Taken (forward has reader hi) l p → reader l p ≡ nodeOf s p (p + span l)
     node-ahead l p t = let f = ahead-fits has reader hi l p t in r .is l p (t .level) (f .in-set) (f .aligned) (omega (arith, f .room))
 
-    pub forward-sees : Sees (forward has reader hi) (λ (p : ℕ). Unit {0}) up (changed s m) m (λ (p : ℕ). s (p - 1))
+    pub forward-sees : Sees (forward has reader hi) (λ (p : ℕ). Unit {0}) higher (changed s m) m (λ (p : ℕ). s (p - 1))
     unfolding nodeOf
     forward-sees = record {
       room = λ l p t. omega (arith, ahead-fits has reader hi l p t .room);
@@ -80,8 +80,8 @@ module _ (has : ℕ → Bool) (reader : ℕ → ℕ → Node) (s : ℕ → ℕ) 
       carries = λ l p t i. ap (λ (n : Node). n .last) (node-ahead l p t);
     }
       where
-        passes : (l p : ℕ) → Taken (forward has reader hi) l p → quiet (reader l p) (s (p - 1)) m ≡ true → (j : ℕ) → j < span l → changed s m (times up j p) ≡ false
-        passes l p t q j h = same-place s m (p + j) (times up j p) (sym (times-up j p)) (pick (ℕ-discrete j 0))
+        passes : (l p : ℕ) → Taken (forward has reader hi) l p → quiet (reader l p) (s (p - 1)) m ≡ true → (j : ℕ) → j < span l → changed s m (times higher j p) ≡ false
+        passes l p t q j h = same-place s m (p + j) (times higher j p) (sym (times-up j p)) (pick (ℕ-discrete j 0))
           where
             told : Quiet s (reader l p .first) (s (p - 1)) m p (p + span l)
             told = quiet-true s (reader l p) (s (p - 1)) m p (p + span l) (ap (λ (n : Node). n .toggles) (node-ahead l p t)) q
@@ -90,14 +90,14 @@ module _ (has : ℕ → Bool) (reader : ℕ → ℕ → Node) (s : ℕ → ℕ) 
             pick (yes z) = ap (λ (k : ℕ). bitAnd (changes s k) m) (omega arith) ∙ ap (λ (x : ℕ). bitAnd (bitXor x (s (p - 1))) m) (sym (ap (λ (n : Node). n .first) (node-ahead l p t))) ∙ told .border
             pick (no z) = told .inside (p + j) (omega arith) (omega arith)
 
-        shows : (l p : ℕ) → Taken (forward has reader hi) l p → ((j : ℕ) → j < span l → changed s m (times up j p) ≡ false) → quiet (reader l p) (s (p - 1)) m ≡ true
+        shows : (l p : ℕ) → Taken (forward has reader hi) l p → ((j : ℕ) → j < span l → changed s m (times higher j p) ≡ false) → quiet (reader l p) (s (p - 1)) m ≡ true
         shows l p t none-here = true-quiet s (reader l p) (s (p - 1)) m p (p + span l) (ap (λ (n : Node). n .toggles) (node-ahead l p t)) (omega (arith, span-pos l)) (record {
           border = ap (λ (n : Node). bitAnd (bitXor (n .first) (s (p - 1))) m) (node-ahead l p t) ∙ here p (le-refl p) (omega (arith, span-pos l));
           inside = λ i a b. here i (omega arith) b;
         })
           where
             here : (i : ℕ) → p ≤ i → i < p + span l → bitAnd (changes s i) m ≡ 0
-            here i a b = place-same s m (times up (i - p) p) i (times-up (i - p) p ∙ omega arith) (none-here (i - p) (omega arith))
+            here i a b = place-same s m (times higher (i - p) p) i (times-up (i - p) p ∙ omega arith) (none-here (i - p) (omega arith))
 
   -- ---- backward
   module _ (lo : ℕ) where
@@ -111,7 +111,7 @@ module _ (has : ℕ → Bool) (reader : ℕ → ℕ → Node) (s : ℕ → ℕ) 
         back : lo + span l ≤ p → p - span l + span l ≡ p
         back h = omega arith
 
-    pub backward-sees : Sees (backward has reader lo) (λ (p : ℕ). p ≤ len) down (changed s m) m s
+    pub backward-sees : Sees (backward has reader lo) (λ (p : ℕ). p ≤ len) lower (changed s m) m s
     unfolding nodeOf
     backward-sees = record {
       room = λ l p t. omega (arith, behind-fits has reader lo l p t .room);
@@ -123,8 +123,8 @@ module _ (has : ℕ → Bool) (reader : ℕ → ℕ → Node) (s : ℕ → ℕ) 
       carries = λ l p t i. ap (λ (n : Node). n .first) (node-behind l p i t);
     }
       where
-        passes : (l p : ℕ) → Taken (backward has reader lo) l p → p ≤ len → quiet (mirror (reader l (p - span l))) (s p) m ≡ true → (j : ℕ) → j < span l → changed s m (times down j p) ≡ false
-        passes l p t i q j h = same-place s m (p - j) (times down j p) (sym (times-down j p)) (pick (ℕ-discrete j 0))
+        passes : (l p : ℕ) → Taken (backward has reader lo) l p → p ≤ len → quiet (mirror (reader l (p - span l))) (s p) m ≡ true → (j : ℕ) → j < span l → changed s m (times lower j p) ≡ false
+        passes l p t i q j h = same-place s m (p - j) (times lower j p) (sym (times-down j p)) (pick (ℕ-discrete j 0))
           where
             told : Quiet s (reader l (p - span l) .last) (s p) m (p - span l) p
             told = quiet-true s (mirror (reader l (p - span l))) (s p) m (p - span l) p (ap (λ (n : Node). n .toggles) (node-behind l p i t)) q
@@ -136,7 +136,7 @@ module _ (has : ℕ → Bool) (reader : ℕ → ℕ → Node) (s : ℕ → ℕ) 
                 ∙ told .border
             pick (no z) = told .inside (p - j) (omega (arith, behind-fits has reader lo l p t .room)) (omega (arith, t .some-left))
 
-        shows : (l p : ℕ) → Taken (backward has reader lo) l p → p ≤ len → ((j : ℕ) → j < span l → changed s m (times down j p) ≡ false) → quiet (mirror (reader l (p - span l))) (s p) m ≡ true
+        shows : (l p : ℕ) → Taken (backward has reader lo) l p → p ≤ len → ((j : ℕ) → j < span l → changed s m (times lower j p) ≡ false) → quiet (mirror (reader l (p - span l))) (s p) m ≡ true
         shows l p t i none-here = true-quiet s (mirror (reader l (p - span l))) (s p) m (p - span l) p (ap (λ (n : Node). n .toggles) (node-behind l p i t)) (omega (arith, room, span-pos l)) (record {
           border = ap (λ (n : Node). bitAnd (bitXor (n .last) (s p)) m) (node-behind l p i t) ∙ ap (λ (x : ℕ). bitAnd x m) (xor-comm (s (p - 1)) (s p)) ∙ here p (omega (arith, room, span-pos l)) (le-refl p);
           inside = λ i a b. here i a (omega arith);
@@ -146,17 +146,17 @@ module _ (has : ℕ → Bool) (reader : ℕ → ℕ → Node) (s : ℕ → ℕ) 
             room = behind-fits has reader lo l p t .room
 
             here : (i : ℕ) → p - span l < i → i ≤ p → bitAnd (changes s i) m ≡ 0
-            here i a b = place-same s m (times down (p - i) p) i (times-down (p - i) p ∙ omega arith) (none-here (p - i) (omega (arith, room)))
+            here i a b = place-same s m (times lower (p - i) p) i (times-down (p - i) p ∙ omega arith) (none-here (p - i) (omega (arith, room)))
 
   -- ---- over chunks
   abbrev AheadLinked : ℕ → ℕ → ℕ → Type 0
-  AheadLinked = Linked (ahead has reader len) (λ (p : ℕ). Unit {0}) up (changed s m) m (λ (p : ℕ). s (p - 1))
+  AheadLinked = Linked (ahead has reader len) (λ (p : ℕ). Unit {0}) higher (changed s m) m (λ (p : ℕ). s (p - 1))
 
   ahead-linked : (n c p : ℕ) → (0 < n → (c + n) * chunk < len + chunk) → c * chunk ≤ p → p ≤ (c + 1) * chunk → AheadLinked n c p
   ahead-linked zero c p h a b = end
   ahead-linked (suc n) c p h a b = link tt (forward-sees (min ((c + 1) * chunk) len) (omega arith)) joint (ahead-linked n (c + 1) ((c + 1) * chunk) (λ l. omega (arith, h (zero-lt-suc n))) (omega arith) (omega arith))
     where
-      joint : 0 < n → Joint (ahead has reader len) (λ (p : ℕ). Unit {0}) up (changed s m) m (λ (p : ℕ). s (p - 1)) c p
+      joint : 0 < n → Joint (ahead has reader len) (λ (p : ℕ). Unit {0}) higher (changed s m) m (λ (p : ℕ). s (p - 1)) c p
       joint l = record {
         meets = times-up (min ((c + 1) * chunk) len - p) p ∙ omega (arith, h (zero-lt-suc n));
         brings = ap (λ (x : Node). x .first) (sample-read ((c + 1) * chunk - 1) (omega (arith, h (zero-lt-suc n))));
@@ -168,13 +168,13 @@ module _ (has : ℕ → Bool) (reader : ℕ → ℕ → Node) (s : ℕ → ℕ) 
   ahead-total (suc n) c p h a b = ap (λ (x : ℕ). min ((c + 1) * chunk) len - p + x) (ahead-total n (c + 1) ((c + 1) * chunk) (omega arith) (omega arith) (omega arith)) ∙ omega arith
 
   abbrev BehindLinked : ℕ → ℕ → ℕ → Type 0
-  BehindLinked = Linked (behind has reader) (λ (p : ℕ). p ≤ len) down (changed s m) m s
+  BehindLinked = Linked (behind has reader) (λ (p : ℕ). p ≤ len) lower (changed s m) m s
 
   behind-linked : (n c p : ℕ) → n ≤ c + 1 → c * chunk ≤ p → p ≤ len → c * chunk < len → BehindLinked n c p
   behind-linked zero c p e a b l = end
   behind-linked (suc n) c p e a b l = link b (backward-sees (c * chunk)) joint (behind-linked n (c - 1) (c * chunk) (omega arith) (omega arith) (omega arith) (omega arith))
     where
-      joint : 0 < n → Joint (behind has reader) (λ (p : ℕ). p ≤ len) down (changed s m) m s c p
+      joint : 0 < n → Joint (behind has reader) (λ (p : ℕ). p ≤ len) lower (changed s m) m s c p
       joint k = record {
         meets = times-down (p - c * chunk) p ∙ omega arith;
         brings = ap (λ (x : Node). x .first) (sample-read (c * chunk) l);
@@ -196,15 +196,15 @@ module _ (has : ℕ → Bool) (reader : ℕ → ℕ → Node) (s : ℕ → ℕ) 
       go : Dec (from + 1 < len) → nextWalk has reader len m from .found ≡ next s len m from
       go (yes h) =
           ap (λ (b : Bool). cond b (chunks (ahead has reader len) m (chunksFor len - c) c (from + 1) (reader 0 from .first)) nothing .found) (lt-ltb (from + 1) len h)
-          ∙ chunks-find (ahead has reader len) (λ (p : ℕ). Unit {0}) up (changed s m) m (λ (p : ℕ). s (p - 1)) (chunksFor len - c) c (from + 1) (reader 0 from .first)
+          ∙ chunks-find (ahead has reader len) (λ (p : ℕ). Unit {0}) higher (changed s m) m (λ (p : ℕ). s (p - 1)) (chunksFor len - c) c (from + 1) (reader 0 from .first)
           (ahead-linked (chunksFor len - c) c (from + 1) (λ l. omega arith) (omega arith) (omega arith)) first
-          ∙ ap (seek up (changed s m) (from + 1)) (ahead-total (chunksFor len - c) c (from + 1) (omega arith) (omega arith) (omega arith))
+          ∙ ap (seek higher (changed s m) (from + 1)) (ahead-total (chunksFor len - c) c (from + 1) (omega arith) (omega arith) (omega arith))
         where
           first : reader 0 from .first ≡ s (from + 1 - 1)
           first = ap (λ (x : Node). x .first) (sample-read from (omega arith)) ∙ ap s (omega arith)
       go (no h) =
           ap (λ (b : Bool). cond b (chunks (ahead has reader len) m (chunksFor len - c) c (from + 1) (reader 0 from .first)) nothing .found) (le-ltb (from + 1) len (omega arith))
-          ∙ sym (unfold seek in ap (seek up (changed s m) (from + 1)) none-left)
+          ∙ sym (unfold seek in ap (seek higher (changed s m) (from + 1)) none-left)
         where
           none-left : len - (from + 1) ≡ 0
           none-left = omega arith
@@ -216,13 +216,13 @@ module _ (has : ℕ → Bool) (reader : ℕ → ℕ → Node) (s : ℕ → ℕ) 
       p = min from (len - 1)
 
       go : Dec (len ≡ 0) → previousWalk has reader len m from .found ≡ previous s len m from
-      go (yes z) = ap (λ (b : Bool). cond b nothing (previousFrom has reader m p) .found) (eq-eqb len 0 z) ∙ sym (unfold seek in ap (seek down (changed s m) p) none-left)
+      go (yes z) = ap (λ (b : Bool). cond b nothing (previousFrom has reader m p) .found) (eq-eqb len 0 z) ∙ sym (unfold seek in ap (seek lower (changed s m) p) none-left)
         where
           none-left : min from (len - 1) ≡ 0
           none-left = omega arith
       go (no z) =
           ap (λ (b : Bool). cond b nothing (previousFrom has reader m p) .found) (ne-eqb len 0 z)
-          ∙ chunks-find (behind has reader) (λ (p : ℕ). p ≤ len) down (changed s m) m s (p / chunk + 1) (p / chunk) p (reader 0 p .first)
+          ∙ chunks-find (behind has reader) (λ (p : ℕ). p ≤ len) lower (changed s m) m s (p / chunk + 1) (p / chunk) p (reader 0 p .first)
           (behind-linked (p / chunk + 1) (p / chunk) p (le-refl (p / chunk + 1)) (omega arith) (omega arith) (omega arith))
           (ap (λ (x : Node). x .first) (sample-read p (omega arith)))
-          ∙ ap (seek down (changed s m) p) (behind-total (p / chunk + 1) (p / chunk) p refl (omega arith))
+          ∙ ap (seek lower (changed s m) p) (behind-total (p / chunk + 1) (p / chunk) p refl (omega arith))

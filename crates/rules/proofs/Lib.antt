@@ -21,3 +21,11 @@ pub mod Row
 pub mod Mill
 pub mod Origin
 pub mod Examples
+pub mod BorderRows
+pub mod BorderStart
+pub mod BorderMill
+pub mod BorderNode
+pub mod BorderWalk
+pub mod BorderBurst
+pub mod BorderPixel
+pub mod BorderRun

@@ -6,9 +6,10 @@ use mathlib.Core.Logic.{_⊎_, inl, inr}
 use native.Mathlib.Nat.{add-suc, eq-or-lt-of-le}
 use native.Mathlib.Numerals.{add-one}
 use native.Mathlib.Omega.{arith}
-use lib.Bits.{bitAnd, bitOr, bitXor, or-zero-r, xor-comm}
+use lib.Bits.{bitAnd, bitOr, bitXor, or-zero-r, xor-comm, or-lt, xor-lt}
 use borrow.Author.Tests.{eqb-true, eq-eqb}
-use Rattle.rules.specs.Node.{Node, changes, togglesOf, nodeOf, join, leaf, mirror, cut, quiet}
+use Rattle.rules.specs.Sample.{maskBits, Word, cutLines}
+use Rattle.rules.specs.Node.{Node, Words, changes, togglesOf, nodeOf, join, leaf, mirror, cut, quiet}
 use Rattle.rules.proofs.Bits.{and-or, and-xor, or-zero, or-zero-left, or-zero-right, or-sort}
 
 -- ---- join
@@ -118,18 +119,32 @@ module _ (s : ℕ → ℕ) (n : Node) (v m a b : ℕ) (is : n .toggles ≡ toggl
   true-quiet h q = eq-eqb _ _ (test-is ∙ or-zero (q .border) (toggles-quiet s m a (b - 1 - a) (λ i l u. q .inside i l (omega arith))))
 
 -- ---- chosen lines
-abbrev pub cutTo : ℕ → (ℕ → ℕ) → ℕ → ℕ
-cutTo m s i = bitAnd (s i) m
-
-changes-cut : (m : ℕ) (s : ℕ → ℕ) (i : ℕ) → changes (cutTo m s) i ≡ bitAnd (changes s i) m
+changes-cut : (m : ℕ) (s : ℕ → ℕ) (i : ℕ) → changes (cutLines m s) i ≡ bitAnd (changes s i) m
 changes-cut m s i = sym (and-xor (s i) (s (i - 1)) m)
 
-toggles-cut : (m : ℕ) (s : ℕ → ℕ) (a n : ℕ) → togglesOf (cutTo m s) a n ≡ bitAnd (togglesOf s a n) m
+toggles-cut : (m : ℕ) (s : ℕ → ℕ) (a n : ℕ) → togglesOf (cutLines m s) a n ≡ bitAnd (togglesOf s a n) m
 unfolding togglesOf
 toggles-cut m s a zero = refl
 toggles-cut m s a (suc n) = ap₂ bitOr (toggles-cut m s a n) (changes-cut m s (a + suc n)) ∙ sym (and-or (togglesOf s a n) (changes s (a + suc n)) m)
 
 -- the node of chosen lines is the node, cut down
-pub node-cut : (m : ℕ) (s : ℕ → ℕ) (a b : ℕ) → nodeOf (cutTo m s) a b ≡ cut m (nodeOf s a b)
+pub node-cut : (m : ℕ) (s : ℕ → ℕ) (a b : ℕ) → nodeOf (cutLines m s) a b ≡ cut m (nodeOf s a b)
 unfolding nodeOf node
 node-cut m s a b = ap (node (bitAnd (s a) m) (bitAnd (s (b - 1)) m)) (toggles-cut m s a (b - 1 - a))
+
+-- ---- words: nodes of samples that a word holds, and their joins, have numbers that a word holds
+words-toggles : (s : ℕ → ℕ) → ((i : ℕ) → Word (s i)) → (a n : ℕ) → Word (togglesOf s a n)
+unfolding togglesOf
+words-toggles s h a zero = omega arith
+words-toggles s h a (suc n) = or-lt maskBits (togglesOf s a n) (changes s (a + suc n)) (words-toggles s h a n) (xor-lt maskBits (s (a + suc n)) (s (a + suc n - 1)) (h (a + suc n)) (h (a + suc n - 1)))
+
+pub node-words : (s : ℕ → ℕ) → ((i : ℕ) → Word (s i)) → (a b : ℕ) → Words (nodeOf s a b)
+unfolding nodeOf
+node-words s h a b = record { first = h a; last = h (b - 1); toggles = words-toggles s h a (b - 1 - a) }
+
+pub join-words : (l r : Node) → Words l → Words r → Words (join l r)
+join-words l r p q = record {
+  first = p .first;
+  last = q .last;
+  toggles = or-lt maskBits (bitOr (l .toggles) (r .toggles)) (bitXor (l .last) (r .first)) (or-lt maskBits (l .toggles) (r .toggles) (p .toggles) (q .toggles)) (xor-lt maskBits (l .last) (r .first) (p .last) (q .first));
+}

@@ -10,10 +10,10 @@ use lib.Dec.{eqb, leb·zero, leb·suc-zero, leb·suc-suc}
 use lib.IntN.{ℤ, pos, negsuc, negℤ, sucℤ, subℕ, _+ℤ_, _-ℤ_, +ℤ-sucℤ, sucℤ-+ℤ, +ℤ-idr, +ℤ-assoc, +ℤ-comm, +ℤ-invl, +ℤ-negℤ-cancel, -ℤ-+ℤ-cancel}
 use lib.Signed.{ltZ, leZ}
 use borrow.Author.Tests.{le-leb, lt-leb}
-use Rattle.rules.specs.Floor.{Whole, under, over, at, count}
+use Rattle.rules.specs.Floor.{Whole, under, over, at, natural}
 use Rattle.rules.specs.Floor
-use Rattle.rules.specs.Pixel.{View, Range, edge, below0, reaches, endOf, rangeOf, pixelRange, moved, rangeFrom}
-use Rattle.rules.specs.Mill.{counted}
+use Rattle.rules.specs.Pixel.{View, Range, pixelEdge, below0, reaches, endOf, rangeOf, pixelRange, moved, rangeFrom}
+use Rattle.rules.specs.Mill.{millPlace}
 
 -- ---- the rule, over whole numbers
 abbrev pub maxZ : ℤ → ℤ → ℤ
@@ -22,28 +22,28 @@ maxZ a b = cond (leZ a b) b a
 abbrev pub minZ : ℤ → ℤ → ℤ
 minZ a b = cond (leZ a b) a b
 
--- "b < lo". No edge of a view that is drawn is NaN
+-- 01's b < 0, with lo for 0. No edge of a view that is drawn is NaN
 abbrev pub belowZ : Whole → ℤ → Bool
 belowZ Floor.none lo = true
 belowZ under lo = true
 belowZ over lo = false
 belowZ (at b) lo = ltZ b lo
 
--- "a ≥ hi"
+-- 01's a ≥ len, with hi for len
 abbrev pub reachesZ : Whole → ℤ → Bool
 reachesZ Floor.none hi = false
 reachesZ under hi = false
 reachesZ over hi = true
 reachesZ (at a) hi = leZ hi a
 
--- "a = max(a, lo)"; only an edge that does not reach hi is asked for
+-- 01's max(a,0), with lo for 0; only an edge that does not reach hi is asked for
 abbrev pub startZ : Whole → ℤ → ℤ
 startZ Floor.none lo = lo
 startZ under lo = lo
 startZ over lo = lo
 startZ (at a) lo = maxZ a lo
 
--- "b = min(max(b, a+1) + 1, hi)"
+-- 01's min(max(b, a+1) + 1, len), with hi for len
 abbrev pub endZ : Whole → ℤ → ℤ → ℤ
 endZ Floor.none a hi = minZ (a +ℤ pos 1 +ℤ pos 1) hi
 endZ under a hi = minZ (a +ℤ pos 1 +ℤ pos 1) hi
@@ -54,14 +54,14 @@ pub record RangeZ : Type 0 where
   pub from : ℤ
   pub to : ℤ
 
--- "b < lo, a ≥ hi or len = 0: pixel 0, 0. Otherwise .."
+-- 01's rule of a pixel's range, with lo for 0 and hi for len
 abbrev pub rangeIn : ℤ → ℤ → Bool → Whole → Whole → Option RangeZ
 rangeIn lo hi empty a b = cond (belowZ b lo || reachesZ a hi || empty) none (some (record { from = startZ a lo; to = endZ b (startZ a lo) hi }))
 
 -- places of the run, as a mill counts them
 abbrev pub countedRange : ℕ → Option Range → Option RangeZ
 countedRange origin none = none
-countedRange origin (some r) = some (record { from = counted origin (r .from); to = counted origin (r .to) })
+countedRange origin (some r) = some (record { from = millPlace origin (r .from); to = millPlace origin (r .to) })
 
 -- ---- from the first place it is 01's
 still : (w : Whole) → moved (pos 0) w ≡ w
@@ -71,7 +71,7 @@ still over = refl
 still (at z) = ap at (+ℤ-idr z)
 
 pub from-first : (v : View) (len px : ℕ) → rangeFrom 0 v len px ≡ pixelRange v len px
-from-first v len px = ap₂ (λ (a b : Whole). rangeOf a b len) (still (edge v px)) (still (edge v (px + 1)))
+from-first v len px = ap₂ (λ (a b : Whole). rangeOf a b len) (still (pixelEdge v px)) (still (pixelEdge v (px + 1)))
 
 -- ---- with 0 and len for lo and hi it is 01's
 abbrev mapped : (ℤ → ℤ) → Option RangeZ → Option RangeZ
@@ -110,7 +110,7 @@ reaches-is over len = refl
 reaches-is (at (pos n)) len = refl
 reaches-is (at (negsuc k)) len = refl
 
-start-is : (a : Whole) → startZ a (pos 0) ≡ pos (count a)
+start-is : (a : Whole) → startZ a (pos 0) ≡ pos (natural a)
 start-is Floor.none = refl
 start-is under = refl
 start-is over = refl
@@ -128,10 +128,10 @@ in-is : (a b : Whole) (len : ℕ) → rangeIn (pos 0) (pos len) (eqb len 0) a b 
 in-is a b len =
     ap₂ (λ (t : Bool) (r : RangeZ). cond t none (some r))
     (ap₂ (λ (x y : Bool). x || y || eqb len 0) (below-is b) (reaches-is a len))
-    (ap₂ (λ (x y : ℤ). record { from = x; to = y }) (start-is a) (ap (λ (z : ℤ). endZ b z (pos len)) (start-is a) ∙ end-is b (count a) len))
+    (ap₂ (λ (x y : ℤ). record { from = x; to = y }) (start-is a) (ap (λ (z : ℤ). endZ b z (pos len)) (start-is a) ∙ end-is b (natural a) len))
     ∙ go (below0 b || reaches a len || eqb len 0)
   where
-    go : (t : Bool) → cond t none (some (record { from = pos (count a); to = pos (endOf b (count a) len) })) ≡ places (cond t none (some (record { from = count a; to = endOf b (count a) len })))
+    go : (t : Bool) → cond t none (some (record { from = pos (natural a); to = pos (endOf b (natural a) len) })) ≡ places (cond t none (some (record { from = natural a; to = endOf b (natural a) len })))
     go true = refl
     go false = refl
 
@@ -242,17 +242,17 @@ module _ (origin : ℕ) (v : View) (len px : ℕ) where
   counted-is none = refl
   counted-is (some r) = ap₂ (λ (x y : ℤ). some (record { from = x; to = y })) (difference (r .from) origin) (difference (r .to) origin)
 
-  pub from-origin : countedRange origin (rangeFrom origin v len px) ≡ rangeIn (negℤ (pos origin)) (pos len -ℤ pos origin) (eqb len 0) (edge v px) (edge v (px + 1))
+  pub from-origin : countedRange origin (rangeFrom origin v len px) ≡ rangeIn (negℤ (pos origin)) (pos len -ℤ pos origin) (eqb len 0) (pixelEdge v px) (pixelEdge v (px + 1))
   from-origin =
       counted-is (rangeFrom origin v len px)
       ∙ ap (mapped (λ z. z -ℤ pos origin))
       (sym (in-is a b len)
       ∙ ap₂ (λ (l h : ℤ). rangeIn l h (eqb len 0) a b) (sym (+ℤ-invl (pos origin))) (sym (-ℤ-+ℤ-cancel (pos len) (pos origin)))
-      ∙ up-in origin lo hi (eqb len 0) (edge v px) (edge v (px + 1)))
-      ∙ down-up (rangeIn lo hi (eqb len 0) (edge v px) (edge v (px + 1)))
+      ∙ up-in origin lo hi (eqb len 0) (pixelEdge v px) (pixelEdge v (px + 1)))
+      ∙ down-up (rangeIn lo hi (eqb len 0) (pixelEdge v px) (pixelEdge v (px + 1)))
     where
       a : Whole
-      a = moved (pos origin) (edge v px)
+      a = moved (pos origin) (pixelEdge v px)
 
       b : Whole
-      b = moved (pos origin) (edge v (px + 1))
+      b = moved (pos origin) (pixelEdge v (px + 1))

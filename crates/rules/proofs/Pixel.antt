@@ -11,7 +11,7 @@ use lib.Ieee.Exact.{HasValue}
 use lib.Ieee.Scale.{finite}
 use Rattle.rules.specs.Floor.{floorOf}
 use Rattle.rules.specs.Floor
-use Rattle.rules.specs.Pixel.{View, edge}
+use Rattle.rules.specs.Pixel.{View, pixelEdge}
 use Rattle.rules.proofs.Round.{Signed, round-signed}
 
 abbrev Number : Float → Type 0
@@ -68,8 +68,8 @@ floored (inf false) n e = let z : _≡_ {A = ℕ} 0 1 = cc in omega arith
 floored (fin s m d) n e = let z : _≡_ {A = ℕ} 0 1 = cc in omega arith
 
 -- render refuses a start or spp that is "infinite or not a number", so the edges that it draws by are no NaN's
-pub edge-number : (v : View) (px : ℕ) → px ≤ 2 ^ 53 → T (finite (v .start)) → T (finite (v .spp)) → edge v px ≡ Floor.none → ⊥
-unfolding edge ofInt
+pub edge-number : (v : View) (px : ℕ) → px ≤ 2 ^ 53 → T (finite (v .start)) → T (finite (v .spp)) → pixelEdge v px ≡ Floor.none → ⊥
+unfolding pixelEdge ofInt
 edge-number v px h a b =
     let x = ofInt binary64 (pos px) in
     floored (add binary64 (v .start) (mul binary64 x (v .spp)))

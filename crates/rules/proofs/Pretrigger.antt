@@ -12,8 +12,8 @@ use lib.Ieee.Back.{round-whole}
 use lib.Ieee.Exact.{HasValue, round-exact}
 use lib.Ieee.Fits.{down-pos}
 use lib.Ieee.Positive.{through}
-use Rattle.rules.specs.Floor.{floorOf, count}
-use Rattle.rules.specs.Pretrigger.{seconds, nought, most, clamp, times, fractionOf, Kept, ringCap, capped, secondsOf, keptOf}
+use Rattle.rules.specs.Floor.{floorOf, natural}
+use Rattle.rules.specs.Pretrigger.{seconds, nought, mostFraction, clamp, times, fractionOf, Pre, ringCap, capped, secondsOf, preFor}
 use Rattle.rules.proofs.Floor.{or-l, reversed}
 use Rattle.rules.proofs.Round.{Signed, Upto, le-upto, round-upto}
 
@@ -80,7 +80,7 @@ times-upto n p k l a b h L B u c v = go (round binary64 false n 1) p (round-whol
     go (fin false i d) (fin false m e) w u = round-upto binary64 (i * up d * (m * up e)) (down d * down e) a b (mul-pos (down-pos d) (down-pos e)) B (through (i * up d * (m * up e)) (n * k) a (down d * down e) l b L (scaled (i * up d) (down d) (m * up e) (down e) (w .1) u) c) v
 
 -- ---- "floor(limit × p)"
-count-upto : (x : Float) (a b : ℕ) → Upto a b x → count (floorOf x) * b ≤ a
+count-upto : (x : Float) (a b : ℕ) → Upto a b x → natural (floorOf x) * b ≤ a
 unfolding floorOf
 count-upto nan a b u = absurd u
 count-upto (inf s) a b u = absurd u
@@ -89,14 +89,14 @@ count-upto (fin false m e) a b u =
     le-of-mul-le-mul-right (le-trans (le-of-eq (mul-right-comm (m * up e / down e) b (down e))) (le-trans (mul-le-mul-right b (div-mul-le-self (m * up e) (down e))) u)) (down-pos e)
 
 -- 0.99 < 127 / 128, and 127 × limit / 128 is a binary64
-most-upto : Upto 127 128 most
-unfolding most
+most-upto : Upto 127 128 mostFraction
+unfolding mostFraction
 most-upto = lit≤ tt
 
 pub fraction-share : (limit : ℕ) (p : Float) → limit ≤ 2 ^ 46 → fractionOf limit p * 128 ≤ 127 * limit
 fraction-share limit p h =
-    count-upto (times limit (clamp most p)) (127 * limit) 128
-    (times-upto limit (clamp most p) 127 128 (127 * limit) 128 (le-trans h (lit≤ tt)) (lit< tt) (lit< tt) (clamp-upto most p 127 128 most-upto) (le-of-eq (ap (λ (z : ℕ). z * 128) (mul-comm limit 127)))
+    count-upto (times limit (clamp mostFraction p)) (127 * limit) 128
+    (times-upto limit (clamp mostFraction p) 127 128 (127 * limit) 128 (le-trans h (lit≤ tt)) (lit< tt) (lit< tt) (clamp-upto mostFraction p 127 128 most-upto) (le-of-eq (ap (λ (z : ℕ). z * 128) (mul-comm limit 127)))
     (round-exact binary64 false (127 * limit) 128 (127 * limit) 1067 (lit< tt) (small limit h) (lt-of-lt-of-le (shl-lt 53 1067 (small limit h)) (lit≤ tt)) (sym (mul-assoc (127 * limit) (2 ^ 1067) 128))))
   where
     small : (n : ℕ) → n ≤ 70368744177664 → 127 * n < 9007199254740992
@@ -110,12 +110,12 @@ fraction-below limit p l h = go (fractionOf limit p) limit l (fraction-share lim
     go n limit l h = omega arith
 
 -- "at most 67,108,864 / unit"
-pub seconds-kept : (t : Float) (limit rate unit : ℕ) → keptOf (seconds t) limit rate unit .samples ≤ ringCap unit
+pub seconds-kept : (t : Float) (limit rate unit : ℕ) → preFor (seconds t) limit rate unit .samples ≤ ringCap unit
 seconds-kept t limit rate unit = go (secondsOf rate t) (ringCap unit)
   where
     go : (wanted cap : ℕ) → capped wanted cap .samples ≤ cap
     go wanted cap = pick (ltb cap wanted) (nltb→le cap wanted)
       where
-        pick : (b : Bool) → (T (not b) → wanted ≤ cap) → cond {A = Kept} b (record { samples = cap; was-cut = true }) (record { samples = wanted; was-cut = false }) .samples ≤ cap
+        pick : (b : Bool) → (T (not b) → wanted ≤ cap) → cond {A = Pre} b (record { samples = cap; was-cut = true }) (record { samples = wanted; was-cut = false }) .samples ≤ cap
         pick true h = le-refl cap
         pick false h = h tt

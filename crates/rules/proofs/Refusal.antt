@@ -10,7 +10,7 @@ use native.Mathlib.Omega.{arith}
 use lib.Dec.{ltb, leb, eqb}
 use borrow.Author.Tests.{ltb-false, le-ltb, leb-false, lt-leb, eqb-true, eqb-false, eq-eqb, ne-eqb, not-false}
 use Rattle.rules.specs.Node.{topLevel}
-use Rattle.rules.specs.Refusal.{Store, mostSamples, Lent, Row, firstOf, unitWrong, markWrong, storeWrong, samplesNeed, levelNeed, levelShort, lentShort, storeRows, storeRefusal, Recorder, recorderWrong, ringNeed, pushRefusal}
+use Rattle.rules.specs.Refusal.{Store, mostSamples, Lent, Row, firstOf, unitWrong, markWrong, storeWrong, samplesNeed, levelNeed, levelShort, lentShort, storeRows, storeRefusal, Recorder, placeWrong, settingWrong, recorderWrong, ringNeed, ringShort, recorderRows, roomRow}
 
 -- ---- rows in order
 -- a row that is passed
@@ -197,7 +197,7 @@ pub record SoundRecorder (r : Recorder) (lent : Lent) (size : ℕ) : Type 0 wher
   pub len-limit : 0 < r .limit → r .store .len ≤ r .limit
   pub ring : ringNeed (r .pre) (r .store .unit) ≤ size
 
-place-right : (pre place : ℕ) → ((leb pre place && not (eqb pre 0 && eqb place 0)) ≡ false) ↔ (place < max pre 1)
+place-right : (pre place : ℕ) → (placeWrong pre place ≡ false) ↔ (place < max pre 1)
 place-right pre place = (λ e. go (leb pre place) refl (eqb pre 0) refl (eqb place 0) refl e, back (decLt place pre))
   where
     go : (b : Bool) → leb pre place ≡ b → (c : Bool) → eqb pre 0 ≡ c → (d : Bool) → eqb place 0 ≡ d → (b && not (c && d)) ≡ false → place < max pre 1
@@ -218,67 +218,77 @@ limit-right limit len = (λ e h. ltb-false limit len (rw (ne-eqb limit 0 (λ z. 
     back (no h) f = rw (eq-eqb limit 0 (omega arith))
 
 module _ (r : Recorder) (lent : Lent) (size : ℕ) where
-  abbrev row-1 : Bool
-  row-1 = recorderWrong r
+  -- the recorder's half of row 1
+  setting-right : (settingWrong r ≡ false) ↔ ((r .limit ≤ r .store .capacity) × (r .pre < r .store .capacity) × (r .kept ≤ r .pre) × (r .place < max (r .pre) 1) × (0 < r .limit → r .store .len ≤ r .limit))
+  setting-right = (down, up)
+    where
+      down : settingWrong r ≡ false → (r .limit ≤ r .store .capacity) × (r .pre < r .store .capacity) × (r .kept ≤ r .pre) × (r .place < max (r .pre) 1) × (0 < r .limit → r .store .len ≤ r .limit)
+      down e =
+          let w4 = neither _ _ .0 e in
+          let w3 = neither _ _ .0 (w4 .0) in
+          let w2 = neither _ _ .0 (w3 .0) in
+          let w1 = neither _ _ .0 (w2 .0) in (
+            ltb-false (r .store .capacity) (r .limit) (w1 .0),
+            leb-false (r .store .capacity) (r .pre) (w1 .1),
+            ltb-false (r .pre) (r .kept) (w2 .1),
+            place-right (r .pre) (r .place) .0 (w3 .1),
+            limit-right (r .limit) (r .store .len) .0 (w4 .1),
+          )
 
-  abbrev row-2 : Bool
-  row-2 = lentShort (r .store) lent || ltb size (ringNeed (r .pre) (r .store .unit))
+      up : (r .limit ≤ r .store .capacity) × (r .pre < r .store .capacity) × (r .kept ≤ r .pre) × (r .place < max (r .pre) 1) × (0 < r .limit → r .store .len ≤ r .limit) → settingWrong r ≡ false
+      up t =
+          neither _ _ .1 (
+            neither _ _ .1 (
+              neither _ _ .1 (neither _ _ .1 (le-ltb _ _ (t .0), lt-leb _ _ (t .1)), le-ltb _ _ (t .2)),
+              place-right (r .pre) (r .place) .1 (t .3),
+            ),
+            limit-right (r .limit) (r .store .len) .1 (t .4),
+          )
 
-  push-then : row-1 ≡ false → row-2 ≡ false → SoundRecorder r lent size
-  push-then e f =
-      let w5 = neither _ _ .0 e in
-      let w4 = neither _ _ .0 (w5 .0) in
-      let w3 = neither _ _ .0 (w4 .0) in
-      let w2 = neither _ _ .0 (w3 .0) in
-      let w1 = neither _ _ .0 (w2 .0) in
-      let l = neither (lentShort (r .store) lent) (ltb size (ringNeed (r .pre) (r .store .unit))) .0 f in
-      let s = rows-then (r .store) lent (w1 .0) (l .0) in
+  -- the bounds are what rows 1 and 2 let pass, and nothing else passes
+  recorder-then : recorderWrong r ≡ false → (lentShort (r .store) lent || ringShort r size) ≡ false → SoundRecorder r lent size
+  recorder-then e f =
+      let w = neither (storeWrong (r .store)) (settingWrong r) .0 e in
+      let t = setting-right .0 (w .1) in
+      let l = neither (lentShort (r .store) lent) (ringShort r size) .0 f in
+      let s = rows-then (r .store) lent (w .0) (l .0) in
       record {
         store = s .0;
         mark = s .1;
-        limit-most = ltb-false (r .store .capacity) (r .limit) (w1 .1);
-        pre-most = leb-false (r .store .capacity) (r .pre) (w2 .1);
-        kept-most = ltb-false (r .pre) (r .kept) (w3 .1);
-        place-inside = place-right (r .pre) (r .place) .0 (w4 .1);
-        len-limit = limit-right (r .limit) (r .store .len) .0 (w5 .1);
+        limit-most = t .0;
+        pre-most = t .1;
+        kept-most = t .2;
+        place-inside = t .3;
+        len-limit = t .4;
         ring = ltb-false size (ringNeed (r .pre) (r .store .unit)) (l .1);
       }
 
-  then-push-1 : SoundRecorder r lent size → row-1 ≡ false
-  then-push-1 s =
+  then-recorder-1 : SoundRecorder r lent size → recorderWrong r ≡ false
+  then-recorder-1 s =
       neither _ _ .1 (
-        neither _ _ .1 (
-          neither _ _ .1 (
-            neither _ _ .1 (
-              neither _ _ .1 (then-row-1 (r .store) lent (s .store) (s .mark), le-ltb _ _ (s .limit-most)),
-              lt-leb _ _ (s .pre-most),
-            ),
-            le-ltb _ _ (s .kept-most),
-          ),
-          place-right (r .pre) (r .place) .1 (s .place-inside),
-        ),
-        limit-right (r .limit) (r .store .len) .1 (s .len-limit),
+        then-row-1 (r .store) lent (s .store) (s .mark),
+        setting-right .1 (s .limit-most, s .pre-most, s .kept-most, s .place-inside, s .len-limit),
       )
 
-  then-push-2 : SoundRecorder r lent size → row-2 ≡ false
-  then-push-2 s = neither _ _ .1 (then-row-2 (r .store) lent (s .store), le-ltb _ _ (s .ring))
+  then-recorder-2 : SoundRecorder r lent size → (lentShort (r .store) lent || ringShort r size) ≡ false
+  then-recorder-2 s = neither _ _ .1 (then-row-2 (r .store) lent (s .store), le-ltb _ _ (s .ring))
 
-  -- n samples to store
-  module _ (n : ℕ) where
-    abbrev row-8 : Bool
-    row-8 = ltb (r .store .capacity) (r .store .len + n)
+  -- where the bounds hold, the further rows decide
+  pub recorder-rest : SoundRecorder r lent size → (rest : List Row) → firstOf (recorderRows r lent size rest) ≡ firstOf rest
+  recorder-rest s rest = rw (then-recorder-1 s, then-recorder-2 s)
 
-    -- where the bounds hold, 8 decides
-    pub push-room : SoundRecorder r lent size → pushRefusal r lent size n ≡ cond (ltb (r .store .capacity) (r .store .len + n)) 8 0
-    push-room s = rw (then-push-1 s, then-push-2 s)
+  pub recorder-passed : (rest : List Row) → (firstOf (recorderRows r lent size rest) ≡ 0) ↔ (SoundRecorder r lent size × (firstOf rest ≡ 0))
+  recorder-passed rest = (down, λ t. recorder-rest (t .0) rest ∙ t .1)
+    where
+      down : firstOf (recorderRows r lent size rest) ≡ 0 → SoundRecorder r lent size × (firstOf rest ≡ 0)
+      down e =
+          let t1 = row-passed 1 (cond (lentShort (r .store) lent || ringShort r size) 2 (firstOf rest)) (recorderWrong r) (omega arith) .0 e in
+          let t2 = row-passed 2 (firstOf rest) (lentShort (r .store) lent || ringShort r size) (omega arith) .0 (t1 .1) in
+          (recorder-then (t1 .0) (t2 .0), t2 .1)
 
-    -- 1, 2 and 8 let a push pass exactly when the bounds hold and n more samples have room
-    pub push-passed : (pushRefusal r lent size n ≡ 0) ↔ (SoundRecorder r lent size × (r .store .len + n ≤ r .store .capacity))
-    push-passed = (down, λ t. push-room (t .0) ∙ rw (le-ltb (r .store .capacity) (r .store .len + n) (t .1)))
-      where
-        down : pushRefusal r lent size n ≡ 0 → SoundRecorder r lent size × (r .store .len + n ≤ r .store .capacity)
-        down e =
-            let t1 = row-passed 1 (cond row-2 2 (cond row-8 8 0)) row-1 (omega arith) .0 e in
-            let t2 = row-passed 2 (cond row-8 8 0) row-2 (omega arith) .0 (t1 .1) in
-            let t8 = row-passed 8 0 row-8 (omega arith) .0 (t2 .1) in
-            (push-then (t1 .0) (t2 .0), ltb-false (r .store .capacity) (r .store .len + n) (t8 .0))
+  -- 1, 2 and 8 let n samples pass to the store exactly when the bounds hold and they have room
+  pub room-passed : (n : ℕ) → (firstOf (recorderRows r lent size (roomRow (r .store) n ∷ [])) ≡ 0) ↔ (SoundRecorder r lent size × (r .store .len + n ≤ r .store .capacity))
+  room-passed n = (
+    λ e. let t = recorder-passed (roomRow (r .store) n ∷ []) .0 e in (t .0, ltb-false _ _ (row-passed 8 0 (ltb (r .store .capacity) (r .store .len + n)) (omega arith) .0 (t .1) .0)),
+    λ t. recorder-passed (roomRow (r .store) n ∷ []) .1 (t .0, row-passed 8 0 (ltb (r .store .capacity) (r .store .len + n)) (omega arith) .1 (le-ltb _ _ (t .1), refl)),
+  )

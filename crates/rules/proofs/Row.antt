@@ -10,14 +10,14 @@ use lib.IntN.{pos, negsuc}
 use lib.ListN.{length}
 use borrow.Author.Tests.{leb-false, eqb-false}
 use Rattle.rules.specs.Node.{Node}
-use Rattle.rules.specs.Floor.{Whole, under, over, at, count}
+use Rattle.rules.specs.Floor.{Whole, under, over, at, natural}
 use Rattle.rules.specs.Floor
-use Rattle.rules.specs.Pixel.{View, Range, edge, below0, reaches, endOf, rangeOf, pixelRange, shown, rowBy, moved, rangeFrom}
+use Rattle.rules.specs.Pixel.{View, Range, pixelEdge, below0, reaches, endOf, rangeOf, pixelRange, shown, rowBy, moved, rangeFrom}
 use Rattle.rules.proofs.Refusal.{neither}
 
 -- ---- one pixel
 -- "a ≥ len" and "len = 0" do not hold
-starts : (a : Whole) (len : ℕ) → reaches a len ≡ false → 0 < len → count a < len
+starts : (a : Whole) (len : ℕ) → reaches a len ≡ false → 0 < len → natural a < len
 starts Floor.none len e h = h
 starts under len e h = h
 starts over len e h = let z : _≡_ {A = ℕ} 0 1 = cc in absurd (omega arith)
@@ -35,13 +35,13 @@ ends (at (negsuc n)) a len h = (omega arith, omega arith)
 pub range-inside : (a b : Whole) (len : ℕ) (r : Range) → rangeOf a b len ≡ some r → (r .from < r .to) × (r .to ≤ len)
 range-inside a b len r e = go (below0 b || reaches a len || eqb len 0) refl e
   where
-    go : (t : Bool) → (below0 b || reaches a len || eqb len 0) ≡ t → cond t none (some (record { from = count a; to = endOf b (count a) len })) ≡ some r → (r .from < r .to) × (r .to ≤ len)
+    go : (t : Bool) → (below0 b || reaches a len || eqb len 0) ≡ t → cond t none (some (record { from = natural a; to = endOf b (natural a) len })) ≡ some r → (r .from < r .to) × (r .to ≤ len)
     go true q e = absurd (Option·none-ne-some r e)
     go false q e =
         let p = neither (below0 b || reaches a len) (eqb len 0) .0 q in
         let h = starts a len (neither (below0 b) (reaches a len) .0 (p .0) .1) (omega (arith, eqb-false len 0 (p .1))) in
-        let is : record { from = count a; to = endOf b (count a) len } ≡ r = cc in
-        rw (← is) (ends b (count a) len h)
+        let is : record { from = natural a; to = endOf b (natural a) len } ≡ r = cc in
+        rw (← is) (ends b (natural a) len h)
 
 -- ---- a row
 shown-length : (node : ℕ → ℕ → Node) (r : Option Range) (rest : List ℕ) → length (shown node r rest) ≡ suc (suc (length rest))
@@ -59,10 +59,10 @@ abbrev pub Stored : (ℕ → Option Range) → ℕ → Type 0
 Stored range len = (px : ℕ) (r : Range) → range px ≡ some r → (r .from < r .to) × (r .to ≤ len)
 
 pub pixels-stored : (v : View) (len : ℕ) → Stored (pixelRange v len) len
-pixels-stored v len px r e = range-inside (edge v px) (edge v (px + 1)) len r e
+pixels-stored v len px r e = range-inside (pixelEdge v px) (pixelEdge v (px + 1)) len r e
 
 pub from-stored : (origin : ℕ) (v : View) (len : ℕ) → Stored (rangeFrom origin v len) len
-from-stored origin v len px r e = range-inside (moved (pos origin) (edge v px)) (moved (pos origin) (edge v (px + 1))) len r e
+from-stored origin v len px r e = range-inside (moved (pos origin) (pixelEdge v px)) (moved (pos origin) (pixelEdge v (px + 1))) len r e
 
 module _ (node₁ node₂ : ℕ → ℕ → Node) (range : ℕ → Option Range) (len : ℕ) (stored : Stored range len) (same : (a b : ℕ) → a < b → b ≤ len → node₁ a b ≡ node₂ a b) where
   shown-same : (r : Option Range) → ((x : Range) → r ≡ some x → (x .from < x .to) × (x .to ≤ len)) → (rest₁ rest₂ : List ℕ) → rest₁ ≡ rest₂ → shown node₁ r rest₁ ≡ shown node₂ r rest₂

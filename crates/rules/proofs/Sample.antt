@@ -6,7 +6,7 @@ use native.Mathlib.Nat.{add-zero, zero-add, add-mul, mul-le-mul-right, mul-div-c
 use native.Mathlib.Omega.{arith}
 use lib.ListN.{length, take, drop, getD, length-append, List·getD-append}
 use lib.Seq.{length-take-le, take-at, drop-at, getD-take, getD-drop}
-use Rattle.rules.specs.Sample.{little, sampleOf, listFrom, samplesOf, countOf}
+use Rattle.rules.specs.Sample.{little, sampleOf, listFrom, samplesOf, sampleCount}
 
 -- ---- lists of samples
 pub list-length : (s : ℕ → ℕ) (p n : ℕ) → length (listFrom s p n) ≡ n
@@ -134,11 +134,11 @@ pub from-after : (u : ℕ) (a b : List ℕ) (m p n : ℕ) → length a ≡ m * u
 from-after u a b m p n e = sym (from-drop u (a ++ b) m p n) ∙ ap (λ (x : List ℕ). listFrom (sampleOf u x) p n) (drop-at a b (m * u) e)
 
 -- ---- the samples of a push
-pub samples-length : (u : ℕ) (b : List ℕ) → length (samplesOf u b) ≡ countOf u b
-samples-length u b = list-length (sampleOf u b) 0 (countOf u b)
+pub samples-length : (u : ℕ) (b : List ℕ) → length (samplesOf u b) ≡ sampleCount u b
+samples-length u b = list-length (sampleOf u b) 0 (sampleCount u b)
 
-pub samples-at : (u : ℕ) (b : List ℕ) (i : ℕ) → i < countOf u b → getD (samplesOf u b) i 0 ≡ sampleOf u b i
-samples-at u b i h = list-at (sampleOf u b) 0 (countOf u b) i h ∙ ap (sampleOf u b) start
+pub samples-at : (u : ℕ) (b : List ℕ) (i : ℕ) → i < sampleCount u b → getD (samplesOf u b) i 0 ≡ sampleOf u b i
+samples-at u b i h = list-at (sampleOf u b) 0 (sampleCount u b) i h ∙ ap (sampleOf u b) start
   where
     start : 0 + i ≡ i
     start = omega arith
@@ -152,15 +152,15 @@ samples-short u r h = ap (listFrom (sampleOf u r) 0) (div-eq-of-lt h)
 pub samples-append : (u : ℕ) (a b : List ℕ) (n : ℕ) → 0 < u → length a ≡ n * u → samplesOf u (a ++ b) ≡ samplesOf u a ++ samplesOf u b
 samples-append u a b n pos e =
     ap (listFrom (sampleOf u (a ++ b)) 0) count
-    ∙ list-append (sampleOf u (a ++ b)) 0 n (countOf u b)
+    ∙ list-append (sampleOf u (a ++ b)) 0 n (sampleCount u b)
     ∙ ap₂ (λ (x y : List ℕ). x ++ y)
     (from-append u a b 0 n fits ∙ ap (listFrom (sampleOf u a) 0) (sym whole))
-    (ap (λ (p : ℕ). listFrom (sampleOf u (a ++ b)) p (countOf u b)) start ∙ from-after u a b n 0 (countOf u b) e)
+    (ap (λ (p : ℕ). listFrom (sampleOf u (a ++ b)) p (sampleCount u b)) start ∙ from-after u a b n 0 (sampleCount u b) e)
   where
-    count : countOf u (a ++ b) ≡ n + countOf u b
+    count : sampleCount u (a ++ b) ≡ n + sampleCount u b
     count = ap (λ (k : ℕ). k / u) (length-append a b ∙ ap (λ (k : ℕ). k + length b) e) ∙ mul-add-div-right pos n (length b)
 
-    whole : countOf u a ≡ n
+    whole : sampleCount u a ≡ n
     whole = ap (λ (k : ℕ). k / u) e ∙ mul-div-cancel n pos
 
     start : 0 + n ≡ n + 0
@@ -175,13 +175,13 @@ samples-leftover u b r n e h = samples-append u b r n (omega arith) e ∙ ap (λ
 
 -- the bytes of the whole samples alone
 abbrev pub wholeOf : ℕ → List ℕ → List ℕ
-wholeOf u b = take (countOf u b * u) b
+wholeOf u b = take (sampleCount u b * u) b
 
 pub samples-whole : (u : ℕ) (b : List ℕ) → 0 < u → samplesOf u (wholeOf u b) ≡ samplesOf u b
 samples-whole u b pos = ap (listFrom (sampleOf u (wholeOf u b)) 0) count ∙ from-take u b (n * u) 0 n (rw (zero-add n) (omega arith))
   where
     n : ℕ
-    n = countOf u b
+    n = sampleCount u b
 
-    count : countOf u (wholeOf u b) ≡ n
+    count : sampleCount u (wholeOf u b) ≡ n
     count = ap (λ (k : ℕ). k / u) (length-take-le (n * u) b (div-mul-le-self (length b) u)) ∙ mul-div-cancel n pos

@@ -6,7 +6,7 @@ use mathlib.Core.Logic.{_↔_}
 use mathlib.Core.Option.{Option, none, some}
 use native.Mathlib.Nat.{not-suc-le-zero, zero-lt-suc, add-zero, zero-add, suc-add}
 use native.Mathlib.Omega.{arith}
-use Rattle.rules.specs.Search.{changed, seek, up, down, next, previous}
+use Rattle.rules.specs.Search.{changed, seek, higher, lower, next, previous}
 use Rattle.rules.specs.Walk.{orFound}
 
 -- k steps from p
@@ -23,12 +23,12 @@ unfolding times
 times-add step zero j p = ap (λ (n : ℕ). times step n p) (zero-add j)
 times-add step (suc k) j p = ap (λ (n : ℕ). times step n p) (suc-add k j) ∙ times-add step k j (step p)
 
-pub times-up : (k p : ℕ) → times up k p ≡ p + k
+pub times-up : (k p : ℕ) → times higher k p ≡ p + k
 unfolding times
 times-up zero p = sym (add-zero p)
 times-up (suc k) p = times-up k (p + 1) ∙ omega arith
 
-pub times-down : (k p : ℕ) → times down k p ≡ p - k
+pub times-down : (k p : ℕ) → times lower k p ≡ p - k
 unfolding times
 times-down zero p = omega arith
 times-down (suc k) p = times-down k (p - 1) ∙ omega arith
@@ -113,16 +113,16 @@ module _ (s : ℕ → ℕ) (len mask from : ℕ) where
     least = λ j a b. ap (changed s mask) (sym (times-up (j - (from + 1)) (from + 1) ∙ omega arith)) ∙ f .before (j - (from + 1)) (omega (arith, place));
   }
     where
-      f : First up (changed s mask) (from + 1) (len - (from + 1)) i
-      f = seek-some up (changed s mask) (from + 1) (len - (from + 1)) i e
+      f : First higher (changed s mask) (from + 1) (len - (from + 1)) i
+      f = seek-some higher (changed s mask) (from + 1) (len - (from + 1)) i e
 
       place : i ≡ from + 1 + f .at
       place = f .is ∙ times-up (f .at) (from + 1)
 
   pub next-none : (next s len mask from ≡ none) ↔ ((j : ℕ) → from < j → j < len → changed s mask j ≡ false)
   next-none = (
-    λ e j a b. ap (changed s mask) (sym (times-up (j - (from + 1)) (from + 1) ∙ omega arith)) ∙ seek-none up (changed s mask) (from + 1) (len - (from + 1)) e (j - (from + 1)) (omega arith),
-    λ h. none-seek up (changed s mask) (from + 1) (len - (from + 1)) (λ j a. h (times up j (from + 1)) (omega (arith, times-up j (from + 1))) (omega (arith, times-up j (from + 1)))),
+    λ e j a b. ap (changed s mask) (sym (times-up (j - (from + 1)) (from + 1) ∙ omega arith)) ∙ seek-none higher (changed s mask) (from + 1) (len - (from + 1)) e (j - (from + 1)) (omega arith),
+    λ h. none-seek higher (changed s mask) (from + 1) (len - (from + 1)) (λ j a. h (times higher j (from + 1)) (omega (arith, times-up j (from + 1))) (omega (arith, times-up j (from + 1)))),
   )
 
   -- "largest such i with 1 ≤ i ≤ from"
@@ -142,8 +142,8 @@ module _ (s : ℕ → ℕ) (len mask from : ℕ) where
     most = λ j a b c. ap (changed s mask) (sym (times-down (min from (len - 1) - j) (min from (len - 1)) ∙ omega arith)) ∙ f .before (min from (len - 1) - j) (omega (arith, place, f .below));
   }
     where
-      f : First down (changed s mask) (min from (len - 1)) (min from (len - 1)) i
-      f = seek-some down (changed s mask) (min from (len - 1)) (min from (len - 1)) i e
+      f : First lower (changed s mask) (min from (len - 1)) (min from (len - 1)) i
+      f = seek-some lower (changed s mask) (min from (len - 1)) (min from (len - 1)) i e
 
       place : i ≡ min from (len - 1) - f .at
       place = f .is ∙ times-down (f .at) (min from (len - 1))
@@ -152,6 +152,6 @@ module _ (s : ℕ → ℕ) (len mask from : ℕ) where
   previous-none = (
     λ e j a b c.
         ap (changed s mask) (sym (times-down (min from (len - 1) - j) (min from (len - 1)) ∙ omega arith))
-        ∙ seek-none down (changed s mask) (min from (len - 1)) (min from (len - 1)) e (min from (len - 1) - j) (omega arith),
-    λ h. none-seek down (changed s mask) (min from (len - 1)) (min from (len - 1)) (λ j a. h (times down j (min from (len - 1))) (omega (arith, times-down j (min from (len - 1)))) (omega (arith, times-down j (min from (len - 1)))) (omega (arith, times-down j (min from (len - 1))))),
+        ∙ seek-none lower (changed s mask) (min from (len - 1)) (min from (len - 1)) e (min from (len - 1) - j) (omega arith),
+    λ h. none-seek lower (changed s mask) (min from (len - 1)) (min from (len - 1)) (λ j a. h (times lower j (min from (len - 1))) (omega (arith, times-down j (min from (len - 1)))) (omega (arith, times-down j (min from (len - 1)))) (omega (arith, times-down j (min from (len - 1))))),
   )

@@ -8,12 +8,12 @@ use Prim.Native.Nat.{ℕ, _+_, _-_, _≤_, _<_, min}
 use native.Mathlib.Decide.{decLt}
 use native.Mathlib.Omega.{arith}
 use lib.Dec.{leb, eqb, leb·zero}
-use lib.ListN.{length, take, drop, getD, length-take, length-drop, length-append}
+use lib.ListN.{length, take, drop, getD, length-take, length-drop, length-append, List·getD-append}
 use lib.Seq.{take-nil, drop-append-le, getD-drop}
 use borrow.Author.Tests.{lt-ltb, le-ltb, le-leb, leb-true, eqb-true, eqb-false, eq-eqb, ne-eqb}
 use Rattle.rules.specs.Sample.{samplesOf}
 use Rattle.rules.specs.Trigger.{Masks, Armed, unarmed, waiting, firstFire}
-use Rattle.rules.specs.Selection.{Rule, Selected, firedAt, notFired, chosen, limited, selection, accepts, accept, acceptedFrom, accepted, runOf, markOf, Reply, refused, going-on, complete, told, replyTo, repliesFrom, repliesOf}
+use Rattle.rules.specs.Selection.{Rule, Selected, firedAt, notFired, chosen, limited, selection, accepts, accept, acceptedFrom, accepted, runOf, markOf, Beside, stillArmed, firedOn, besideFor, besideOf, Reply, refused, going-on, complete, replyOf, told, replyTo, repliesFrom, repliesOf}
 use Rattle.rules.proofs.Sample.{wholeOf, samples-whole}
 use Rattle.rules.proofs.Trigger.{fire-le, fire-stays}
 
@@ -69,6 +69,31 @@ steady-or-quiet r xs = go (r .armed) refl
         by : Dec (firstFire m none xs < length xs) → Steady r xs ⊎ Quiet r xs
         by (yes h) = inl (has-fired m e h)
         by (no h) = inr (record { masks = m; armed = e; none-fires = omega (arith, fire-le m none xs) })
+
+-- ---- what is held beside the store
+-- still armed as long as none fires, and unarmed else
+pub beside-waits : (r : Rule) (xs : List ℕ) (q : Quiet r xs) → besideOf r xs ≡ stillArmed (q .masks) (r .pre) xs
+beside-waits r xs q =
+    ap (λ (a : Armed). besideFor a (r .pre) xs) (q .armed)
+    ∙ ap (λ (b : Bool). cond b (firedOn (getD xs (firstFire (q .masks) none xs) 0)) (stillArmed (q .masks) (r .pre) xs)) (le-ltb (firstFire (q .masks) none xs) (length xs) (omega (arith, q .none-fires)))
+
+pub beside-fired : (r : Rule) (xs : List ℕ) (m : Masks) → r .armed ≡ waiting m → firstFire m none xs < length xs → besideOf r xs ≡ firedOn (getD xs (firstFire m none xs) 0)
+beside-fired r xs m e h =
+    ap (λ (a : Armed). besideFor a (r .pre) xs) e
+    ∙ ap (λ (b : Bool). cond b (firedOn (getD xs (firstFire m none xs) 0)) (stillArmed m (r .pre) xs)) (lt-ltb (firstFire m none xs) (length xs) h)
+
+pub beside-unarmed : (r : Rule) (xs : List ℕ) → Steady r xs → besideOf r xs .armed ≡ unarmed
+beside-unarmed r xs (without-terms e) = ap (λ (a : Armed). besideFor a (r .pre) xs .armed) e
+beside-unarmed r xs (has-fired m e h) = ap (λ (b : Beside). b .armed) (beside-fired r xs m e h)
+
+-- firing and the lack of terms are for good
+pub beside-stays : (r : Rule) (xs ys : List ℕ) → Steady r xs → besideOf r (xs ++ ys) ≡ besideOf r xs
+beside-stays r xs ys (without-terms e) = ap (λ (a : Armed). besideFor a (r .pre) (xs ++ ys)) e ∙ sym (ap (λ (a : Armed). besideFor a (r .pre) xs) e)
+beside-stays r xs ys (has-fired m e h) =
+    beside-fired r (xs ++ ys) m e (omega (arith, fire-stays m none xs ys h, length-append xs ys))
+    ∙ ap (λ (t : ℕ). firedOn (getD (xs ++ ys) t 0)) (fire-stays m none xs ys h)
+    ∙ ap firedOn (List·getD-append xs ys 0 (firstFire m none xs) h)
+    ∙ sym (beside-fired r xs m e h)
 
 pub quiet-chosen : (r : Rule) (xs : List ℕ) → Quiet r xs → chosenBy r xs ≡ notFired
 quiet-chosen r xs q = chosen-none (r .armed) (q .masks) (r .pre) xs (q .armed) (q .none-fires)
@@ -192,12 +217,16 @@ abbrev pub NoneRefused : Rule → List ℕ → List (List ℕ) → Type 0
 NoneRefused r xs pushes = (n : ℕ) → List·Memᴰ (refused n) (repliesFrom r xs pushes) → ⊥
 
 told-accepted : (r : Rule) (xs : List ℕ) (n : ℕ) → refused n ≡ told r xs → ⊥
-told-accepted r xs n = go (eqb (r .limit) 0) (eqb (length (selection r xs .run)) (r .limit))
+told-accepted r xs n = by (besideOf r xs .armed)
   where
     go : (b c : Bool) → refused n ≡ cond b going-on (cond c complete going-on) → ⊥
     go true c e = let z : _≡_ {A = ℕ} 0 1 = cc in omega arith
     go false true e = let z : _≡_ {A = ℕ} 0 1 = cc in omega arith
     go false false e = let z : _≡_ {A = ℕ} 0 1 = cc in omega arith
+
+    by : (a : Armed) → refused n ≡ replyOf a (r .limit) (length (selection r xs .run)) → ⊥
+    by unarmed e = go (eqb (r .limit) 0) (eqb (length (selection r xs .run)) (r .limit)) e
+    by (waiting m) e = let z : _≡_ {A = ℕ} 0 1 = cc in omega arith
 
 -- an accepted push before a list
 accepted-cons : (r : Rule) (xs push : List ℕ) (pushes : List (List ℕ)) → accepts r xs push ≡ true → acceptedFrom r xs (push ∷ pushes) ≡ acceptedFrom r (xs ++ samplesOf (r .unit) push) pushes
@@ -285,22 +314,19 @@ module _ (r : Rule) (pos : 0 < r .unit) (pushes : List (List ℕ)) where
 -- ---- complete
 -- "complete exactly when the recorder is unarmed, limit is above 0 and len = limit"
 pub told-complete : (r : Rule) (xs : List ℕ) → (told r xs ≡ complete) ↔ (Steady r xs × (0 < r .limit) × (length (selection r xs .run) ≡ r .limit))
-told-complete r xs = (go (eqb (r .limit) 0) refl (eqb n (r .limit)) refl, λ t. rw (ne-eqb (r .limit) 0 (λ e. omega arith), eq-eqb n (r .limit) (t .2)))
+told-complete r xs = (λ e. by (steady-or-quiet r xs) e, back)
   where
     n : ℕ
     n = length (selection r xs .run)
 
-    full : 0 < r .limit → n ≡ r .limit → Steady r xs ⊎ Quiet r xs → Steady r xs
-    full p e (inl s) = s
-    full p e (inr q) = absurd (omega (arith, sym e ∙ ap length (quiet-run r xs q)))
+    go : Steady r xs → (b : Bool) → eqb (r .limit) 0 ≡ b → (c : Bool) → eqb n (r .limit) ≡ c → cond b going-on (cond c complete going-on) ≡ complete → Steady r xs × (0 < r .limit) × (n ≡ r .limit)
+    go s true eb c ec e = let z : _≡_ {A = ℕ} 0 1 = cc in absurd (omega arith)
+    go s false eb false ec e = let z : _≡_ {A = ℕ} 0 1 = cc in absurd (omega arith)
+    go s false eb true ec e = (s, omega (arith, eqb-false (r .limit) 0 eb), eqb-true n (r .limit) ec)
 
-    go : (b : Bool) → eqb (r .limit) 0 ≡ b → (c : Bool) → eqb n (r .limit) ≡ c → cond b going-on (cond c complete going-on) ≡ complete → Steady r xs × (0 < r .limit) × (n ≡ r .limit)
-    go true eb c ec e = let z : _≡_ {A = ℕ} 0 1 = cc in absurd (omega arith)
-    go false eb false ec e = let z : _≡_ {A = ℕ} 0 1 = cc in absurd (omega arith)
-    go false eb true ec e = (full some-limit is-full (steady-or-quiet r xs), some-limit, is-full)
-      where
-        some-limit : 0 < r .limit
-        some-limit = omega (arith, eqb-false (r .limit) 0 eb)
+    by : Steady r xs ⊎ Quiet r xs → told r xs ≡ complete → Steady r xs × (0 < r .limit) × (n ≡ r .limit)
+    by (inl s) e = go s (eqb (r .limit) 0) refl (eqb n (r .limit)) refl (rw (beside-unarmed r xs s) at e)
+    by (inr q) e = let z : _≡_ {A = ℕ} 0 1 = cc (beside-waits r xs q) in absurd (omega arith)
 
-        is-full : n ≡ r .limit
-        is-full = eqb-true n (r .limit) ec
+    back : Steady r xs × (0 < r .limit) × (n ≡ r .limit) → told r xs ≡ complete
+    back t = rw (beside-unarmed r xs (t .0), ne-eqb (r .limit) 0 (λ e. omega arith), eq-eqb n (r .limit) (t .2))

@@ -11,8 +11,8 @@ use borrow.Author.Tests.{ltb-false, le-ltb, leb-false, lt-leb, eqb-true, not-fal
 use Rattle.rules.specs.Sample.{unitOf}
 use Rattle.rules.specs.Pretrigger.{Pretrigger, fraction, seconds}
 use Rattle.rules.specs.Trigger.{Term}
-use Rattle.rules.specs.Selection.{Settings}
-use Rattle.rules.specs.Refusal.{Lent, Row, firstOf, fresh, ringNeed, topLine, lineWrong, wishWrong, numberWrong, preOf, startRefusal}
+use Rattle.rules.specs.Selection.{Settings, preOf}
+use Rattle.rules.specs.Refusal.{Lent, Row, firstOf, fresh, ringNeed, topLine, lineWrong, wishWrong, numberWrong, startRefusal}
 use Rattle.rules.proofs.Pretrigger.{fraction-below}
 use Rattle.rules.proofs.Refusal.{row-passed, neither, Sound, rows-passed}
 

@@ -14,3 +14,8 @@ unless (suc n) a = refused (suc n)
 abbrev pub seen : {A B : Type 0} → (A → B) → Answer A → Answer B
 seen f (refused n) = refused n
 seen f (given x) = given (f x)
+
+-- what is written where no row refuses, counted: nothing is copied or drawn where one does
+abbrev pub unrefused : ℕ → ℕ → ℕ
+unrefused zero k = k
+unrefused (suc n) k = 0

@@ -7,11 +7,11 @@ use Rattle.rules.specs.Search.{next, previous}
 use Rattle.rules.specs.Walk.{Counted, Walked, nextSearch, previousSearch}
 
 -- "sums of places above 2^64 − 1 count as that"
-abbrev pub most : ℕ
-most = 18446744073709551615
+abbrev pub mostPlace : ℕ
+mostPlace = 18446744073709551615
 
 abbrev pub sum : ℕ → ℕ → ℕ
-sum a b = min (a + b) most
+sum a b = min (a + b) mostPlace
 
 -- "each burst carries the jumps made at its two ends"
 pub record Burst : Type 0 where
@@ -160,4 +160,7 @@ burst s len mask sample gap tolerance budget = burstBy (previous s len mask) (ne
 
 -- and the nodes read for it
 abbrev pub burstSearch : (ℕ → ℕ) → ℕ → ℕ → ℕ → ℕ → ℕ → ℕ → Counted Burst
-burstSearch s len mask sample gap tolerance budget = burstedBy (previousSearch s len mask) (nextSearch s len mask) len sample gap tolerance budget
+burstSearch s len mask sample gap tolerance budget = record {
+  found = burst s len mask sample gap tolerance budget;
+  steps = stepsBy (previousSearch s len mask) (nextSearch s len mask) len sample gap tolerance budget;
+}

@@ -35,9 +35,9 @@ nearestOf (inf false) = over
 nearestOf (fin s m e) = at (nearestFin s m e)
 
 -- the whole number of a w that is one and not negative
-abbrev pub count : Whole → ℕ
-count none = 0
-count under = 0
-count over = 0
-count (at (pos n)) = n
-count (at (negsuc n)) = 0
+abbrev pub natural : Whole → ℕ
+natural none = 0
+natural under = 0
+natural over = 0
+natural (at (pos n)) = n
+natural (at (negsuc n)) = 0

@@ -10,4 +10,9 @@ pub mod Trigger
 pub mod Selection
 pub mod Refusal
 pub mod Answer
+pub mod Reading
+pub mod Wrong
+pub mod Start
+pub mod Ring
+pub mod Push
 pub mod Mill

@@ -16,8 +16,8 @@ originOf none = 0
 originOf (some mark) = mark
 
 -- the place i of the run, as a mill counts it
-abbrev pub counted : ℕ → ℕ → ℤ
-counted origin i = subℕ i origin
+abbrev pub millPlace : ℕ → ℕ → ℤ
+millPlace origin i = subℕ i origin
 
 -- the place of the run that a mill's place p is
 abbrev pub placeAt : ℕ → ℤ → ℕ
@@ -27,7 +27,7 @@ placeAt origin (negsuc n) = origin - suc n
 -- a place that is found, as a mill counts it
 abbrev pub shownPlace : ℕ → Option ℕ → Option ℤ
 shownPlace origin none = none
-shownPlace origin (some i) = some (counted origin i)
+shownPlace origin (some i) = some (millPlace origin i)
 
 -- a burst, as a mill counts its places
 pub record MillBurst : Type 0 where
@@ -38,7 +38,7 @@ pub record MillBurst : Type 0 where
 
 abbrev pub shownBurst : ℕ → Option Burst → Option MillBurst
 shownBurst origin none = none
-shownBurst origin (some b) = some (record { first = counted origin (b .first); last = counted origin (b .last); jumps-end = b .jumps-end; jumps-start = b .jumps-start })
+shownBurst origin (some b) = some (record { first = millPlace origin (b .first); last = millPlace origin (b .last); jumps-end = b .jumps-end; jumps-start = b .jumps-start })
 
 -- ---- 12: "a search or burst mask beyond the grant"
 abbrev pub beyond : ℕ → ℕ → Bool
@@ -48,12 +48,12 @@ abbrev pub beyondRow : Bool → Row
 beyondRow b = record { number = 12; holds = b }
 
 -- ---- 13: "a place before the first sample"
-abbrev pub before : ℕ → ℤ → Bool
-before origin (pos n) = false
-before origin (negsuc n) = ltb origin (suc n)
+abbrev pub beforeFirst : ℕ → ℤ → Bool
+beforeFirst origin (pos n) = false
+beforeFirst origin (negsuc n) = ltb origin (suc n)
 
 abbrev pub beforeRow : Option ℕ → ℤ → Row
-beforeRow mark p = record { number = 13; holds = before (originOf mark) p }
+beforeRow mark p = record { number = 13; holds = beforeFirst (originOf mark) p }
 
 -- ---- "It refuses with 12 .. and then with 13 .., both after 2 and ahead of 9"; extent and render refuse as to service readers
 -- next, previous and burst

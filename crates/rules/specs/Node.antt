@@ -4,12 +4,18 @@ use mathlib.Core.Bool.{Bool}
 use Prim.Native.Nat.{ℕ, zero, suc, _+_, _-_, _*_, _/_, _^_, min}
 use lib.Bits.{bitAnd, bitOr, bitXor}
 use lib.Dec.{eqb}
+use Rattle.rules.specs.Sample.{Word, cutTo}
 
 -- "Three 16-bit numbers: first, last, toggles."
 pub record Node : Type 0 where
   pub first : ℕ
   pub last : ℕ
   pub toggles : ℕ
+
+pub record Words (n : Node) : Type 0 where
+  pub first : Word (n .first)
+  pub last : Word (n .last)
+  pub toggles : Word (n .toggles)
 
 -- the lines that differ between place i and the one before it
 abbrev pub changes : (ℕ → ℕ) → ℕ → ℕ
@@ -38,7 +44,7 @@ mirror n = record { first = n .last; last = n .first; toggles = n .toggles }
 
 -- "Cutting down takes first, last and toggles AND that mask" (01, Lists of pushes)
 abbrev pub cut : ℕ → Node → Node
-cut mask n = record { first = bitAnd (n .first) mask; last = bitAnd (n .last) mask; toggles = bitAnd (n .toggles) mask }
+cut v n = record { first = cutTo v (n .first); last = cutTo v (n .last); toggles = cutTo v (n .toggles) }
 
 -- "No masked change against the value before, nor inside" (01, Search)
 abbrev pub quiet : Node → ℕ → ℕ → Bool
@@ -56,6 +62,10 @@ span l = 32 ^ l
 -- "A chunk is 1,048,576 samples, 32^4."
 abbrev pub chunk : ℕ
 chunk = 1048576
+
+-- where the stored samples of chunk c end
+abbrev pub chunkEnd : ℕ → ℕ → ℕ
+chunkEnd len c = min ((c + 1) * chunk) len
 
 -- "Level l needs ceil(capacity / 32^l) nodes."
 abbrev pub nodesFor : ℕ → ℕ → ℕ

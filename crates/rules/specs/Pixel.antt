@@ -3,12 +3,12 @@ use mathlib.Core.Bool.{Bool, true, false, cond, _||_}
 use mathlib.Core.List.{List, [], _∷_, map}
 use mathlib.Core.Option.{Option, none, some}
 use Prim.Native.Nat.{ℕ, zero, suc, _+_, min, max}
-use lib.Bits.{bitAnd}
 use lib.Dec.{leb, eqb}
 use lib.IntN.{ℤ, pos, negsuc, _+ℤ_}
 use lib.Ieee.{Float, binary64, add, mul, ofInt}
+use Rattle.rules.specs.Sample.{cutTo}
 use Rattle.rules.specs.Node.{Node, nodeOf}
-use Rattle.rules.specs.Floor.{Whole, under, over, at, floorOf, count}
+use Rattle.rules.specs.Floor.{Whole, under, over, at, floorOf, natural}
 use Rattle.rules.specs.Floor
 
 -- "A view is a record of two binary64 numbers, start and spp (samples per pixel)."
@@ -17,8 +17,8 @@ pub record View : Type 0 where
   pub spp : Float
 
 -- "floor(start + px × spp) ..: the product is rounded, then the sum, and then the floor is taken"
-unfoldable pub edge : View → ℕ → Whole
-edge v px = floorOf (add binary64 (v .start) (mul binary64 (ofInt binary64 (pos px)) (v .spp)))
+unfoldable pub pixelEdge : View → ℕ → Whole
+pixelEdge v px = floorOf (add binary64 (v .start) (mul binary64 (ofInt binary64 (pos px)) (v .spp)))
 
 -- "b < 0". No edge of a view that is drawn is NaN
 abbrev pub below0 : Whole → Bool
@@ -51,11 +51,11 @@ pub record Range : Type 0 where
 
 -- "b < 0, a ≥ len or len = 0: pixel 0, 0. Otherwise a = max(a,0), b = .."
 abbrev pub rangeOf : Whole → Whole → ℕ → Option Range
-rangeOf a b len = cond (below0 b || reaches a len || eqb len 0) none (some (record { from = count a; to = endOf b (count a) len }))
+rangeOf a b len = cond (below0 b || reaches a len || eqb len 0) none (some (record { from = natural a; to = endOf b (natural a) len }))
 
 -- "Pixel px, from 0, has a = .. and b the same with px + 1"
 abbrev pub pixelRange : View → ℕ → ℕ → Option Range
-pixelRange v len px = rangeOf (edge v px) (edge v (px + 1)) len
+pixelRange v len px = rangeOf (pixelEdge v px) (pixelEdge v (px + 1)) len
 
 -- "the pixel is first and toggles of [a,b)"; where there is no range, 0 and 0
 abbrev pub shown : (ℕ → ℕ → Node) → Option Range → List ℕ → List ℕ
@@ -73,7 +73,7 @@ render s len v width = rowBy (nodeOf s) (pixelRange v len) 0 width
 
 -- "Cutting down takes first .. and toggles AND that mask", of every pixel
 abbrev pub cutPixels : ℕ → List ℕ → List ℕ
-cutPixels v row = map (λ x. bitAnd x v) row
+cutPixels v row = map (cutTo v) row
 
 -- ---- a view that counts from another place than the first
 -- a whole number with d added
@@ -85,4 +85,4 @@ moved d (at z) = at (z +ℤ d)
 
 -- CR 1: "In render, −mark and len − mark stand for 0 and len": the places of the run that pixel px covers, where the view counts from origin
 abbrev pub rangeFrom : ℕ → View → ℕ → ℕ → Option Range
-rangeFrom origin v len px = rangeOf (moved (pos origin) (edge v px)) (moved (pos origin) (edge v (px + 1))) len
+rangeFrom origin v len px = rangeOf (moved (pos origin) (pixelEdge v px)) (moved (pos origin) (pixelEdge v (px + 1))) len

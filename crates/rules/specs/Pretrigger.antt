@@ -4,7 +4,7 @@ use Prim.Native.Nat.{ℕ, _/_}
 use lib.Dec.{ltb}
 use lib.IntN.{pos}
 use lib.Ieee.{Float, fin, binary64, lt, mul, round, ofInt}
-use Rattle.rules.specs.Floor.{floorOf, nearestOf, count}
+use Rattle.rules.specs.Floor.{floorOf, nearestOf, natural}
 
 -- "the pre-trigger wish is either Fraction(p) or Seconds(t)"
 pub data Pretrigger : Type 0 where
@@ -17,9 +17,9 @@ abbrev pub one : Float
 one = fin false 1 (pos 0)
 
 -- 0.99, the binary64 nearest to 99 / 100
-unfoldable pub most : Float
+unfoldable pub mostFraction : Float
 unfolding round
-most = round binary64 false 99 100
+mostFraction = round binary64 false 99 100
 
 -- "p clamped to 0..0.99", "t clamped to 0..1"
 abbrev pub clamp : Float → Float → Float
@@ -31,14 +31,14 @@ times n p = mul binary64 (ofInt binary64 (pos n)) p
 
 -- "floor(limit × p), p clamped to 0..0.99"
 abbrev pub fractionOf : ℕ → Float → ℕ
-fractionOf limit p = count (floorOf (times limit (clamp most p)))
+fractionOf limit p = natural (floorOf (times limit (clamp mostFraction p)))
 
 -- "t clamped to 0..1, times rate .., rounded with halves away from zero"
 abbrev pub secondsOf : ℕ → Float → ℕ
-secondsOf rate t = count (nearestOf (times rate (clamp one t)))
+secondsOf rate t = natural (nearestOf (times rate (clamp one t)))
 
 -- the samples kept, and the flag
-pub record Kept : Type 0 where
+pub record Pre : Type 0 where
   pub samples : ℕ
   pub was-cut : Bool
 
@@ -47,10 +47,10 @@ abbrev pub ringCap : ℕ → ℕ
 ringCap unit = 67108864 / unit
 
 -- ", and a flag says whether that cut it"
-abbrev pub capped : ℕ → ℕ → Kept
+abbrev pub capped : ℕ → ℕ → Pre
 capped wanted cap = cond (ltb cap wanted) (record { samples = cap; was-cut = true }) (record { samples = wanted; was-cut = false })
 
 -- "(no under Fraction)"
-abbrev pub keptOf : Pretrigger → ℕ → ℕ → ℕ → Kept
-keptOf (fraction p) limit rate unit = record { samples = fractionOf limit p; was-cut = false }
-keptOf (seconds t) limit rate unit = capped (secondsOf rate t) (ringCap unit)
+abbrev pub preFor : Pretrigger → ℕ → ℕ → ℕ → Pre
+preFor (fraction p) limit rate unit = record { samples = fractionOf limit p; was-cut = false }
+preFor (seconds t) limit rate unit = capped (secondsOf rate t) (ringCap unit)

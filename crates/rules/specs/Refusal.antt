@@ -10,9 +10,9 @@ use Rattle.rules.specs.Node.{nodesFor, topLevel}
 use Rattle.rules.specs.Sample.{unitOf}
 use Rattle.rules.specs.Burst.{sum}
 use Rattle.rules.specs.Pixel.{View}
-use Rattle.rules.specs.Pretrigger.{Pretrigger, fraction, seconds, keptOf}
+use Rattle.rules.specs.Pretrigger.{Pretrigger, fraction, seconds}
 use Rattle.rules.specs.Trigger.{Term, Armed}
-use Rattle.rules.specs.Selection.{Settings}
+use Rattle.rules.specs.Selection.{Settings, preOf}
 
 -- "Store. Unit, capacity (1 to 67,108,864 samples), len, mark (absent, or a place at most len)."
 pub record Store : Type 0 where
@@ -89,8 +89,11 @@ abbrev pub fresh : ℕ → ℕ → Store
 fresh channels capacity = record { unit = unitOf channels; capacity = capacity; len = 0; mark = none }
 
 -- ---- 8: "len plus the samples to store > capacity"
+abbrev pub roomRow : Store → ℕ → Row
+roomRow st n = record { number = 8; holds = ltb (st .capacity) (st .len + n) }
+
 abbrev pub appendRefusal : Store → Lent → ℕ → ℕ
-appendRefusal st lent n = firstOf (storeRows st lent (record { number = 8; holds = ltb (st .capacity) (st .len + n) } ∷ []))
+appendRefusal st lent n = firstOf (storeRows st lent (roomRow st n ∷ []))
 
 -- ---- 9: "i ≥ len"
 abbrev pub getRow : ℕ → ℕ → Row
@@ -134,28 +137,36 @@ pub record Recorder : Type 0 where
   pub place : ℕ
   pub kept : ℕ
 
+-- "ring place ≥ pre unless both are 0"
+abbrev pub placeWrong : ℕ → ℕ → Bool
+placeWrong pre place = leb pre place && not (eqb pre 0 && eqb place 0)
+
 -- 1: "in a recorder after start also limit > capacity, pre ≥ capacity, kept > pre, ring place ≥ pre unless both are 0, len > a nonzero limit"
-abbrev pub recorderWrong : Recorder → Bool
-recorderWrong r =
-    storeWrong (r .store)
-    || ltb (r .store .capacity) (r .limit)
+abbrev pub settingWrong : Recorder → Bool
+settingWrong r =
+    ltb (r .store .capacity) (r .limit)
     || leb (r .store .capacity) (r .pre)
     || ltb (r .pre) (r .kept)
-    || (leb (r .pre) (r .place) && not (eqb (r .pre) 0 && eqb (r .place) 0))
+    || placeWrong (r .pre) (r .place)
     || (not (eqb (r .limit) 0) && ltb (r .limit) (r .store .len))
+
+abbrev pub recorderWrong : Recorder → Bool
+recorderWrong r = storeWrong (r .store) || settingWrong r
 
 -- "Ring memory needs pre × unit bytes"
 abbrev pub ringNeed : ℕ → ℕ → ℕ
 ringNeed pre unit = pre * unit
 
--- push: 1, 2, 8; n are the samples to store
-abbrev pub pushRefusal : Recorder → Lent → ℕ → ℕ → ℕ
-pushRefusal r lent ring n =
-    firstOf
-    (record { number = 1; holds = recorderWrong r }
-    ∷ record { number = 2; holds = lentShort (r .store) lent || ltb ring (ringNeed (r .pre) (r .store .unit)) }
-    ∷ record { number = 8; holds = ltb (r .store .capacity) (r .store .len + n) }
-    ∷ [])
+abbrev pub ringShort : Recorder → ℕ → Bool
+ringShort r ring = ltb ring (ringNeed (r .pre) (r .store .unit))
+
+-- rows 1 and 2 of a recorder after start, `ring` bytes of ring memory lent
+abbrev pub recorderRows : Recorder → Lent → ℕ → List Row → List Row
+recorderRows r lent ring rest =
+    record { number = 1; holds = recorderWrong r } ∷ record { number = 2; holds = lentShort (r .store) lent || ringShort r ring } ∷ rest
+
+abbrev pub recorderRefusal : Recorder → Lent → ℕ → ℕ
+recorderRefusal r lent ring = firstOf (recorderRows r lent ring [])
 
 -- ---- a recorder's start
 -- 3: "a term's line above 15"
@@ -176,16 +187,24 @@ abbrev pub numberWrong : Pretrigger → ℕ → Bool
 numberWrong (fraction p) rate = isNan p
 numberWrong (seconds t) rate = isNan t || ltb 1000000000 rate
 
-abbrev pub preOf : Settings → ℕ
-preOf st = keptOf (st .wish) (st .limit) (st .rate) (unitOf (st .channels)) .samples
+-- rows 1 to 6, which come before the samples kept are worked out; `lines` says whether a line is wrong
+abbrev pub settingsRows : Store → Lent → ℕ → Bool → Pretrigger → ℕ → List Row → List Row
+settingsRows st lent limit lines wish rate rest =
+    storeRows st lent
+    (record { number = 3; holds = lines }
+    ∷ record { number = 4; holds = ltb (st .capacity) limit }
+    ∷ record { number = 5; holds = wishWrong wish limit }
+    ∷ record { number = 6; holds = numberWrong wish rate }
+    ∷ rest)
+
+-- 7: "pre ≥ capacity, or ring too short"
+abbrev pub preRow : Store → ℕ → ℕ → Row
+preRow st pre ring = record { number = 7; holds = leb (st .capacity) pre || ltb ring (ringNeed pre (st .unit)) }
+
+abbrev pub startRows : Settings → Lent → ℕ → List Row
+startRows st lent ring =
+    let store = fresh (st .channels) (st .capacity) in
+    settingsRows store lent (st .limit) (lineWrong (st .terms)) (st .wish) (st .rate) (preRow store (preOf st) ring ∷ [])
 
 abbrev pub startRefusal : Settings → Lent → ℕ → ℕ
-startRefusal st lent ring =
-    firstOf
-    (storeRows (fresh (st .channels) (st .capacity)) lent
-    (record { number = 3; holds = lineWrong (st .terms) }
-    ∷ record { number = 4; holds = ltb (st .capacity) (st .limit) }
-    ∷ record { number = 5; holds = wishWrong (st .wish) (st .limit) }
-    ∷ record { number = 6; holds = numberWrong (st .wish) (st .rate) }
-    ∷ record { number = 7; holds = leb (st .capacity) (preOf st) || ltb ring (ringNeed (preOf st) (unitOf (st .channels))) }
-    ∷ []))
+startRefusal st lent ring = firstOf (startRows st lent ring)

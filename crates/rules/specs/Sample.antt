@@ -1,7 +1,9 @@
 -- Samples, and the bytes that hold them. 01: Records, Sample; Store.
+use mathlib.Core.Path.{_≡_}
 use mathlib.Core.Bool.{cond}
 use mathlib.Core.List.{List, [], _∷_}
-use Prim.Native.Nat.{ℕ, zero, suc, _+_, _*_, _/_, _%_, _^_}
+use Prim.Native.Nat.{ℕ, zero, suc, _+_, _*_, _/_, _%_, _^_, _<_}
+use lib.Bits.{bitAnd}
 use lib.Dec.{ltb}
 use lib.ListN.{length, getD}
 
@@ -19,8 +21,8 @@ unfoldable pub sampleOf : ℕ → List ℕ → ℕ → ℕ
 sampleOf unit bytes i = little unit bytes (i * unit)
 
 -- "Append takes floor(bytes / unit) samples; a leftover byte is dropped."
-abbrev pub countOf : ℕ → List ℕ → ℕ
-countOf unit bytes = length bytes / unit
+abbrev pub sampleCount : ℕ → List ℕ → ℕ
+sampleCount unit bytes = length bytes / unit
 
 -- n samples from place p on, as a list
 unfoldable pub listFrom : (ℕ → ℕ) → ℕ → ℕ → List ℕ
@@ -29,8 +31,29 @@ listFrom s p (suc n) = s p ∷ listFrom s (p + 1) n
 
 -- the whole samples of one push
 abbrev pub samplesOf : ℕ → List ℕ → List ℕ
-samplesOf unit bytes = listFrom (sampleOf unit bytes) 0 (countOf unit bytes)
+samplesOf unit bytes = listFrom (sampleOf unit bytes) 0 (sampleCount unit bytes)
 
--- "A mask is 16 bits, bit k for line k": line k of a sample or a mask
+-- ---- lines
+-- "A mask is 16 bits, bit k for line k."
+abbrev pub maskBits : ℕ
+maskBits = 16
+
+-- a number that a mask's word holds; a node's numbers are such ("Three 16-bit numbers", 01, Records)
+abbrev pub Word : ℕ → Type 0
+Word n = n < 2 ^ maskBits
+
+-- line k of a sample or a mask
 unfoldable pub line : ℕ → ℕ → ℕ
 line v k = v / 2 ^ k % 2
+
+-- "A mask within it has no other bit." (01, Lists of pushes)
+abbrev pub Within : ℕ → ℕ → Type 0
+Within mask v = bitAnd mask v ≡ mask
+
+-- "Cutting down takes .. AND that mask" (01, Lists of pushes): of one number
+abbrev pub cutTo : ℕ → ℕ → ℕ
+cutTo v x = bitAnd x v
+
+-- and of every sample: its chosen lines, as a viewer and a mill see it
+abbrev pub cutLines : ℕ → (ℕ → ℕ) → ℕ → ℕ
+cutLines v s i = cutTo v (s i)

@@ -15,19 +15,23 @@ unfoldable pub seek : (ℕ → ℕ) → (ℕ → Bool) → ℕ → ℕ → Optio
 seek step test p zero = none
 seek step test p (suc n) = cond (test p) (some p) (seek step test (step p) n)
 
-abbrev pub up : ℕ → ℕ
-up p = p + 1
+abbrev pub higher : ℕ → ℕ
+higher p = p + 1
 
-abbrev pub down : ℕ → ℕ
-down p = p - 1
+abbrev pub lower : ℕ → ℕ
+lower p = p - 1
 
 -- "Next(mask, from): smallest i with from < i < len and .. nonzero"
 abbrev pub next : (ℕ → ℕ) → ℕ → ℕ → ℕ → Option ℕ
-next s len mask from = seek up (changed s mask) (from + 1) (len - (from + 1))
+next s len mask from = seek higher (changed s mask) (from + 1) (len - (from + 1))
+
+-- "min(from, len−1)": where a search backward starts
+abbrev pub startBack : ℕ → ℕ → ℕ
+startBack len from = min from (len - 1)
 
 -- "Previous: largest such i with 1 ≤ i ≤ from", and i < len
 abbrev pub previous : (ℕ → ℕ) → ℕ → ℕ → ℕ → Option ℕ
-previous s len mask from = seek down (changed s mask) (min from (len - 1)) (min from (len - 1))
+previous s len mask from = seek lower (changed s mask) (startBack len from) (startBack len from)
 
 -- "Summary(a,b) is the node of [a, min(b,len)), or none if empty."
 abbrev pub summary : (ℕ → ℕ) → ℕ → ℕ → ℕ → Option Node

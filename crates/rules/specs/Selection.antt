@@ -2,12 +2,12 @@
 use mathlib.Core.Bool.{Bool, cond}
 use mathlib.Core.List.{List, [], _∷_, _++_}
 use mathlib.Core.Option.{Option, none, some}
-use Prim.Native.Nat.{ℕ, _-_, min}
+use Prim.Native.Nat.{ℕ, _-_, _%_, min}
 use lib.Dec.{ltb, leb, eqb}
-use lib.ListN.{length, take, drop}
+use lib.ListN.{length, take, drop, getD}
 use Rattle.rules.specs.Sample.{unitOf, samplesOf}
-use Rattle.rules.specs.Pretrigger.{Pretrigger, keptOf}
-use Rattle.rules.specs.Trigger.{Term, Armed, unarmed, waiting, armedOf, firstFire}
+use Rattle.rules.specs.Pretrigger.{Pretrigger, Pre, preFor}
+use Rattle.rules.specs.Trigger.{Masks, Term, Armed, unarmed, waiting, armedOf, firstFire, lastOf}
 
 -- "Its settings are what start was given."
 pub record Settings : Type 0 where
@@ -26,12 +26,19 @@ pub record Rule : Type 0 where
   pub pre : ℕ
   pub armed : Armed
 
+-- "pre (samples kept before the trigger)" (01, Records), and whether the cap cut it
+abbrev pub preWish : Settings → Pre
+preWish st = preFor (st .wish) (st .limit) (st .rate) (unitOf (st .channels))
+
+abbrev pub preOf : Settings → ℕ
+preOf st = preWish st .samples
+
 abbrev pub ruleOf : Settings → Rule
 ruleOf st = record {
   unit = unitOf (st .channels);
   capacity = st .capacity;
   limit = st .limit;
-  pre = keptOf (st .wish) (st .limit) (st .rate) (unitOf (st .channels)) .samples;
+  pre = preOf st;
   armed = armedOf (st .terms);
 }
 
@@ -84,14 +91,50 @@ runOf r pushes = selection r (accepted r pushes) .run
 abbrev pub markOf : Rule → List (List ℕ) → Option ℕ
 markOf r pushes = selection r (accepted r pushes) .mark
 
--- what a push answers
+-- ---- what a recorder holds beside its store, once samples xs were accepted
+pub record Beside : Type 0 where
+  pub armed : Armed
+  pub previous : Option ℕ
+  pub place : ℕ
+  pub kept : ℕ
+
+-- "the armed sample numbered k, from 0, goes to slot k mod pre (none if pre = 0)" (01, Records)
+abbrev pub slotOf : ℕ → ℕ → ℕ
+slotOf pre k = cond (eqb pre 0) 0 (k % pre)
+
+-- "unarmed pushes change none of the three": previous sample, ring place and kept count are start's
+abbrev pub neverArmed : Beside
+neverArmed = record { armed = unarmed; previous = none; place = 0; kept = 0 }
+
+-- while it waits: the next slot, and "kept count (at most pre)" (01, Records)
+abbrev pub stillArmed : Masks → ℕ → List ℕ → Beside
+stillArmed m pre xs = record { armed = waiting m; previous = lastOf none xs; place = slotOf pre (length xs); kept = min (length xs) pre }
+
+-- "Firing keeps the firing sample as the previous one and sets kept count and ring place to 0"
+abbrev pub firedOn : ℕ → Beside
+firedOn v = record { armed = unarmed; previous = some v; place = 0; kept = 0 }
+
+abbrev pub besideFor : Armed → ℕ → List ℕ → Beside
+besideFor unarmed pre xs = neverArmed
+besideFor (waiting m) pre xs =
+    cond (ltb (firstFire m none xs) (length xs)) (firedOn (getD xs (firstFire m none xs) 0)) (stillArmed m pre xs)
+
+abbrev pub besideOf : Rule → List ℕ → Beside
+besideOf r xs = besideFor (r .armed) (r .pre) xs
+
+-- ---- what a push answers
 pub data Reply : Type 0 where
   refused : ℕ → Reply
   going-on complete : Reply
 
--- "complete exactly when the recorder is unarmed, limit is above 0 and len = limit": with a limit, a full run says that it is unarmed
+-- "complete exactly when the recorder is unarmed, limit is above 0 and len = limit; else going on"
+abbrev pub replyOf : Armed → ℕ → ℕ → Reply
+replyOf unarmed limit len = cond (eqb limit 0) going-on (cond (eqb len limit) complete going-on)
+replyOf (waiting m) limit len = going-on
+
+-- once samples xs were accepted
 abbrev pub told : Rule → List ℕ → Reply
-told r xs = cond (eqb (r .limit) 0) going-on (cond (eqb (length (selection r xs .run)) (r .limit)) complete going-on)
+told r xs = replyOf (besideOf r xs .armed) (r .limit) (length (selection r xs .run))
 
 abbrev pub replyTo : Rule → List ℕ → List ℕ → Reply
 replyTo r xs push = cond (accepts r xs push) (told r (xs ++ samplesOf (r .unit) push)) (refused 8)

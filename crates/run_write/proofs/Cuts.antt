@@ -11,8 +11,8 @@ use borrow.Author.Tests.{eq-eqb, ne-eqb, le-ltb, lt-ltb}
 use lib.Dec.{ltb}
 use lib.ListN.{length, take, drop, length-append, length-drop}
 use lib.Seq.{take-take, take-all, take-append-le, take-append-add, length-take-le}
-use Rattle.ring.specs.Bytes.{keptBytes}
-use Rattle.ring.specs.Step.{roomFor}
+use Rattle.rules.specs.Ring.{keptBytes}
+use Rattle.rules.specs.Push.{roomFor}
 use Rattle.run_write.specs.declared.Run.{Run}
 use Rattle.store.specs.Stored.{Stored}
 use Rattle.store.specs.Room.{StoreRoom, PartsRoom}

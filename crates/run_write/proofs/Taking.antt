@@ -13,8 +13,8 @@ use lib.Seq.{take-take}
 use Rattle.store.specs.Stored.{Stored}
 use Rattle.store.proofs.Fits.{less-room}
 use Rattle.store.proofs.Stored.{stored-none}
-use Rattle.ring.specs.Bytes.{keptBytes}
-use Rattle.ring.specs.Step.{roomFor}
+use Rattle.rules.specs.Ring.{keptBytes}
+use Rattle.rules.specs.Push.{roomFor}
 use Rattle.run_write.specs.declared.Run.{Run}
 use Rattle.run_write.specs.declared.Taken.the-variants.{Full, Count}
 use Rattle.run_write.specs.Run.{roomOf, RunIs, bytesOf, WriteRoom, RunRoom, Takes}

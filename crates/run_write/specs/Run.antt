@@ -8,7 +8,7 @@ use lib.Dec.{eqb, leb}
 use lib.ListN.{length, take, drop}
 use Rattle.store.specs.Stored.{Stored}
 use Rattle.store.specs.Room.{StoreRoom}
-use Rattle.ring.specs.Step.{roomFor}
+use Rattle.rules.specs.Push.{roomFor}
 use Rattle.run_write.specs.declared.Run.{Run}
 use Rattle.run_write.specs.declared.Taken.{Taken}
 use Rattle.run_write.specs.declared.Taken.the-variants.{Full, Count}

@@ -10,8 +10,8 @@ ghost use lib.Dec.{ltb};
 ghost use lib.ListN.{length, drop};
 ghost use Rattle.node.specs.Memory.{levelOf};
 ghost use Rattle.store.specs.Stored.{Stored};
-ghost use Rattle.ring.specs.Bytes.{keptBytes};
-ghost use Rattle.ring.specs.Step.{roomFor};
+ghost use Rattle.rules.specs.Ring.{keptBytes};
+ghost use Rattle.rules.specs.Push.{roomFor};
 ghost use Rattle.run_write.specs.Run.{roomOf, Within, RunIs, bytesOf, WriteRoom, RunRoom, Takes};
 
 // What went to the store: nothing, since not all had room; or how many samples.

@@ -26,7 +26,7 @@ use Rattle.range.specs.Join.{joinOver}
 use Rattle.range.proofs.Part.{part-sample}
 use Rattle.range.proofs.Right.{join-true}
 use Rattle.capture.specs.Record.{lentOf}
-use Rattle.capture.specs.Calls.{partOf}
+use Rattle.rules.specs.Reading.{partOf}
 use Rattle.capture.proofs.Calls.{stored}
 use Rattle.summary.specs.Summary.{levelAt, runEnd, partNode, stepNode, stepEnd, chunkNode, Part, cutAt, byLevels, summed, summaryOf, ChunkRoom}
 use Rattle.summary.proofs.Gather.{Step, joined-node, joined-same}

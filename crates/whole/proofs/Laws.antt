@@ -12,7 +12,7 @@ use lib.Dec.{eqb}
 use lib.ListN.{length}
 use borrow.Author.Tests.{eqb-true, eq-eqb, not-false}
 use Rattle.rules.specs.Node.{Node, nodeOf, span, nodesFor, topLevel, levelNode}
-use Rattle.rules.specs.Search.{seek, up}
+use Rattle.rules.specs.Search.{seek, higher}
 use Rattle.rules.specs.Refusal.{Store, nodeSize}
 use Rattle.rules.proofs.Search.{times, times-up, seek-none, seek-skip, seek-here, none-seek}
 use Rattle.rules.proofs.Walk.{span-pos}
@@ -25,7 +25,8 @@ use Rattle.range.proofs.Right.{made-true}
 use Rattle.capture.specs.Record.{lentOf}
 use Rattle.capture.proofs.Calls.{stored}
 use Rattle.summary.proofs.Laws.{node-room}
-use Rattle.whole.specs.Wrong.{sameNode, Place, orAbove, wrongAt, firstWrong}
+use Rattle.rules.specs.Wrong.{sameNode, NodeAt, orAbove, wrongAt, firstWrong, wholeAnswer}
+use Rattle.whole.specs.Wrong.{heldIn}
 use Rattle.whole.specs.Made.{madeNode, Numbered}
 
 -- ---- nodes that cover stored samples
@@ -71,14 +72,14 @@ same-is m n = (
 module _ (s : ℕ → ℕ) (len : ℕ) (levels : ℕ → List ℕ) where
   -- ---- a level with no wrong node
   abbrev None : ℕ → ℕ → Type 0
-  None l n = (j : ℕ) → j < n → wrongAt s len levels l j ≡ false
+  None l n = (j : ℕ) → j < n → wrongAt s len (heldIn levels) l j ≡ false
 
-  pub none-more : (l n : ℕ) → None l n → wrongAt s len levels l n ≡ false → None l (n + 1)
+  pub none-more : (l n : ℕ) → None l n → wrongAt s len (heldIn levels) l n ≡ false → None l (n + 1)
   none-more l n h e j k = go (decLt j n)
     where
-      go : Dec (j < n) → wrongAt s len levels l j ≡ false
+      go : Dec (j < n) → wrongAt s len (heldIn levels) l j ≡ false
       go (yes d) = h j d
-      go (no d) = ap (wrongAt s len levels l) same ∙ e
+      go (no d) = ap (wrongAt s len (heldIn levels) l) same ∙ e
         where
           same : j ≡ n
           same = omega arith
@@ -89,10 +90,10 @@ module _ (s : ℕ → ℕ) (len : ℕ) (levels : ℕ → List ℕ) where
     λ r j k. ap not (same-is (nodeIn (levels l) j) (levelNode s len l j) .1 (r j (covering len l j .0 k))),
   )
 
-  seek-is : (l n : ℕ) → None l n ↔ (seek up (wrongAt s len levels l) 0 n ≡ none)
+  seek-is : (l n : ℕ) → None l n ↔ (seek higher (wrongAt s len (heldIn levels) l) 0 n ≡ none)
   seek-is l n = (
-    λ h. none-seek up (wrongAt s len levels l) 0 n (λ j k. h (times up j 0) (omega (arith, times-up j 0))),
-    λ e j k. ap (wrongAt s len levels l) (sym (times-up j 0 ∙ omega arith)) ∙ seek-none up (wrongAt s len levels l) 0 n e j k,
+    λ h. none-seek higher (wrongAt s len (heldIn levels) l) 0 n (λ j k. h (times higher j 0) (omega (arith, times-up j 0))),
+    λ e j k. ap (wrongAt s len (heldIn levels) l) (sym (times-up j 0 ∙ omega arith)) ∙ seek-none higher (wrongAt s len (heldIn levels) l) 0 n e j k,
   )
 
   -- ---- a loop over the levels has come to level l
@@ -100,21 +101,21 @@ module _ (s : ℕ → ℕ) (len : ℕ) (levels : ℕ → List ℕ) where
     pub low : 1 ≤ l
     pub high : l ≤ topLevel + 1
     pub below : (k : ℕ) → 1 ≤ k → k < l → RightAt s len levels k
-    pub rest : firstWrong s len levels 1 topLevel ≡ firstWrong s len levels l (topLevel + 1 - l)
+    pub rest : wholeAnswer s len (heldIn levels) ≡ firstWrong s len (heldIn levels) l (topLevel + 1 - l)
 
   pub checking-starts : Checking 1
   checking-starts = record { low = omega arith; high = omega arith; below = λ k a b. absurd (omega arith); rest = refl }
 
-  level-found : (l n : ℕ) (o : Option ℕ) → seek up (wrongAt s len levels l) 0 (nodesFor len l) ≡ o → firstWrong s len levels l (suc n) ≡ orAbove l o (firstWrong s len levels (l + 1) n)
+  level-found : (l n : ℕ) (o : Option ℕ) → seek higher (wrongAt s len (heldIn levels) l) 0 (nodesFor len l) ≡ o → firstWrong s len (heldIn levels) l (suc n) ≡ orAbove l o (firstWrong s len (heldIn levels) (l + 1) n)
   unfolding firstWrong
-  level-found l n o e = ap (λ (x : Option ℕ). orAbove l x (firstWrong s len levels (l + 1) n)) e
+  level-found l n o e = ap (λ (x : Option ℕ). orAbove l x (firstWrong s len (heldIn levels) (l + 1) n)) e
 
   pub checking-on : (l : ℕ) → Checking l → l ≤ topLevel → None l (nodesFor len l) → Checking (l + 1)
   checking-on l c h n = record {
     low = omega arith;
     high = omega arith;
     below = λ k a b. go k a (decLt k l) b;
-    rest = c .rest ∙ ap (firstWrong s len levels l) left ∙ level-found l (topLevel + 1 - (l + 1)) none (seek-is l (nodesFor len l) .0 n);
+    rest = c .rest ∙ ap (firstWrong s len (heldIn levels) l) left ∙ level-found l (topLevel + 1 - (l + 1)) none (seek-is l (nodesFor len l) .0 n);
   }
     where
       left : topLevel + 1 - l ≡ suc (topLevel + 1 - (l + 1))
@@ -127,8 +128,8 @@ module _ (s : ℕ → ℕ) (len : ℕ) (levels : ℕ → List ℕ) where
           same : l ≡ k
           same = omega arith
 
-  pub checking-found : (l j : ℕ) → Checking l → l ≤ topLevel → j < nodesFor len l → None l j → wrongAt s len levels l j ≡ true → some (record { level = l; number = j }) ≡ firstWrong s len levels 1 topLevel
-  checking-found l j c h k n e = sym (c .rest ∙ ap (firstWrong s len levels l) left ∙ level-found l (topLevel + 1 - (l + 1)) (some j) found)
+  pub checking-found : (l j : ℕ) → Checking l → l ≤ topLevel → j < nodesFor len l → None l j → wrongAt s len (heldIn levels) l j ≡ true → some (record { level = l; number = j }) ≡ wholeAnswer s len (heldIn levels)
+  checking-found l j c h k n e = sym (c .rest ∙ ap (firstWrong s len (heldIn levels) l) left ∙ level-found l (topLevel + 1 - (l + 1)) (some j) found)
     where
       left : topLevel + 1 - l ≡ suc (topLevel + 1 - (l + 1))
       left = omega arith
@@ -136,19 +137,19 @@ module _ (s : ℕ → ℕ) (len : ℕ) (levels : ℕ → List ℕ) where
       parts : nodesFor len l ≡ j + (nodesFor len l - j)
       parts = omega arith
 
-      at : times up j 0 ≡ j
+      at : times higher j 0 ≡ j
       at = times-up j 0 ∙ omega arith
 
-      found : seek up (wrongAt s len levels l) 0 (nodesFor len l) ≡ some j
+      found : seek higher (wrongAt s len (heldIn levels) l) 0 (nodesFor len l) ≡ some j
       found =
-          ap (seek up (wrongAt s len levels l) 0) parts
-          ∙ seek-skip up (wrongAt s len levels l) 0 j (nodesFor len l - j) (λ i d. n (times up i 0) (omega (arith, times-up i 0)))
-          ∙ ap (λ (p : ℕ). seek up (wrongAt s len levels l) p (nodesFor len l - j)) at
-          ∙ seek-here up (wrongAt s len levels l) j (nodesFor len l - j) e (omega arith)
+          ap (seek higher (wrongAt s len (heldIn levels) l) 0) parts
+          ∙ seek-skip higher (wrongAt s len (heldIn levels) l) 0 j (nodesFor len l - j) (λ i d. n (times higher i 0) (omega (arith, times-up i 0)))
+          ∙ ap (λ (p : ℕ). seek higher (wrongAt s len (heldIn levels) l) p (nodesFor len l - j)) at
+          ∙ seek-here higher (wrongAt s len (heldIn levels) l) j (nodesFor len l - j) e (omega arith)
 
-  pub checking-ends : (l : ℕ) → Checking l → topLevel < l → none ≡ firstWrong s len levels 1 topLevel
+  pub checking-ends : (l : ℕ) → Checking l → topLevel < l → none ≡ wholeAnswer s len (heldIn levels)
   unfolding firstWrong
-  checking-ends l c h = sym (c .rest ∙ ap (firstWrong s len levels l) over)
+  checking-ends l c h = sym (c .rest ∙ ap (firstWrong s len (heldIn levels) l) over)
     where
       over : topLevel + 1 - l ≡ 0
       over = omega arith
@@ -164,33 +165,33 @@ module _ (s : ℕ → ℕ) (len : ℕ) (levels : ℕ → List ℕ) where
   made-right (suc (suc l)) j c h k = made-true s len (suc l) (nodesFor len (suc l) - 1) (nodeIn (levels (suc l))) (c .below (suc l) (omega arith) (omega arith)) (last-in len (suc l) (omega arith)) (all-in len (suc l) (omega arith)) j k
 
   -- what the code finds of a node is whether it is wrong
-  pub wrong-is : (l j : ℕ) (t : Bool) → Checking l → l ≤ topLevel → j * span l < len → t ≡ not (sameNode (nodeIn (levels l) j) (madeNode s len levels l j)) → t ≡ wrongAt s len levels l j
+  pub wrong-is : (l j : ℕ) (t : Bool) → Checking l → l ≤ topLevel → j * span l < len → t ≡ not (sameNode (nodeIn (levels l) j) (madeNode s len levels l j)) → t ≡ wrongAt s len (heldIn levels) l j
   wrong-is l j t c h k e = e ∙ ap (λ (n : Node). not (sameNode (nodeIn (levels l) j) n)) (made-right l j c h k)
 
   -- ---- no wrong node
-  none-after : (l n : ℕ) (o : Option ℕ) (rest : Option Place) → orAbove l o rest ≡ none → (o ≡ none) × (rest ≡ none)
+  none-after : (l n : ℕ) (o : Option ℕ) (rest : Option NodeAt) → orAbove l o rest ≡ none → (o ≡ none) × (rest ≡ none)
   none-after l n none rest e = (refl, e)
   none-after l n (some j) rest e = let z : _≡_ {A = ℕ} 0 1 = cc in absurd (omega arith)
 
-  levels-right : (l n : ℕ) → firstWrong s len levels l n ≡ none → (k : ℕ) → l ≤ k → k < l + n → RightAt s len levels k
+  levels-right : (l n : ℕ) → firstWrong s len (heldIn levels) l n ≡ none → (k : ℕ) → l ≤ k → k < l + n → RightAt s len levels k
   unfolding firstWrong
   levels-right l zero e k a b = absurd (omega arith)
   levels-right l (suc n) e k a b = go (none-after l n _ _ e) (levels-right (l + 1) n) (decLt l k)
     where
-      go : (seek up (wrongAt s len levels l) 0 (nodesFor len l) ≡ none) × (firstWrong s len levels (l + 1) n ≡ none)
-          → (firstWrong s len levels (l + 1) n ≡ none → (k : ℕ) → l + 1 ≤ k → k < l + 1 + n → RightAt s len levels k) → Dec (l < k) → RightAt s len levels k
+      go : (seek higher (wrongAt s len (heldIn levels) l) 0 (nodesFor len l) ≡ none) × (firstWrong s len (heldIn levels) (l + 1) n ≡ none)
+          → (firstWrong s len (heldIn levels) (l + 1) n ≡ none → (k : ℕ) → l + 1 ≤ k → k < l + 1 + n → RightAt s len levels k) → Dec (l < k) → RightAt s len levels k
       go t ih (yes d) = ih (t .1) k (omega arith) (omega arith)
       go t ih (no d) = subst (RightAt s len levels) same (none-right l .0 (seek-is l (nodesFor len l) .1 (t .0)))
         where
           same : l ≡ k
           same = omega arith
 
-  right-levels : (l n : ℕ) → ((k : ℕ) → l ≤ k → k < l + n → RightAt s len levels k) → firstWrong s len levels l n ≡ none
+  right-levels : (l n : ℕ) → ((k : ℕ) → l ≤ k → k < l + n → RightAt s len levels k) → firstWrong s len (heldIn levels) l n ≡ none
   unfolding firstWrong
   right-levels l zero h = refl
   right-levels l (suc n) h = ap₂ (orAbove l) (seek-is l (nodesFor len l) .0 (none-right l .1 (h l (omega arith) (omega arith)))) (right-levels (l + 1) n (λ k a b. h k (omega arith) (omega arith)))
 
-  pub right-is : (firstWrong s len levels 1 topLevel ≡ none) ↔ Right s len levels
+  pub right-is : (wholeAnswer s len (heldIn levels) ≡ none) ↔ Right s len levels
   right-is = (λ e k a b. levels-right 1 topLevel e k a (omega arith), λ r. right-levels 1 topLevel (λ k a b. r k a (omega arith)))
 
 -- ---- room

@@ -13,6 +13,7 @@ use summary::smaller;
 ghost use mathlib.Core.Path.{_≡_};
 ghost use mathlib.Core.Bool.{Bool, not};
 ghost use Prim.Native.Nat.{_+_, _*_, _≤_, _<_};
+ghost use Rattle.rules.specs.Wrong.{sameNode, wholeAnswer};
 ghost use Rattle.rules.specs.Sample.{sampleOf};
 ghost use Rattle.rules.specs.Node.{nodesFor, topLevel};
 ghost use Rattle.rules.specs.Answer.{given, unless};
@@ -20,7 +21,7 @@ ghost use Rattle.rules.specs.Refusal.{storeRefusal, mostSamples};
 ghost use Rattle.rules.proofs.Refusal.{Sound};
 ghost use Rattle.node.specs.Memory.{asNode, levelOf, nodeIn};
 ghost use Rattle.capture.specs.Record.{storeOf, lentOf};
-ghost use Rattle.whole.specs.Wrong.{sameNode, firstWrong, checkedOf};
+ghost use Rattle.whole.specs.Wrong.{heldIn, checkedOf};
 ghost use Rattle.whole.specs.Made.{madeNode, Numbered};
 
 fn same_node(a: Node, b: Node) -> bool
@@ -102,7 +103,7 @@ fn first_wrong<'a>(
     l4: &'a [Mask],
 ) -> Checked
     requires { ⌜ Sound (storeOf c) (lentOf (now samples) (levelOf (now l1) (now l2) (now l3) (now l4))) ⌝ }
-    ensures { λ r. ⌜ checkedOf r ≡ given (firstWrong (sampleOf (c .unitsize) (now (samples .entry))) (c .len) (levelOf (now (l1 .entry)) (now (l2 .entry)) (now (l3 .entry)) (now (l4 .entry))) 1 topLevel) ⌝ }
+    ensures { λ r. ⌜ checkedOf r ≡ given (wholeAnswer (sampleOf (c .unitsize) (now (samples .entry))) (c .len) (heldIn (levelOf (now (l1 .entry)) (now (l2 .entry)) (now (l3 .entry)) (now (l4 .entry))))) ⌝ }
 {
     let mut level = 1;
     let mut j = 0;
@@ -133,7 +134,7 @@ pub fn whole<'a>(
     l3: &'a [Mask],
     l4: &'a [Mask],
 ) -> Checked
-    ensures { λ r. ⌜ checkedOf r ≡ unless (storeRefusal (storeOf c) (lentOf (now (samples .entry)) (levelOf (now (l1 .entry)) (now (l2 .entry)) (now (l3 .entry)) (now (l4 .entry))))) (firstWrong (sampleOf (c .unitsize) (now (samples .entry))) (c .len) (levelOf (now (l1 .entry)) (now (l2 .entry)) (now (l3 .entry)) (now (l4 .entry))) 1 topLevel) ⌝ }
+    ensures { λ r. ⌜ checkedOf r ≡ unless (storeRefusal (storeOf c) (lentOf (now (samples .entry)) (levelOf (now (l1 .entry)) (now (l2 .entry)) (now (l3 .entry)) (now (l4 .entry))))) (wholeAnswer (sampleOf (c .unitsize) (now (samples .entry))) (c .len) (heldIn (levelOf (now (l1 .entry)) (now (l2 .entry)) (now (l3 .entry)) (now (l4 .entry))))) ⌝ }
 {
     let n = refusal(c, samples.len(), l1.len(), l2.len(), l3.len(), l4.len());
     if n != 0 {

@@ -7,12 +7,12 @@ use lib.ListN.{length, length-set}
 use denote.Ref.{now}
 use Rattle.rules.specs.Sample.{sampleOf}
 use Rattle.capture.proofs.Calls.{over-none, over-turn, held-at, place-small}
-use Rattle.capture.specs.Calls.{over}
+use Rattle.rules.specs.Reading.{copiedTo}
 use Rattle.capture.proofs.copy_samples.Statement.{statement}
 use Rattle.capture.proofs.copy_samples.Tie as tie
 
 abbrev Inv-loop : tie.InvT-loop
-Inv-loop bytes unitsize start k output₀ i₀ output i = (i ≤ k) × (length output ≡ length output₀) × (output ≡ over (sampleOf unitsize bytes) start i output₀)
+Inv-loop bytes unitsize start k output₀ i₀ output i = (i ≤ k) × (length output ≡ length output₀) × (output ≡ copiedTo (sampleOf unitsize bytes) start i output₀)
 
 abbrev μ-loop : tie.MeasureT-loop
 μ-loop bytes unitsize start k output₀ i₀ output i = k - i
@@ -56,7 +56,7 @@ same-length c = c .before .loop .inv .1
 returns : tie.Need-returns Inv-loop μ-loop
 returns c =
     let s = c .before .before .before .before in
-    c .before .loop .inv .2 ∙ ap (λ (n : ℕ). over (sampleOf (s .args .unitsize) (now (s .args .bytes))) (s .args .start) n (now (s .args .output))) (le-antisymm (c .before .loop .inv .0) (c .loop-test .left))
+    c .before .loop .inv .2 ∙ ap (λ (n : ℕ). copiedTo (sampleOf (s .args .unitsize) (now (s .args .bytes))) (s .args .start) n (now (s .args .output))) (le-antisymm (c .before .loop .inv .0) (c .loop-test .left))
 
 pub copy-samples-spec : {M : Type 1} → statement M
 copy-samples-spec =

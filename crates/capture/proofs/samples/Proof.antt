@@ -8,11 +8,12 @@ use lib.ListN.{length}
 use denote.Ref.{now}
 use borrow.Author.Needs.{needs}
 use borrow.Author.Tests.{lt-ltb, le-ltb}
+use Rattle.rules.specs.Reading.{copiedTo}
 use Rattle.rules.specs.Sample.{sampleOf}
 use Rattle.rules.specs.Refusal.{copied}
 use Rattle.node.specs.Memory.{levelOf}
 use Rattle.capture.specs.Record.{storeOf}
-use Rattle.capture.specs.Calls.{Source, over}
+use Rattle.capture.specs.Calls.{Source}
 use Rattle.capture.proofs.Answer.{refused-is, given-is, rows-refuse, rows-sound, row-holds, row-passed}
 use Rattle.capture.proofs.Calls.{none-copied, all-copied, source-of}
 use Rattle.capture.proofs.samples.Statement.{statement}
@@ -60,7 +61,7 @@ returns-3 c =
     let r = row-passed (storeOf (a .c)) (now (a .bytes)) (now (a .l1)) (now (a .l2)) (now (a .l3)) (now (a .l4)) (c .before .before .before .before .before .before .before .refusal .result) (c .before .before .before .before .before .before .before .refusal .ensures) (c .before .before .before .before .before .before .if1 .left) 11 (ltb (length (now (a .output))) (copied (a .c .len) (a .start) (a .count))) (le-ltb _ _ (subst (λ (k : ℕ). k ≤ length (now (a .output))) e (c .before .before .before .before .if2 .left))) in
     record {
       answer-is = given-is (copied (a .c .len) (a .start) (a .count)) _ (c .before .before .before .before .before .count-copied .result) r e;
-      output-is = c .before .before .copy-samples .ensures ∙ ap (λ (k : ℕ). over (sampleOf (a .c .unitsize) (now (a .bytes))) (a .start) k (now (a .output))) e ∙ all-copied (sampleOf (a .c .unitsize) (now (a .bytes))) (a .start) (copied (a .c .len) (a .start) (a .count)) (now (a .output)) _ r;
+      output-is = c .before .before .copy-samples .ensures ∙ ap (λ (k : ℕ). copiedTo (sampleOf (a .c .unitsize) (now (a .bytes))) (a .start) k (now (a .output))) e ∙ all-copied (sampleOf (a .c .unitsize) (now (a .bytes))) (a .start) (copied (a .c .len) (a .start) (a .count)) (now (a .output)) _ r;
     }
 
 pub samples-spec : {M : Type 1} → statement M

@@ -7,7 +7,7 @@ use borrow.Author.Needs.{needs}
 use borrow.Author.Tests.{ltb-false}
 use lib.Dec.{ltb}
 use lib.Ieee.{Float, isNan}
-use Rattle.rules.specs.Pretrigger.{Kept, keptOf}
+use Rattle.rules.specs.Pretrigger.{Pre, preFor}
 use Rattle.rules.specs.Refusal.{numberWrong}
 use Rattle.rules.proofs.Refusal.{neither}
 use Rattle.feeder.specs.Record.{wishOf}
@@ -40,13 +40,13 @@ returns c =
     let d = c .before .before in
     let s = d .before .before .args in
     ap (λ (n : ℕ). record { samples = n; was-cut = false }) (c .fraction-samples .ensures)
-    ∙ sym (ap (λ (w : Pretrigger). keptOf (wishOf w) (s .limit) (s .rate) (s .unit)) (d .wish .given .1))
+    ∙ sym (ap (λ (w : Pretrigger). preFor (wishOf w) (s .limit) (s .rate) (s .unit)) (d .wish .given .1))
 
 returns-2 : tie.Need-returns-2
 returns-2 c =
     let d = c .before .before in
     let s = d .before .before .args in
-    c .seconds-samples .ensures ∙ sym (ap (λ (w : Pretrigger). keptOf (wishOf w) (s .limit) (s .rate) (s .unit)) (d .wish2 .given .1))
+    c .seconds-samples .ensures ∙ sym (ap (λ (w : Pretrigger). preFor (wishOf w) (s .limit) (s .rate) (s .unit)) (d .wish2 .given .1))
 
 pub pretrigger-samples-spec : {M : Type 1} → statement M
 pretrigger-samples-spec =

@@ -4,11 +4,11 @@ use native.Mathlib.Omega.{arith}
 use borrow.Author.Needs.{needs}
 use denote.Ref.{now}
 use lib.ListN.{length}
-use Rattle.rules.specs.Refusal.{Lent}
+use Rattle.rules.specs.Refusal.{Lent, recorderRefusal}
 use Rattle.node.specs.Memory.{levelOf}
 use Rattle.capture.specs.Record.{lentOf}
 use Rattle.capture.proofs.Answer.{lent-same}
-use Rattle.feeder.specs.Record.{recorderOf, recorderRefusal}
+use Rattle.feeder.specs.Record.{recorderOf}
 use Rattle.feeder_push.proofs.Fires.{taken-fits}
 use Rattle.feeder_push.proofs.Answered.{pushed-refused, room, all-room, scan-room, wait-room, pushed-unarmed, pushed-fired, pushed-waited}
 use Rattle.feeder_push.proofs.push.Statement.{statement}

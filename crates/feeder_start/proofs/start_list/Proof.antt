@@ -39,6 +39,7 @@ use denote.Triple.Table.{entered, cited}
 use denote.Triple.Walked.{says, Stays, stay-none, stay-none-slice, walkOf, goes-none, goes-none-slice, Walks, ends-at, walked, walk-meets}
 use denote.Exit.{yes}
 use denote.Triple.Clauses.{ensured, lasts}
+use Rattle.rules.specs.Start.{startRule}
 use Rattle.rules.specs.Refusal.{Lent}
 use Rattle.capture.specs.Record.{lentNumbers}
 use Rattle.terms.specs.Terms.{termsOf}
@@ -47,7 +48,7 @@ use Rattle.terms.specs.declared.TriggerTerm.{TriggerTerm}
 use Rattle.terms.proofs.TriggerTerm as T
 use Rattle.terms.proofs.Terms as S
 use Rattle.terms.proofs.Terms.Laws as S′
-use Rattle.feeder.specs.Start.{startedOf, startOf, startRule, settingsOf}
+use Rattle.feeder.specs.Start.{startedOf, startOf, settingsOf}
 use Rattle.feeder.specs.declared.Pretrigger.{Pretrigger}
 use Rattle.feeder.specs.declared.Started.{Started}
 use Rattle.feeder.proofs.Begun.{start-rule}

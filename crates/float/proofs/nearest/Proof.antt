@@ -6,7 +6,7 @@ use native.Mathlib.Omega.{arith}
 use lib.Dec.{lit≤}
 use lib.Ieee.{ofBits}
 use lib.Ieee.Positive.{den-pos}
-use Rattle.rules.specs.Floor.{count}
+use Rattle.rules.specs.Floor.{natural}
 use Rattle.float.specs.Sizes.{Shiftable}
 use Rattle.float.proofs.Floors.{yes, no, half, shiftable, nearest-num, no-nearest}
 use Rattle.float.proofs.nearest.Statement.{statement}
@@ -26,7 +26,7 @@ add-result : tie.Need-add-result
 add-result c = omega (arith, small c)
 
 returns : tie.Need-returns
-returns c = ap (λ (n : ℕ). (n + 1) / 2) (c .shifted .ensures) ∙ sym (ap count (nearest-num (c .before .before .args .x) (fit (c .before) .number)))
+returns c = ap (λ (n : ℕ). (n + 1) / 2) (c .shifted .ensures) ∙ sym (ap natural (nearest-num (c .before .before .args .x) (fit (c .before) .number)))
 
 returns-2 : tie.Need-returns-2
 unfolding ofBits

@@ -7,8 +7,8 @@ use lib.Dec.{ltb, lit≤, lit<}
 use lib.Ieee.{Float, ofBits}
 use borrow.Author.Needs.{needs}
 use borrow.Author.Tests.{lt-ltb, le-ltb}
-use Rattle.rules.specs.Floor.{nearestOf, count}
-use Rattle.rules.specs.Pretrigger.{Kept, one, clamp, times, secondsOf, ringCap, capped}
+use Rattle.rules.specs.Floor.{nearestOf, natural}
+use Rattle.rules.specs.Pretrigger.{Pre, one, clamp, times, secondsOf, ringCap, capped}
 use Rattle.float.specs.Sizes.{Under}
 use Rattle.float.proofs.Floors.{castable, product}
 use Rattle.float.proofs.seconds_samples.Statement.{statement}
@@ -39,10 +39,10 @@ wanted : (c : tie.After-nearest) → c .nearest .result ≡ secondsOf (c .before
 unfolding times
 wanted c =
     let s = c .before .before .before in
-    c .nearest .ensures ∙ ap (λ (q : Float). count (nearestOf (times (s .args .rate) q))) (is (c .before))
+    c .nearest .ensures ∙ ap (λ (q : Float). natural (nearestOf (times (s .args .rate) q))) (is (c .before))
 
-kept : (n w cap : ℕ) (b : Bool) → n ≡ w → ltb cap n ≡ b → cond {A = Kept} b (record { samples = cap; was-cut = true }) (record { samples = n; was-cut = false }) ≡ capped w cap
-kept n w cap b e h = ap (λ (t : Bool). cond {A = Kept} t (record { samples = cap; was-cut = true }) (record { samples = n; was-cut = false })) (sym h) ∙ ap (λ (k : ℕ). capped k cap) e
+kept : (n w cap : ℕ) (b : Bool) → n ≡ w → ltb cap n ≡ b → cond {A = Pre} b (record { samples = cap; was-cut = true }) (record { samples = n; was-cut = false }) ≡ capped w cap
+kept n w cap b e h = ap (λ (t : Bool). cond {A = Pre} t (record { samples = cap; was-cut = true }) (record { samples = n; was-cut = false })) (sym h) ∙ ap (λ (k : ℕ). capped k cap) e
 
 returns : tie.Need-returns
 returns c =

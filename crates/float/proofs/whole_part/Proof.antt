@@ -3,7 +3,7 @@ use mathlib.Core.Path.{refl, sym, ap, _∙_}
 use Prim.Native.Nat.{_^_}
 use lib.Dec.{lit≤}
 use lib.Ieee.{ofBits}
-use Rattle.rules.specs.Floor.{count}
+use Rattle.rules.specs.Floor.{natural}
 use Rattle.rules.specs.Pretrigger.{one}
 use Rattle.float.specs.Sizes.{Shiftable}
 use Rattle.float.proofs.Floors.{yes, no, shiftable, floor-num, no-floor}
@@ -18,7 +18,7 @@ shifted-requires : tie.Need-shifted-requires
 shifted-requires c κs = fit c
 
 returns : tie.Need-returns
-returns c = c .shifted .ensures ∙ sym (ap count (floor-num (c .before .before .args .x) (fit (c .before) .number)))
+returns c = c .shifted .ensures ∙ sym (ap natural (floor-num (c .before .before .args .x) (fit (c .before) .number)))
 
 returns-2 : tie.Need-returns-2
 unfolding ofBits

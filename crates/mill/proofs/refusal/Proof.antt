@@ -7,7 +7,7 @@ use mir.Syntax.{w64}
 use mir.Val.{SFits, toZ, ofZ}
 use borrow.Author.Needs.{needs}
 use Rattle.rules.specs.Refusal.{Store, Lent, firstOf, storeRows}
-use Rattle.rules.specs.Mill.{before}
+use Rattle.rules.specs.Mill.{beforeFirst}
 use Rattle.rules.proofs.Refusal.{rows-left, rows-refused}
 use Rattle.capture.specs.Record.{storeOf, lentNumbers}
 use Rattle.mill.specs.Reader.{originIn, millRows}
@@ -23,11 +23,11 @@ abbrev lent : tie.Start → Lent
 lent s = lentNumbers (s .args .samples) (s .args .n1) (s .args .n2) (s .args .n3) (s .args .n4)
 
 -- whether a place is before the first sample, as the code found out
-told : (s : tie.Start) (p : ℤ) (fits : SFits w64 p) (origin : ℕ) (t u : Bool) → origin ≡ originIn (s .args .c) → t ≡ before origin (toZ w64 (ofZ w64 p)) → t ≡ u → before (originIn (s .args .c)) p ≡ u
-told s p fits origin t u eo et eu = sym (ap₂ before eo (read-is p fits)) ∙ sym et ∙ eu
+told : (s : tie.Start) (p : ℤ) (fits : SFits w64 p) (origin : ℕ) (t u : Bool) → origin ≡ originIn (s .args .c) → t ≡ beforeFirst origin (toZ w64 (ofZ w64 p)) → t ≡ u → beforeFirst (originIn (s .args .c)) p ≡ u
+told s p fits origin t u eo et eu = sym (ap₂ beforeFirst eo (read-is p fits)) ∙ sym et ∙ eu
 
 -- rows 1 and 2 pass: 12 and 13 are left
-left : (c : tie.Else1) → let s = c .before .before in (a b d : Bool) (n : ℕ) → s .args .outside ≡ a → before (originIn (s .args .c)) (s .args .p) ≡ b → before (originIn (s .args .c)) (s .args .q) ≡ d → n ≡ three a b d 0 → n ≡ firstOf (storeRows (st s) (lent s) (millRows (st s) (s .args .outside) (s .args .p) (s .args .q)))
+left : (c : tie.Else1) → let s = c .before .before in (a b d : Bool) (n : ℕ) → s .args .outside ≡ a → beforeFirst (originIn (s .args .c)) (s .args .p) ≡ b → beforeFirst (originIn (s .args .c)) (s .args .q) ≡ d → n ≡ three a b d 0 → n ≡ firstOf (storeRows (st s) (lent s) (millRows (st s) (s .args .outside) (s .args .p) (s .args .q)))
 left c a b d n ea eb ed e = let s = c .before .before in e ∙ sym (rows-left (st s) (lent s) (sym (c .before .refusal .ensures) ∙ c .if1 .left) (millRows (st s) (s .args .outside) (s .args .p) (s .args .q)) ∙ (λ i. three (ea i) (eb i) (ed i) 0))
 
 refusal-requires : tie.Need-refusal-requires

@@ -9,7 +9,7 @@ use mir.Val.{toZ, ofZ}
 use denote.Ref.{now}
 use borrow.Author.Needs.{needs}
 use Rattle.rules.specs.Refusal.{Store, Lent, mostSamples}
-use Rattle.rules.specs.Mill.{counted}
+use Rattle.rules.specs.Mill.{millPlace}
 use Rattle.node.specs.Memory.{levelOf}
 use Rattle.capture.specs.Record.{storeOf, lentOf}
 use Rattle.capture.proofs.Answer.{refused-is, given-is, rows-are}
@@ -38,8 +38,8 @@ small : (o : tie.After-origin) → (o .origin .result ≤ mostSamples) × (s (o 
 small o = let t = let-pass (o .before .before) (o .before .if1 .left) in (omega (arith, t .origin-small, o .origin .ensures), omega (arith, t .sound .len-most, t .sound .capacity-most))
 
 -- a place up to len, counted
-counts : (o : tie.After-origin) (i : ℕ) → i ≤ s (o .before .before) .args .c .len → (r : ℤ) → r ≡ counted (o .origin .result) i → toZ w64 (ofZ w64 r) ≡ counted (originIn (s (o .before .before) .args .c)) i
-counts o i h r e = let b = small o in counted-back (o .origin .result) i (b .0) (omega (arith, b .1)) r e ∙ ap (λ (x : ℕ). counted x i) (o .origin .ensures)
+counts : (o : tie.After-origin) (i : ℕ) → i ≤ s (o .before .before) .args .c .len → (r : ℤ) → r ≡ millPlace (o .origin .result) i → toZ w64 (ofZ w64 r) ≡ millPlace (originIn (s (o .before .before) .args .c)) i
+counts o i h r e = let b = small o in counted-back (o .origin .result) i (b .0) (omega (arith, b .1)) r e ∙ ap (λ (x : ℕ). millPlace x i) (o .origin .ensures)
 
 refusal-requires : tie.Need-refusal-requires
 refusal-requires c κs = search needs

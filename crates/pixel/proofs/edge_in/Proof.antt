@@ -1,6 +1,6 @@
 -- `pixel::edge_in` meets its contract. Assumes nothing.
 use borrow.Author.Needs.{needs}
-use Rattle.rules.specs.Pixel.{edge}
+use Rattle.rules.specs.Pixel.{pixelEdge}
 use Rattle.pixel.proofs.edge_in.Statement.{statement}
 use Rattle.pixel.proofs.edge_in.Tie as tie
 
@@ -14,7 +14,7 @@ floor-in-requires : tie.Need-floor-in-requires
 floor-in-requires c κs = search needs
 
 returns : tie.Need-returns
-unfolding edge
+unfolding pixelEdge
 returns c = c .floor-in .ensures
 
 pub edge-in-spec : {M : Type 1} → statement M

@@ -3,7 +3,7 @@ use mathlib.Core.Path.{ap, _∙_}
 use Prim.Native.Nat.{_+_}
 use lib.IntN.{pos}
 use borrow.Author.Needs.{needs}
-use Rattle.rules.specs.Pixel.{edge, moved}
+use Rattle.rules.specs.Pixel.{pixelEdge, moved}
 use Rattle.float.specs.declared.Place.{Place}
 use Rattle.float.specs.Places.{placeOf}
 use Rattle.pixel.specs.Ranges.{viewAs, coverBy}
@@ -26,8 +26,8 @@ cover-requires c κs = search needs
 returns : tie.Need-returns
 returns c =
     let s = c .before .before .before .args in
-    let a = moved (pos (s .origin)) (edge (viewAs (s .v)) (s .px)) in
-    let b = moved (pos (s .origin)) (edge (viewAs (s .v)) (s .px + 1)) in
+    let a = moved (pos (s .origin)) (pixelEdge (viewAs (s .v)) (s .px)) in
+    let b = moved (pos (s .origin)) (pixelEdge (viewAs (s .v)) (s .px + 1)) in
     c .cover .ensures
     ∙ ap (λ (p : Place). coverBy p (c .before .edge-in2 .result) (s .len)) (c .before .before .edge-in .ensures)
     ∙ ap (λ (p : Place). coverBy (placeOf a (s .len)) p (s .len)) (c .before .edge-in2 .ensures)

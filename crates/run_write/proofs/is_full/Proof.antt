@@ -4,7 +4,7 @@ use mathlib.Core.Path.{sym}
 use native.Mathlib.Omega.{arith}
 use borrow.Author.Needs.{needs}
 use borrow.Author.Tests.{lt-ltb}
-use Rattle.ring.specs.Step.{roomFor}
+use Rattle.rules.specs.Push.{roomFor}
 use Rattle.run_write.proofs.Cuts.{no-limit, limit-fits, full-by}
 use Rattle.run_write.proofs.is_full.Statement.{statement}
 use Rattle.run_write.proofs.is_full.Tie as tie

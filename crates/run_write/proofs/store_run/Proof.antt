@@ -7,7 +7,7 @@ use borrow.Author.Tests.{ltb-true}
 use denote.Ref.{now}
 use lib.ListN.{drop}
 use Rattle.node.specs.Memory.{levelOf}
-use Rattle.ring.specs.Bytes.{keptBytes}
+use Rattle.rules.specs.Ring.{keptBytes}
 use Rattle.run_write.proofs.Taking.{takes-none, write-room, takes-some}
 use Rattle.run_write.proofs.store_run.Statement.{statement}
 use Rattle.run_write.proofs.store_run.Tie as tie

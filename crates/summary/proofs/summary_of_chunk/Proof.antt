@@ -6,7 +6,7 @@ use native.Mathlib.Nat.{mul-le-mul-right}
 use denote.Ref.{now}
 use Rattle.rules.specs.Node.{chunk}
 use Rattle.node.specs.Memory.{levelOf}
-use Rattle.capture.specs.Calls.{partOf}
+use Rattle.rules.specs.Reading.{partOf}
 use Rattle.capture.proofs.Calls.{stored}
 use Rattle.capture.specs.Record.{storeOf}
 use Rattle.summary.proofs.Laws.{chunk-room, chunk-part}

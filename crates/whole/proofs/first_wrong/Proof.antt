@@ -11,15 +11,16 @@ use Rattle.rules.specs.Node.{topLevel}
 use Rattle.rules.specs.Answer.{given}
 use Rattle.node.specs.Memory.{levelOf}
 use Rattle.whole.proofs.Laws.{Checking, checking-starts, checking-on, checking-found, checking-ends, none-more, wrong-is, covering}
-use Rattle.whole.specs.Wrong.{Place, wrongAt}
+use Rattle.rules.specs.Wrong.{NodeAt, wrongAt}
+use Rattle.whole.specs.Wrong.{heldIn}
 use Rattle.whole.proofs.first_wrong.Statement.{statement}
 use Rattle.whole.proofs.first_wrong.Tie as tie
 
-abbrev place : ℕ → ℕ → Place
+abbrev place : ℕ → ℕ → NodeAt
 place l j = record { level = l; number = j }
 
 abbrev Inv-loop : tie.InvT-loop
-Inv-loop c samples l1 l2 l3 l4 level j₀ count j = (j ≤ count) × ((i : ℕ) → i < j → wrongAt (sampleOf (c .unitsize) samples) (c .len) (levelOf l1 l2 l3 l4) level i ≡ false)
+Inv-loop c samples l1 l2 l3 l4 level j₀ count j = (j ≤ count) × ((i : ℕ) → i < j → wrongAt (sampleOf (c .unitsize) samples) (c .len) (heldIn (levelOf l1 l2 l3 l4)) level i ≡ false)
 
 abbrev μ-loop : tie.MeasureT-loop
 μ-loop c samples l1 l2 l3 l4 level j₀ count j = count - j

@@ -10,7 +10,7 @@ use Rattle.rules.specs.Refusal.{nodeSize}
 use Rattle.node.specs.Memory.{levelOf, nodeIn}
 use Rattle.capture.specs.Record.{storeOf, lentOf}
 use Rattle.summary.proofs.Laws.{node-room}
-use Rattle.whole.specs.Wrong.{sameNode}
+use Rattle.rules.specs.Wrong.{sameNode}
 use Rattle.whole.proofs.node_wrong.Statement.{statement}
 use Rattle.whole.proofs.node_wrong.Tie as tie
 
