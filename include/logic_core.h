@@ -1,14 +1,15 @@
 /* The capture of sixteen digital lines: its calls from C. liblogic_core.a holds them (rt staticlib logic_core).
  *
- * Each call checks what it is given, ends, and touches nothing but the memory that it is lent. Pointers must be valid for
- * their lengths and aligned, and what a call writes must overlap nothing else that it gets; that is all a caller owes.
+ * Each call checks what it is given, ends, and touches nothing but the memory that it is lent. All that a caller owes:
+ * pointers are valid for their lengths, aligned and not null; what a call writes overlaps nothing else that it gets; and
+ * the calls that take a double are made in the default floating-point mode (below).
  *
  * Codes. Each call but lc_raw gives one:
  *     0            it is done, and the out pointers hold the answer
  *     1 .. 20      refused: the number that document 01 or 02 gives for the reason; nothing was written anywhere
  *     100          LC_NONE: there is none; of lc_whole: a node is wrong; of lc_push: the recording is complete
- * A call that gives 1 to 20 has changed neither the record nor the lent memory nor what the out pointers point at; of the
- * codes 0 and 100, each call says which of them writes.
+ * A call that gives 1 to 20 has stored nothing, neither in the record nor in the lent memory nor behind the out pointers, so
+ * that all of them may be read-only then; of the codes 0 and 100, each call says which of them writes.
  *
  * Refusals of every call on a record:
  *     1            a number of the record is out of its range
@@ -24,6 +25,12 @@
  * node. Lend the same memory, whole, at every call on the record; nobody else may write in it meanwhile. Lengths count
  * elements. More than lc_needs says may be lent; what is beyond stays untouched. A slice of length 0 needs any pointer that
  * is not null.
+ *
+ * Floating point. lc_render, lc_mill_render and lc_feeder_start compute in the mode of the thread that calls them. What they
+ * promise holds in the mode that a program starts in, FE_DFL_ENV of fenv.h: numbers are rounded to nearest, subnormal ones
+ * are neither flushed to zero nor read as zero, and nothing traps. In another mode, as where the program was linked with
+ * -ffast-math or rounds upward, they draw other pixels and keep another count of samples. A thread in such a mode calls
+ * fegetenv(&mode) and fesetenv(FE_DFL_ENV) before them, and fesetenv(&mode) after.
  */
 #ifndef LOGIC_CORE_H
 #define LOGIC_CORE_H
@@ -38,64 +45,59 @@ extern "C" {
 
 #define LC_NONE 100
 
+/* Lent memory in one value: the samples, the levels 1 to 4, and how many elements of each are lent, in lc_needs' order. */
+typedef struct lc_memory {
+    uint8_t *samples;
+    uint16_t *level[4];
+    size_t sizes[5];
+} lc_memory;
+
+/* Lends it to a call: lc_get(record, LC_LEND(memory), 7, &value). */
+#define LC_LEND(m) \
+    (m).samples, (m).sizes[0], (m).level[0], (m).sizes[1], (m).level[1], (m).sizes[2], (m).level[2], (m).sizes[3], \
+    (m).level[3], (m).sizes[4]
+
+/* The ten parameters that take it, a pointer and a length for the samples and for each level. LC_MEMORY is written in,
+ * LC_CONST_MEMORY only read. */
+#define LC_MEMORY \
+    uint8_t *samples, size_t samples_len, uint16_t *l1, size_t l1_len, uint16_t *l2, size_t l2_len, \
+    uint16_t *l3, size_t l3_len, uint16_t *l4, size_t l4_len
+
+#define LC_CONST_MEMORY \
+    const uint8_t *samples, size_t samples_len, const uint16_t *l1, size_t l1_len, const uint16_t *l2, size_t l2_len, \
+    const uint16_t *l3, size_t l3_len, const uint16_t *l4, size_t l4_len
+
 /* How much memory a capture takes: sizes becomes bytes of samples, then numbers of the levels 1, 2, 3, 4.
  * More than 8 channels take 2 bytes a sample, else 1. Refuses with 1 a capacity that is 0 or above 67108864. */
 uint32_t lc_needs(size_t channels, size_t capacity, size_t sizes[5]);
 
 /* Starts a capture with nothing in it: record becomes its numbers. The lent memory is measured, and not written.
  * Refuses with 1 (the capacity) and 2. */
-uint32_t lc_start(size_t channels, size_t capacity,
-                  const uint8_t *samples, size_t samples_len,
-                  const uint16_t *l1, size_t l1_len, const uint16_t *l2, size_t l2_len,
-                  const uint16_t *l3, size_t l3_len, const uint16_t *l4, size_t l4_len,
-                  size_t record[5]);
+uint32_t lc_start(size_t channels, size_t capacity, LC_CONST_MEMORY, size_t record[5]);
 
 /* Appends the whole samples of bytes, low byte first; a leftover byte is dropped. The record's len is the new count, and
  * no other number of it changes. Refuses with 1, 2, and 8 where the samples do not all fit. */
-uint32_t lc_append(size_t record[5],
-                   uint8_t *samples, size_t samples_len,
-                   uint16_t *l1, size_t l1_len, uint16_t *l2, size_t l2_len,
-                   uint16_t *l3, size_t l3_len, uint16_t *l4, size_t l4_len,
-                   const uint8_t *bytes, size_t bytes_len);
+uint32_t lc_append(size_t record[5], LC_MEMORY, const uint8_t *bytes, size_t bytes_len);
 
 /* The sample at place i. Refuses with 1, 2, and 9 where i is not below len. */
-uint32_t lc_get(const size_t record[5],
-                const uint8_t *samples, size_t samples_len,
-                const uint16_t *l1, size_t l1_len, const uint16_t *l2, size_t l2_len,
-                const uint16_t *l3, size_t l3_len, const uint16_t *l4, size_t l4_len,
-                size_t i, uint16_t *value);
+uint32_t lc_get(const size_t record[5], LC_CONST_MEMORY, size_t i, uint16_t *value);
 
 /* Copies the samples from start on, count of them or as many as there are, to output, and says how many in copied.
  * Output past them is unchanged. Refuses with 1, 2, and 11 where output is shorter than what is to be copied. */
-uint32_t lc_samples(const size_t record[5],
-                    const uint8_t *samples, size_t samples_len,
-                    const uint16_t *l1, size_t l1_len, const uint16_t *l2, size_t l2_len,
-                    const uint16_t *l3, size_t l3_len, const uint16_t *l4, size_t l4_len,
-                    size_t start, size_t count, uint16_t *output, size_t output_len, size_t *copied);
+uint32_t lc_samples(const size_t record[5], LC_CONST_MEMORY, size_t start, size_t count,
+                    uint16_t *output, size_t output_len, size_t *copied);
 
 /* The stored bytes of a chunk, 1048576 samples to each: samples[from] up to samples[to], that one not among them.
  * It has no code: past the end, and where 1 or 2 would apply, the part is empty (from and to are 0). */
-void lc_raw(const size_t record[5],
-            const uint8_t *samples, size_t samples_len,
-            const uint16_t *l1, size_t l1_len, const uint16_t *l2, size_t l2_len,
-            const uint16_t *l3, size_t l3_len, const uint16_t *l4, size_t l4_len,
-            size_t chunk, size_t *from, size_t *to);
+void lc_raw(const size_t record[5], LC_CONST_MEMORY, size_t chunk, size_t *from, size_t *to);
 
 /* Whether the levels are right: 0 where each node that covers stored samples is the node of its range (nothing is written);
  * LC_NONE, with the level and the number of the first that is not, lowest level first. Refuses with 1 and 2. */
-uint32_t lc_whole(const size_t record[5],
-                  const uint8_t *samples, size_t samples_len,
-                  const uint16_t *l1, size_t l1_len, const uint16_t *l2, size_t l2_len,
-                  const uint16_t *l3, size_t l3_len, const uint16_t *l4, size_t l4_len,
-                  size_t *level, size_t *number);
+uint32_t lc_whole(const size_t record[5], LC_CONST_MEMORY, size_t *level, size_t *number);
 
 /* The node of the places from a up to b, or up to len: first sample, last sample, and the lines that change inside.
  * LC_NONE where there is no such place (nothing is written). Refuses with 1 and 2. */
-uint32_t lc_summary(const size_t record[5],
-                    const uint8_t *samples, size_t samples_len,
-                    const uint16_t *l1, size_t l1_len, const uint16_t *l2, size_t l2_len,
-                    const uint16_t *l3, size_t l3_len, const uint16_t *l4, size_t l4_len,
-                    size_t a, size_t b, uint16_t node[3]);
+uint32_t lc_summary(const size_t record[5], LC_CONST_MEMORY, size_t a, size_t b, uint16_t node[3]);
 
 /* The smallest place above from at which a line of the mask differs from the sample before; LC_NONE where there is none
  * (place is not written). Any from is allowed. Refuses with 1 and 2.
@@ -103,18 +105,10 @@ uint32_t lc_summary(const size_t record[5],
  * read becomes the count of nodes read, with 0 and with LC_NONE: each node of a level and each sample that the search takes
  * on its way, the sample that it starts from not among them. Where lc_whole gives 0 it is at most 384 for each chunk of
  * 1048576 samples that the search enters. */
-uint32_t lc_next_change(const size_t record[5],
-                        const uint8_t *samples, size_t samples_len,
-                        const uint16_t *l1, size_t l1_len, const uint16_t *l2, size_t l2_len,
-                        const uint16_t *l3, size_t l3_len, const uint16_t *l4, size_t l4_len,
-                        uint16_t mask, size_t from, size_t *place, size_t *read);
+uint32_t lc_next_change(const size_t record[5], LC_CONST_MEMORY, uint16_t mask, size_t from, size_t *place, size_t *read);
 
 /* The same backward: the largest such place, 1 or above, that is not above from. */
-uint32_t lc_prev_change(const size_t record[5],
-                        const uint8_t *samples, size_t samples_len,
-                        const uint16_t *l1, size_t l1_len, const uint16_t *l2, size_t l2_len,
-                        const uint16_t *l3, size_t l3_len, const uint16_t *l4, size_t l4_len,
-                        uint16_t mask, size_t from, size_t *place, size_t *read);
+uint32_t lc_prev_change(const size_t record[5], LC_CONST_MEMORY, uint16_t mask, size_t from, size_t *place, size_t *read);
 
 /* The burst of changes at a place, gaps below max_gap: ends becomes first, last, the jumps made at the end and those made
  * at the start. A change counts as near up to tolerance; each end jumps at most budget times. LC_NONE where there is no
@@ -122,21 +116,14 @@ uint32_t lc_prev_change(const size_t record[5],
  *
  * read becomes, with 0 and with LC_NONE, the sum of the nodes read by the searches that it makes, each as in
  * lc_next_change. */
-uint32_t lc_burst_at(const size_t record[5],
-                     const uint8_t *samples, size_t samples_len,
-                     const uint16_t *l1, size_t l1_len, const uint16_t *l2, size_t l2_len,
-                     const uint16_t *l3, size_t l3_len, const uint16_t *l4, size_t l4_len,
-                     uint16_t mask, size_t sample, size_t max_gap, size_t tolerance, size_t budget,
-                     size_t ends[4], size_t *read);
+uint32_t lc_burst_at(const size_t record[5], LC_CONST_MEMORY, uint16_t mask, size_t sample, size_t max_gap,
+                     size_t tolerance, size_t budget, size_t ends[4], size_t *read);
 
 /* Draws width pixels of a view that begins at place start, spp samples to a pixel: output becomes two numbers for each,
  * first sample and the lines that change, 0 and 0 where there is no sample. Output past 2 * width is unchanged. Refuses with
  * 1, 2, 10 where start or spp is infinite or not a number, and 11 where width is above 65536 or output below 2 * width. */
-uint32_t lc_render(const size_t record[5],
-                   const uint8_t *samples, size_t samples_len,
-                   const uint16_t *l1, size_t l1_len, const uint16_t *l2, size_t l2_len,
-                   const uint16_t *l3, size_t l3_len, const uint16_t *l4, size_t l4_len,
-                   double start, double spp, size_t width, uint16_t *output, size_t output_len);
+uint32_t lc_render(const size_t record[5], LC_CONST_MEMORY, double start, double spp, size_t width,
+                   uint16_t *output, size_t output_len);
 
 /* A mill's reader: the calls lc_mill_*, for whoever may see some lines only. Each takes a grant, a mask of lines, and tells
  * nothing of the others: to it, two captures of equal length, mark and granted lines look alike, refusals too, each with its
@@ -153,102 +140,66 @@ uint32_t lc_render(const size_t record[5],
 
 /* Which places there are: first becomes that of the first sample, end the one behind the last, and marked 1 where there is a
  * mark, which is at 0 then, else 0. Without samples both places are 0. It takes no grant. Refuses with 1 and 2. */
-uint32_t lc_mill_extent(const size_t record[5],
-                        const uint8_t *samples, size_t samples_len,
-                        const uint16_t *l1, size_t l1_len, const uint16_t *l2, size_t l2_len,
-                        const uint16_t *l3, size_t l3_len, const uint16_t *l4, size_t l4_len,
-                        int64_t *first, int64_t *end, size_t *marked);
+uint32_t lc_mill_extent(const size_t record[5], LC_CONST_MEMORY, int64_t *first, int64_t *end, size_t *marked);
 
 /* As lc_get: the sample at a place. Refuses with 1, 2, 13, and 9 where the place is at or past the end. */
-uint32_t lc_mill_get(const size_t record[5],
-                     const uint8_t *samples, size_t samples_len,
-                     const uint16_t *l1, size_t l1_len, const uint16_t *l2, size_t l2_len,
-                     const uint16_t *l3, size_t l3_len, const uint16_t *l4, size_t l4_len,
-                     uint16_t grant, int64_t place, uint16_t *value);
+uint32_t lc_mill_get(const size_t record[5], LC_CONST_MEMORY, uint16_t grant, int64_t place, uint16_t *value);
 
 /* As lc_samples: copies the samples from start on, count of them or as many as there are; from the end on there are none.
  * Refuses with 1, 2, 13, and 11 where output is shorter than what is to be copied. */
-uint32_t lc_mill_samples(const size_t record[5],
-                         const uint8_t *samples, size_t samples_len,
-                         const uint16_t *l1, size_t l1_len, const uint16_t *l2, size_t l2_len,
-                         const uint16_t *l3, size_t l3_len, const uint16_t *l4, size_t l4_len,
-                         uint16_t grant, int64_t start, size_t count,
+uint32_t lc_mill_samples(const size_t record[5], LC_CONST_MEMORY, uint16_t grant, int64_t start, size_t count,
                          uint16_t *output, size_t output_len, size_t *copied);
 
 /* As lc_summary: the node of the places from a up to b, or up to the end; LC_NONE where there is no such place (nothing is
  * written). Refuses with 1, 2, and 13 where a or b is before the first sample. */
-uint32_t lc_mill_summary(const size_t record[5],
-                         const uint8_t *samples, size_t samples_len,
-                         const uint16_t *l1, size_t l1_len, const uint16_t *l2, size_t l2_len,
-                         const uint16_t *l3, size_t l3_len, const uint16_t *l4, size_t l4_len,
-                         uint16_t grant, int64_t a, int64_t b, uint16_t node[3]);
+uint32_t lc_mill_summary(const size_t record[5], LC_CONST_MEMORY, uint16_t grant, int64_t a, int64_t b, uint16_t node[3]);
 
 /* As lc_next_change: the first place above from at which a line of the mask differs from the sample before; LC_NONE where
  * there is none (place is not written). Refuses with 1, 2, 12 and 13. */
-uint32_t lc_mill_next_change(const size_t record[5],
-                             const uint8_t *samples, size_t samples_len,
-                             const uint16_t *l1, size_t l1_len, const uint16_t *l2, size_t l2_len,
-                             const uint16_t *l3, size_t l3_len, const uint16_t *l4, size_t l4_len,
-                             uint16_t grant, uint16_t mask, int64_t from, int64_t *place, size_t *read);
+uint32_t lc_mill_next_change(const size_t record[5], LC_CONST_MEMORY, uint16_t grant, uint16_t mask, int64_t from,
+                             int64_t *place, size_t *read);
 
 /* The same backward: the last such place, above that of the first sample, that is not above from. */
-uint32_t lc_mill_prev_change(const size_t record[5],
-                             const uint8_t *samples, size_t samples_len,
-                             const uint16_t *l1, size_t l1_len, const uint16_t *l2, size_t l2_len,
-                             const uint16_t *l3, size_t l3_len, const uint16_t *l4, size_t l4_len,
-                             uint16_t grant, uint16_t mask, int64_t from, int64_t *place, size_t *read);
+uint32_t lc_mill_prev_change(const size_t record[5], LC_CONST_MEMORY, uint16_t grant, uint16_t mask, int64_t from,
+                             int64_t *place, size_t *read);
 
 /* As lc_burst_at: first and last become the places of the burst's first and last change, and jumps the jumps made at the end
  * and those made at the start. LC_NONE where there is no burst (of these nothing is written). Refuses with 1, 2, 12 and
  * 13. */
-uint32_t lc_mill_burst_at(const size_t record[5],
-                          const uint8_t *samples, size_t samples_len,
-                          const uint16_t *l1, size_t l1_len, const uint16_t *l2, size_t l2_len,
-                          const uint16_t *l3, size_t l3_len, const uint16_t *l4, size_t l4_len,
-                          uint16_t grant, uint16_t mask, int64_t sample,
-                          size_t max_gap, size_t tolerance, size_t budget,
-                          int64_t *first, int64_t *last, size_t jumps[2], size_t *read);
+uint32_t lc_mill_burst_at(const size_t record[5], LC_CONST_MEMORY, uint16_t grant, uint16_t mask, int64_t sample,
+                          size_t max_gap, size_t tolerance, size_t budget, int64_t *first, int64_t *last, size_t jumps[2],
+                          size_t *read);
 
 /* As lc_render: draws width pixels of a view; start is a place as the mill counts, and may be before the first sample, where
  * there is nothing to draw: 13 is not given. Refuses with 1, 2, 10 and 11. */
-uint32_t lc_mill_render(const size_t record[5],
-                        const uint8_t *samples, size_t samples_len,
-                        const uint16_t *l1, size_t l1_len, const uint16_t *l2, size_t l2_len,
-                        const uint16_t *l3, size_t l3_len, const uint16_t *l4, size_t l4_len,
-                        uint16_t grant, double start, double spp, size_t width, uint16_t *output, size_t output_len);
+uint32_t lc_mill_render(const size_t record[5], LC_CONST_MEMORY, uint16_t grant, double start, double spp, size_t width,
+                        uint16_t *output, size_t output_len);
 
 /* Starts a recorder: record becomes its 17 numbers, of which the first five are the record of its capture, and cut becomes
  * 1 where the samples kept before the trigger were cut at the cap, else 0. The lent memory is measured, and not written.
  *
  * The other numbers: limit (samples, 0: none), pre (samples kept before the trigger), waiting (0: it waits for no trigger),
  * the lines of High, Low, Rising, Falling and Edge terms, known (0: there is no previous sample), the previous sample, the
- * place of the ring's next slot, and how many samples the ring has kept.
+ * place of the ring's next slot, and how many samples the ring has kept. The lines and the previous sample count modulo
+ * 65536: what they have above 16 bits is not read.
  *
  * A term is two bytes: its line, 0 to 15, and its condition, 0 Rising, 1 Falling, 2 Edge, 3 High, 4 Low. A line with both
  * Rising and Falling counts as one with Edge, beside any other terms on it, and is a line of Edge in the record. Without
  * terms it records at once. The wish is a fraction of limit to keep before the trigger, or, where seconds is true and
  * limit is 0, seconds at rate samples a second. The ring needs pre samples' bytes.
  *
- * Refuses with 1 and 2; 3 where a term has no such line or condition; 4 where limit is above the capacity; 5 a fraction
- * without a limit, or seconds with one; 6 where the wish is not a number, or the rate of seconds above 1000000000; 7 where
- * pre is not below the capacity, or the ring is too short. */
-uint32_t lc_feeder_start(size_t channels, size_t capacity, size_t limit,
-                         const uint8_t *terms, size_t terms_len, bool seconds, double wish, size_t rate,
-                         const uint8_t *samples, size_t samples_len,
-                         const uint16_t *l1, size_t l1_len, const uint16_t *l2, size_t l2_len,
-                         const uint16_t *l3, size_t l3_len, const uint16_t *l4, size_t l4_len,
-                         const uint8_t *ring, size_t ring_len,
+ * Refuses with 1 and 2; 3 where a term has no such line or condition, or terms_len is odd; 4 where limit is above the
+ * capacity; 5 a fraction without a limit, or seconds with one; 6 where the wish is not a number, or the rate of seconds
+ * above 1000000000; 7 where pre is not below the capacity, or the ring is too short. */
+uint32_t lc_feeder_start(size_t channels, size_t capacity, size_t limit, const uint8_t *terms, size_t terms_len,
+                         bool seconds, double wish, size_t rate, LC_CONST_MEMORY, const uint8_t *ring, size_t ring_len,
                          size_t record[17], size_t *cut);
 
 /* Pushes the whole samples of bytes, low byte first; a leftover byte is dropped. While the recorder waits they go to the
  * ring; from the sample that fires on, with those kept before it, they go to the capture, up to limit. Gives 0 while it goes
  * on and LC_NONE once it is complete, and in both cases the record's numbers are the new ones; unit, capacity, limit, pre and
  * the lines of the terms stay. Refuses with 1, 2, and 8 where what is to be stored does not all fit. */
-uint32_t lc_push(size_t record[17],
-                 uint8_t *samples, size_t samples_len,
-                 uint16_t *l1, size_t l1_len, uint16_t *l2, size_t l2_len,
-                 uint16_t *l3, size_t l3_len, uint16_t *l4, size_t l4_len,
-                 uint8_t *ring, size_t ring_len, const uint8_t *bytes, size_t bytes_len);
+uint32_t lc_push(size_t record[17], LC_MEMORY, uint8_t *ring, size_t ring_len, const uint8_t *bytes, size_t bytes_len);
 
 #ifdef __cplusplus
 }

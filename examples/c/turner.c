@@ -17,20 +17,6 @@ enum {
 static const uint16_t ENCODER = 1 << 0 | 1 << 1;
 static const uint8_t RISING = 0;
 
-/* Memory lent to the recorder. It stays ours, and goes to each call on the record. */
-struct memory {
-    uint8_t *samples;
-    uint16_t *level[4];
-    uint8_t *ring;
-    size_t sizes[5]; /* as lc_needs gives them */
-    size_t ring_size;
-};
-
-/* The lent memory as each call takes it. */
-#define LENT(m)                                                                                  \
-    (m)->samples, (m)->sizes[0], (m)->level[0], (m)->sizes[1], (m)->level[1], (m)->sizes[2],     \
-        (m)->level[2], (m)->sizes[3], (m)->level[3], (m)->sizes[4]
-
 static void *lend(size_t bytes) {
     void *memory = malloc(bytes > 0 ? bytes : 1);
     if (memory == NULL) {
@@ -63,21 +49,21 @@ static size_t scan(const uint8_t *s, size_t len, uint16_t mask, size_t from) {
 }
 
 int main(void) {
-    struct memory m;
+    /* The memory that is lent stays ours, and goes to each call on the record. */
+    lc_memory m;
     size_t record[17], cut;
 
     /* Lend as much as lc_needs says; the ring holds what is kept before the trigger, less than the limit. */
     must(lc_needs(CHANNELS, CAPACITY, m.sizes) == 0, "needs");
     m.samples = lend(m.sizes[0]);
     for (int level = 0; level < 4; level++)
-        m.level[level] = lend(m.sizes[1 + level] * sizeof(uint16_t));
-    m.ring_size = LIMIT;
-    m.ring = lend(m.ring_size);
+        m.level[level] = lend(m.sizes[1 + level] * sizeof *m.level[level]);
+    uint8_t *ring = lend(LIMIT);
 
     /* A quarter of the limit from before the drive rises. */
     const uint8_t terms[] = {DRIVE, RISING};
-    must(lc_feeder_start(CHANNELS, CAPACITY, LIMIT, terms, sizeof terms, false, 0.25, 0, LENT(&m), m.ring, m.ring_size,
-                         record, &cut) == 0, "start");
+    must(lc_feeder_start(CHANNELS, CAPACITY, LIMIT, terms, sizeof terms, false, 0.25, 0, LC_LEND(m), ring, LIMIT, record,
+                         &cut) == 0, "start");
 
     size_t pushed = 0;
     for (uint32_t code = 0; code != LC_NONE;) {
@@ -85,7 +71,7 @@ int main(void) {
         for (size_t i = 0; i < PUSH; i++)
             bytes[i] = machine(pushed + i);
         pushed += PUSH;
-        code = lc_push(record, LENT(&m), m.ring, m.ring_size, bytes, sizeof bytes);
+        code = lc_push(record, LC_LEND(m), ring, LIMIT, bytes, sizeof bytes);
         must(code == 0 || code == LC_NONE, "push");
     }
     const size_t len = record[2], mark = record[4];
@@ -94,11 +80,11 @@ int main(void) {
     for (size_t i = 0; i < len; i++)
         must(m.samples[i] == machine(5000 - mark + i), "the run's samples");
     size_t level, number;
-    must(lc_whole(record, LENT(&m), &level, &number) == 0, "whole");
+    must(lc_whole(record, LC_LEND(m), &level, &number) == 0, "whole");
 
     /* All changes of the encoder, one after another; the last search finds none. */
     size_t steps = 0, first = 0, last = 0, nodes = 0, place, read;
-    while (lc_next_change(record, LENT(&m), ENCODER, last, &place, &read) == 0) {
+    while (lc_next_change(record, LC_LEND(m), ENCODER, last, &place, &read) == 0) {
         must(place == scan(m.samples, len, ENCODER, last), "next change");
         must(read <= 384, "no more than 384 nodes are read in a chunk");
         if (steps++ == 0)
@@ -110,21 +96,21 @@ int main(void) {
     must(scan(m.samples, len, ENCODER, last) == len, "no change after the last");
     printf("encoder: first step at %zu, last at %zu, %zu steps, %zu nodes read for %zu samples\n", first, last, steps, nodes,
            len);
-    must(lc_prev_change(record, LENT(&m), ENCODER, len, &place, &read) == 0 && place == last, "previous change");
+    must(lc_prev_change(record, LC_LEND(m), ENCODER, len, &place, &read) == 0 && place == last, "previous change");
 
     size_t ends[4];
-    must(lc_burst_at(record, LENT(&m), ENCODER, 2000, 100, 0, 1000, ends, &read) == 0, "burst");
+    must(lc_burst_at(record, LC_LEND(m), ENCODER, 2000, 100, 0, 1000, ends, &read) == 0, "burst");
     printf("burst: %zu to %zu, %zu jumps at its end, %zu at its start\n", ends[0], ends[1], ends[2], ends[3]);
     must(ends[0] == first && ends[1] == last, "the burst's ends");
 
     uint16_t node[3];
-    must(lc_summary(record, LENT(&m), 0, mark, node) == 0, "summary");
+    must(lc_summary(record, LC_LEND(m), 0, mark, node) == 0, "summary");
     printf("before the mark: first %u, last %u, changing %u\n", node[0], node[1], node[2]);
     must(node[0] == 0 && node[1] == 0 && node[2] == 0, "the summary before the mark");
 
     /* A picture of the drive and the encoder: high -, low _, and | where a line changes within the pixel. */
     uint16_t pixels[2 * WIDTH];
-    must(lc_render(record, LENT(&m), (double)mark - 200, 20, WIDTH, pixels, 2 * WIDTH) == 0, "render");
+    must(lc_render(record, LC_LEND(m), (double)mark - 200, 20, WIDTH, pixels, 2 * WIDTH) == 0, "render");
     static const int lines[] = {DRIVE, 0, 1};
     for (size_t l = 0; l < sizeof lines / sizeof *lines; l++) {
         char row[WIDTH + 1];
@@ -140,32 +126,32 @@ int main(void) {
     /* A mill that is granted the encoder's lines: its places count from the mark, and it sees no other line. */
     int64_t run_first, run_end, step;
     size_t marked;
-    must(lc_mill_extent(record, LENT(&m), &run_first, &run_end, &marked) == 0, "extent");
+    must(lc_mill_extent(record, LC_LEND(m), &run_first, &run_end, &marked) == 0, "extent");
     must(marked == 1 && run_first == -(int64_t)mark && run_end == (int64_t)(len - mark), "the mill's places");
-    must(lc_mill_next_change(record, LENT(&m), ENCODER, ENCODER, run_first, &step, &read) == 0, "a mill's next change");
+    must(lc_mill_next_change(record, LC_LEND(m), ENCODER, ENCODER, run_first, &step, &read) == 0, "a mill's next change");
     must(step == (int64_t)first - (int64_t)mark, "the step from the mark");
     uint16_t after[4];
     size_t copied;
-    must(lc_mill_samples(record, LENT(&m), ENCODER, step - 2, 4, after, 4, &copied) == 0 && copied == 4, "samples");
+    must(lc_mill_samples(record, LC_LEND(m), ENCODER, step - 2, 4, after, 4, &copied) == 0 && copied == 4, "samples");
     printf("a mill: %" PRId64 " to %" PRId64 ", first step at %" PRId64 ", samples there %u %u %u %u\n", run_first, run_end,
            step, after[0], after[1], after[2], after[3]);
     for (size_t i = 0; i < 4; i++)
         must(after[i] == (m.samples[first - 2 + i] & ENCODER), "a mill's samples");
     read = 77;
-    const uint32_t beyond = lc_mill_next_change(record, LENT(&m), ENCODER, 1 << DRIVE, run_first - 1, &step, &read);
-    const uint32_t before = lc_mill_next_change(record, LENT(&m), ENCODER, ENCODER, run_first - 1, &step, &read);
+    const uint32_t beyond = lc_mill_next_change(record, LC_LEND(m), ENCODER, 1 << DRIVE, run_first - 1, &step, &read);
+    const uint32_t before = lc_mill_next_change(record, LC_LEND(m), ENCODER, ENCODER, run_first - 1, &step, &read);
     printf("the drive's line and a place before the run: refused with %u and %u\n", (unsigned)beyond, (unsigned)before);
     must(beyond == 12 && before == 13 && step == (int64_t)first - (int64_t)mark && read == 77, "a mill's refusals");
 
     /* A refusal has a number, and changes nothing. */
     uint16_t value = 77;
-    const uint32_t refused = lc_get(record, LENT(&m), len, &value);
+    const uint32_t refused = lc_get(record, LC_LEND(m), len, &value);
     printf("get past the end: refused with %u\n", (unsigned)refused);
     must(refused == 9 && value == 77, "the refusal");
 
     free(m.samples);
     for (int l = 0; l < 4; l++)
         free(m.level[l]);
-    free(m.ring);
+    free(ring);
     return 0;
 }

@@ -17,92 +17,15 @@ pub type RecorderRecord = [usize; 17];
 /// A refusal, or whether there is an answer.
 type Answered = Result<bool, Refusal>;
 
-/// Declares calls that take a record and its lent memory between the arguments of their own.
-macro_rules! declare {
-    ($(fn $name:ident($($before:ident: $b:ty),*; $byte:ty, $number:ty; $($after:ident: $a:ty),*) -> $code:ty;)*) => {
+macro_rules! exports {
+    ($(fn $name:ident($($parameter:ident: $type:ty),*) -> $result:ty;)*) => {
         extern "C" {
-            $(fn $name(
-                $($before: $b,)*
-                samples: $byte, samples_len: usize,
-                l1: $number, l1_len: usize,
-                l2: $number, l2_len: usize,
-                l3: $number, l3_len: usize,
-                l4: $number, l4_len: usize,
-                $($after: $a,)*
-            ) -> $code;)*
+            $(fn $name($($parameter: $type),*) -> $result;)*
         }
     };
 }
 
-declare! {
-    fn lc_start(channels: usize, capacity: usize; *const u8, *const u16; record: *mut usize) -> u32;
-    fn lc_append(record: *mut usize; *mut u8, *mut u16; bytes: *const u8, bytes_len: usize) -> u32;
-    fn lc_get(record: *const usize; *const u8, *const u16; i: usize, value: *mut u16) -> u32;
-    fn lc_samples(
-        record: *const usize; *const u8, *const u16;
-        start: usize, count: usize, output: *mut u16, output_len: usize, copied: *mut usize
-    ) -> u32;
-    fn lc_raw(record: *const usize; *const u8, *const u16; chunk: usize, from: *mut usize, to: *mut usize) -> ();
-    fn lc_whole(record: *const usize; *const u8, *const u16; level: *mut usize, number: *mut usize) -> u32;
-    fn lc_summary(record: *const usize; *const u8, *const u16; a: usize, b: usize, node: *mut u16) -> u32;
-    fn lc_next_change(
-        record: *const usize; *const u8, *const u16; mask: u16, from: usize, place: *mut usize, read: *mut usize
-    ) -> u32;
-    fn lc_prev_change(
-        record: *const usize; *const u8, *const u16; mask: u16, from: usize, place: *mut usize, read: *mut usize
-    ) -> u32;
-    fn lc_burst_at(
-        record: *const usize; *const u8, *const u16;
-        mask: u16, sample: usize, max_gap: usize, tolerance: usize, budget: usize,
-        ends: *mut usize, read: *mut usize
-    ) -> u32;
-    fn lc_render(
-        record: *const usize; *const u8, *const u16;
-        start: f64, spp: f64, width: usize, output: *mut u16, output_len: usize
-    ) -> u32;
-    fn lc_mill_extent(
-        record: *const usize; *const u8, *const u16; first: *mut i64, end: *mut i64, marked: *mut usize
-    ) -> u32;
-    fn lc_mill_get(record: *const usize; *const u8, *const u16; grant: u16, place: i64, value: *mut u16) -> u32;
-    fn lc_mill_samples(
-        record: *const usize; *const u8, *const u16;
-        grant: u16, start: i64, count: usize, output: *mut u16, output_len: usize, copied: *mut usize
-    ) -> u32;
-    fn lc_mill_summary(
-        record: *const usize; *const u8, *const u16; grant: u16, a: i64, b: i64, node: *mut u16
-    ) -> u32;
-    fn lc_mill_next_change(
-        record: *const usize; *const u8, *const u16;
-        grant: u16, mask: u16, from: i64, place: *mut i64, read: *mut usize
-    ) -> u32;
-    fn lc_mill_prev_change(
-        record: *const usize; *const u8, *const u16;
-        grant: u16, mask: u16, from: i64, place: *mut i64, read: *mut usize
-    ) -> u32;
-    fn lc_mill_burst_at(
-        record: *const usize; *const u8, *const u16;
-        grant: u16, mask: u16, sample: i64, max_gap: usize, tolerance: usize, budget: usize,
-        first: *mut i64, last: *mut i64, jumps: *mut usize, read: *mut usize
-    ) -> u32;
-    fn lc_mill_render(
-        record: *const usize; *const u8, *const u16;
-        grant: u16, start: f64, spp: f64, width: usize, output: *mut u16, output_len: usize
-    ) -> u32;
-    fn lc_feeder_start(
-        channels: usize, capacity: usize, limit: usize,
-        terms: *const u8, terms_len: usize, seconds: bool, wish: f64, rate: usize;
-        *const u8, *const u16;
-        ring: *const u8, ring_len: usize, record: *mut usize, cut: *mut usize
-    ) -> u32;
-    fn lc_push(
-        record: *mut usize; *mut u8, *mut u16;
-        ring: *mut u8, ring_len: usize, bytes: *const u8, bytes_len: usize
-    ) -> u32;
-}
-
-extern "C" {
-    fn lc_needs(channels: usize, capacity: usize, sizes: *mut usize) -> u32;
-}
+include!("../../../include/logic_core.rs");
 
 /// Calls with the pointers and lengths of lent memory between the arguments of its own.
 macro_rules! call {
@@ -144,29 +67,23 @@ fn counted<T>(code: u32, written: T, read: usize) -> Result<Counted<T>, Refusal>
 pub fn needs(channels: usize, capacity: usize) -> Result<[usize; 5], Refusal> {
     let mut sizes = [0; 5];
     // SAFETY: the pointer is to five numbers, as many as are written.
-    let code = unsafe { lc_needs(channels, capacity, sizes.as_mut_ptr()) };
+    let code = unsafe { lc_needs(channels, capacity, &mut sizes) };
     answered(code).map(|_| sizes)
 }
 
 pub fn start(channels: usize, capacity: usize, memory: &Memory) -> Result<Record, Refusal> {
     let mut record = [0; 5];
-    answered(call!(lc_start, (channels, capacity), memory.as_ptr, (record.as_mut_ptr())))
-        .map(|_| record)
+    answered(call!(lc_start, (channels, capacity), memory.as_ptr, (&mut record))).map(|_| record)
 }
 
 pub fn append(record: &mut Record, memory: &mut Memory, bytes: &[u8]) -> Result<(), Refusal> {
-    answered(call!(
-        lc_append,
-        (record.as_mut_ptr()),
-        memory.as_mut_ptr,
-        (bytes.as_ptr(), bytes.len())
-    ))
-    .map(|_| ())
+    answered(call!(lc_append, (record), memory.as_mut_ptr, (bytes.as_ptr(), bytes.len())))
+        .map(|_| ())
 }
 
 pub fn get(record: &Record, memory: &Memory, i: usize) -> Result<Lines, Refusal> {
     let mut value = 0;
-    answered(call!(lc_get, (record.as_ptr()), memory.as_ptr, (i, &mut value))).map(|_| value)
+    answered(call!(lc_get, (record), memory.as_ptr, (i, &mut value))).map(|_| value)
 }
 
 pub fn samples(
@@ -179,7 +96,7 @@ pub fn samples(
     let (room, mut copied) = (output.len(), 0);
     let code = call!(
         lc_samples,
-        (record.as_ptr()),
+        (record),
         memory.as_ptr,
         (start, count, output.as_mut_ptr(), room, &mut copied)
     );
@@ -188,15 +105,14 @@ pub fn samples(
 
 pub fn raw<'a>(record: &Record, memory: &'a Memory, chunk: usize) -> &'a [u8] {
     let (mut from, mut to) = (0, 0);
-    call!(lc_raw, (record.as_ptr()), memory.as_ptr, (chunk, &mut from, &mut to));
+    call!(lc_raw, (record), memory.as_ptr, (chunk, &mut from, &mut to));
     &memory.samples[from..to]
 }
 
 /// None where the levels are whole, else the level and the number of the first wrong node.
 pub fn whole(record: &Record, memory: &Memory) -> Result<Option<(usize, usize)>, Refusal> {
     let (mut level, mut number) = (0, 0);
-    let whole =
-        answered(call!(lc_whole, (record.as_ptr()), memory.as_ptr, (&mut level, &mut number)))?;
+    let whole = answered(call!(lc_whole, (record), memory.as_ptr, (&mut level, &mut number)))?;
     Ok((!whole).then_some((level, number)))
 }
 
@@ -207,8 +123,7 @@ pub fn summary(
     b: usize,
 ) -> Result<Option<Node>, Refusal> {
     let mut node = [0; 3];
-    let found =
-        answered(call!(lc_summary, (record.as_ptr()), memory.as_ptr, (a, b, node.as_mut_ptr())))?;
+    let found = answered(call!(lc_summary, (record), memory.as_ptr, (a, b, &mut node)))?;
     let [first, last, toggles] = node;
     Ok(found.then_some(Node { first, last, toggles }))
 }
@@ -224,7 +139,7 @@ macro_rules! searches {
             let (mut place, mut read) = (0, 0);
             let code = call!(
                 $call,
-                (record.as_ptr()),
+                (record),
                 memory.as_ptr,
                 ($($argument,)* &mut place, &mut read)
             );
@@ -248,12 +163,11 @@ pub fn burst_at(
     [max_gap, tolerance, budget]: [usize; 3],
 ) -> Result<Counted<Burst>, Refusal> {
     let (mut ends, mut read) = ([0; 4], 0);
-    let out = ends.as_mut_ptr();
     let code = call!(
         lc_burst_at,
-        (record.as_ptr()),
+        (record),
         memory.as_ptr,
-        (mask, sample, max_gap, tolerance, budget, out, &mut read)
+        (mask, sample, max_gap, tolerance, budget, &mut ends, &mut read)
     );
     let [first, last, jumps_at_end, jumps_at_start] = ends;
     counted(code, Burst { first, last, jumps_at_end, jumps_at_start }, read)
@@ -269,23 +183,14 @@ pub fn render(
     output: &mut [Lines],
 ) -> Result<(), Refusal> {
     let room = output.len();
-    let code = call!(
-        lc_render,
-        (record.as_ptr()),
-        memory.as_ptr,
-        (start, spp, width, output.as_mut_ptr(), room)
-    );
+    let code =
+        call!(lc_render, (record), memory.as_ptr, (start, spp, width, output.as_mut_ptr(), room));
     answered(code).map(|_| ())
 }
 
 pub fn mill_extent(record: &Record, memory: &Memory) -> Result<Extent, Refusal> {
     let (mut first, mut end, mut marked) = (0, 0, 0);
-    let code = call!(
-        lc_mill_extent,
-        (record.as_ptr()),
-        memory.as_ptr,
-        (&mut first, &mut end, &mut marked)
-    );
+    let code = call!(lc_mill_extent, (record), memory.as_ptr, (&mut first, &mut end, &mut marked));
     answered(code).map(|_| Extent { first, end, marked: marked != 0 })
 }
 
@@ -296,7 +201,7 @@ pub fn mill_get(
     place: i64,
 ) -> Result<Lines, Refusal> {
     let mut value = 0;
-    let code = call!(lc_mill_get, (record.as_ptr()), memory.as_ptr, (grant, place, &mut value));
+    let code = call!(lc_mill_get, (record), memory.as_ptr, (grant, place, &mut value));
     answered(code).map(|_| value)
 }
 
@@ -311,7 +216,7 @@ pub fn mill_samples(
     let (room, mut copied) = (output.len(), 0);
     let code = call!(
         lc_mill_samples,
-        (record.as_ptr()),
+        (record),
         memory.as_ptr,
         (grant, start, count, output.as_mut_ptr(), room, &mut copied)
     );
@@ -326,8 +231,7 @@ pub fn mill_summary(
     b: i64,
 ) -> Result<Option<Node>, Refusal> {
     let mut node = [0; 3];
-    let out = node.as_mut_ptr();
-    let code = call!(lc_mill_summary, (record.as_ptr()), memory.as_ptr, (grant, a, b, out));
+    let code = call!(lc_mill_summary, (record), memory.as_ptr, (grant, a, b, &mut node));
     let found = answered(code)?;
     let [first, last, toggles] = node;
     Ok(found.then_some(Node { first, last, toggles }))
@@ -342,12 +246,14 @@ pub fn mill_burst_at(
     [max_gap, tolerance, budget]: [usize; 3],
 ) -> Result<Counted<Burst<i64>>, Refusal> {
     let (mut first, mut last, mut jumps, mut read) = (0, 0, [0; 2], 0);
-    let out = jumps.as_mut_ptr();
     let code = call!(
         lc_mill_burst_at,
-        (record.as_ptr()),
+        (record),
         memory.as_ptr,
-        (grant, mask, sample, max_gap, tolerance, budget, &mut first, &mut last, out, &mut read)
+        (
+            grant, mask, sample, max_gap, tolerance, budget, &mut first, &mut last, &mut jumps,
+            &mut read
+        )
     );
     let [jumps_at_end, jumps_at_start] = jumps;
     counted(code, Burst { first, last, jumps_at_end, jumps_at_start }, read)
@@ -365,7 +271,7 @@ pub fn mill_render(
     let room = output.len();
     let code = call!(
         lc_mill_render,
-        (record.as_ptr()),
+        (record),
         memory.as_ptr,
         (grant, start, spp, width, output.as_mut_ptr(), room)
     );
@@ -395,7 +301,7 @@ pub fn recorder_start(
         lc_feeder_start,
         (channels, capacity, limit, terms.as_ptr(), terms.len(), seconds, wish, rate),
         memory.as_ptr,
-        (ring.as_ptr(), ring.len(), record.as_mut_ptr(), &mut cut)
+        (ring.as_ptr(), ring.len(), &mut record, &mut cut)
     );
     answered(code).map(|_| (record, cut != 0))
 }
@@ -410,7 +316,7 @@ pub fn push(
     let room = ring.len();
     let code = call!(
         lc_push,
-        (record.as_mut_ptr()),
+        (record),
         memory.as_mut_ptr,
         (ring.as_mut_ptr(), room, bytes.as_ptr(), bytes.len())
     );
