@@ -1,11 +1,12 @@
 //! The calls of include/logic_core.h made safe: slices for pointers with lengths, results for codes.
 //!
-//! All `unsafe` of this crate is here. The library checks every number that it gets. What a caller owes it are
-//! pointers that are valid for their lengths, aligned and not null, and that what a call writes overlaps nothing
-//! else that it gets. Vectors and arrays give such pointers, empty ones too, and the borrows in each signature keep
-//! them apart.
+//! All `unsafe` of this crate is here and in `mode`. The library checks every number that it gets. What a caller owes
+//! it are pointers that are valid for their lengths, aligned and not null, that what a call writes overlaps nothing
+//! else that it gets, and the default floating-point mode where a call takes a double. Vectors and arrays give such
+//! pointers, empty ones too, the borrows in each signature keep them apart, and [`DefaultMode`] sets the mode.
 
 use crate::memory::Memory;
+use crate::mode::DefaultMode;
 use crate::{Burst, Counted, Extent, Lines, Node, Refusal};
 
 /// unit, capacity, len, whether there is a mark, the mark
@@ -183,6 +184,7 @@ pub fn render(
     output: &mut [Lines],
 ) -> Result<(), Refusal> {
     let room = output.len();
+    let _mode = DefaultMode::set();
     let code =
         call!(lc_render, (record), memory.as_ptr, (start, spp, width, output.as_mut_ptr(), room));
     answered(code).map(|_| ())
@@ -269,6 +271,7 @@ pub fn mill_render(
     output: &mut [Lines],
 ) -> Result<(), Refusal> {
     let room = output.len();
+    let _mode = DefaultMode::set();
     let code = call!(
         lc_mill_render,
         (record),
@@ -297,6 +300,7 @@ pub fn recorder_start(
 ) -> Result<(RecorderRecord, bool), Refusal> {
     let RecorderStart { channels, capacity, limit, terms, seconds, wish, rate } = asked;
     let (mut record, mut cut) = ([0; 17], 0);
+    let _mode = DefaultMode::set();
     let code = call!(
         lc_feeder_start,
         (channels, capacity, limit, terms.as_ptr(), terms.len(), seconds, wish, rate),

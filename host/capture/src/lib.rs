@@ -41,6 +41,8 @@ mod capture;
 mod changes;
 mod memory;
 mod mill;
+#[allow(unsafe_code)]
+mod mode;
 mod recorder;
 mod refusal;
 mod settings;
