@@ -1,0 +1,158 @@
+//! The exports, each called with what is lent.
+
+use crate::given::{Given, Lent};
+use capture as _; // links the library
+
+macro_rules! exports {
+    ($(fn $name:ident($($parameter:ident: $type:ty),*) -> $result:ty;)*) => {
+        extern "C" {
+            $(fn $name($($parameter: $type),*) -> $result;)*
+        }
+        pub const EXPORTS: &[&str] = &[$(stringify!($name)),*];
+    };
+}
+
+include!("../../../../include/logic_core.rs");
+
+/// Calls with the lent memory between the arguments before and after it.
+macro_rules! lent {
+    ($lent:ident, $name:ident, ($($before:expr),*), ($($after:expr),*)) => {{
+        let ([l1, l2, l3, l4], [n1, n2, n3, n4]) = ($lent.levels, $lent.given.levels.each_ref().map(Vec::len));
+        // SAFETY: all pointers are into pages of ours, and valid for the lengths given with them.
+        unsafe {
+            $name(
+                $($before,)*
+                $lent.samples, $lent.given.samples.len(), l1, n1, l2, n2, l3, n3, l4, n4,
+                $($after,)*
+            )
+        }
+    }};
+}
+
+pub fn needs(l: &Lent) -> u32 {
+    // SAFETY: the pointer is into pages of ours, to as many numbers.
+    unsafe { lc_needs(l.given.channels, l.given.capacity, l.numbers) }
+}
+
+pub fn start(l: &Lent) -> u32 {
+    lent!(l, lc_start, (l.given.channels, l.given.capacity), (l.begun.cast()))
+}
+
+pub fn append(l: &Lent) -> u32 {
+    lent!(l, lc_append, (l.store()), (l.bytes, l.given.bytes.len()))
+}
+
+pub fn get(l: &Lent) -> u32 {
+    lent!(l, lc_get, (l.store()), (l.given.place, l.number(0)))
+}
+
+pub fn samples(l: &Lent) -> u32 {
+    let Given { place, count, output, .. } = l.given;
+    lent!(l, lc_samples, (l.store()), (place, count, l.output, output, l.number(0)))
+}
+
+pub fn whole(l: &Lent) -> u32 {
+    lent!(l, lc_whole, (l.store()), (l.number(0), l.number(1)))
+}
+
+pub fn summary(l: &Lent) -> u32 {
+    lent!(l, lc_summary, (l.store()), (l.given.place, l.given.end, l.output.cast()))
+}
+
+pub fn next_change(l: &Lent) -> u32 {
+    lent!(l, lc_next_change, (l.store()), (l.given.mask, l.given.place, l.number(0), l.read))
+}
+
+pub fn prev_change(l: &Lent) -> u32 {
+    lent!(l, lc_prev_change, (l.store()), (l.given.mask, l.given.place, l.number(0), l.read))
+}
+
+pub fn burst_at(l: &Lent) -> u32 {
+    let Given { mask, place, max_gap, .. } = l.given;
+    lent!(l, lc_burst_at, (l.store()), (mask, place, max_gap, 1, 1, l.numbers.cast(), l.read))
+}
+
+pub fn render(l: &Lent) -> u32 {
+    let Given { start, spp, width, output, .. } = l.given;
+    lent!(l, lc_render, (l.store()), (start, spp, width, l.output, output))
+}
+
+pub fn mill_extent(l: &Lent) -> u32 {
+    lent!(l, lc_mill_extent, (l.store()), (l.mill_place(0), l.mill_place(1), l.number(0)))
+}
+
+pub fn mill_get(l: &Lent) -> u32 {
+    lent!(l, lc_mill_get, (l.store()), (l.given.grant, l.given.mill_place, l.number(0)))
+}
+
+pub fn mill_samples(l: &Lent) -> u32 {
+    let Given { grant, mill_place, count, output, .. } = l.given;
+    lent!(
+        l,
+        lc_mill_samples,
+        (l.store()),
+        (grant, mill_place, count, l.output, output, l.number(0))
+    )
+}
+
+pub fn mill_summary(l: &Lent) -> u32 {
+    let Given { grant, mill_place, mill_end, .. } = l.given;
+    lent!(l, lc_mill_summary, (l.store()), (grant, mill_place, mill_end, l.output.cast()))
+}
+
+pub fn mill_next_change(l: &Lent) -> u32 {
+    let Given { grant, mask, mill_place, .. } = l.given;
+    lent!(l, lc_mill_next_change, (l.store()), (grant, mask, mill_place, l.mill_place(0), l.read))
+}
+
+pub fn mill_prev_change(l: &Lent) -> u32 {
+    let Given { grant, mask, mill_place, .. } = l.given;
+    lent!(l, lc_mill_prev_change, (l.store()), (grant, mask, mill_place, l.mill_place(0), l.read))
+}
+
+pub fn mill_burst_at(l: &Lent) -> u32 {
+    let Given { grant, mask, mill_place, max_gap, .. } = l.given;
+    lent!(
+        l,
+        lc_mill_burst_at,
+        (l.store()),
+        (
+            grant,
+            mask,
+            mill_place,
+            max_gap,
+            1,
+            1,
+            l.mill_place(0),
+            l.mill_place(1),
+            l.numbers.cast(),
+            l.read
+        )
+    )
+}
+
+pub fn mill_render(l: &Lent) -> u32 {
+    let Given { grant, start, spp, width, output, .. } = l.given;
+    lent!(l, lc_mill_render, (l.store()), (grant, start, spp, width, l.output, output))
+}
+
+pub fn feeder_start(l: &Lent) -> u32 {
+    let Given { channels, capacity, limit, seconds, wish, rate, .. } = l.given;
+    lent!(
+        l,
+        lc_feeder_start,
+        (channels, capacity, limit, l.terms, l.given.terms.len(), seconds, wish, rate),
+        (l.ring, l.given.ring.len(), l.begun, l.number(0))
+    )
+}
+
+pub fn push(l: &Lent) -> u32 {
+    lent!(l, lc_push, (l.record), (l.ring, l.given.ring.len(), l.bytes, l.given.bytes.len()))
+}
+
+/// The sum of its two places, which are numbers of this function's own.
+pub fn raw(l: &Lent) -> u32 {
+    let (mut from, mut to) = (77, 77);
+    lent!(l, lc_raw, (l.store()), (0, &mut from, &mut to));
+    u32::try_from(from + to).unwrap_or(u32::MAX)
+}

@@ -1,0 +1,8 @@
+//! What include/logic_core.h promises and asks, beside the answers themselves.
+
+mod calls;
+mod given;
+mod modes;
+mod pages;
+mod refused;
+mod rows;

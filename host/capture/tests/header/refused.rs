@@ -1,0 +1,208 @@
+//! "A call that gives 1 to 20 has stored nothing": each export is refused by each of its rows while record, lent memory,
+//! output and what out pointers point at lie in pages that may not be written, and does not fault. Calls that answer write no
+//! more than the header says.
+
+use crate::calls::{self, EXPORTS};
+use crate::given::{Given, Lent, LEN};
+use crate::pages::{ended, Ended, Pages};
+use crate::rows::{self, Row};
+use std::collections::BTreeSet;
+
+const NONE: u32 = 100;
+
+/// An export in a state, and what refuses it there.
+struct Tried {
+    name: &'static str,
+    state: (&'static str, fn(&mut Given)),
+    call: fn(&Lent) -> u32,
+    rows: Vec<&'static [Row]>,
+}
+
+impl Tried {
+    /// What it is called in a line.
+    fn named(&self) -> String {
+        format!("{}{}", self.name, self.state.0)
+    }
+}
+
+/// Each export with a code.
+fn exports() -> Vec<Tried> {
+    let tried = |name, call, rows: &[_]| {
+        let state: (_, fn(&mut Given)) = ("", |_| ());
+        Tried { name, state, call, rows: rows.to_vec() }
+    };
+    let question =
+        |name, call, own: &[_]| tried(name, call, &[&[rows::STORE, rows::MEMORY], own].concat());
+    let push = |label, state: fn(&mut Given), own: &[_]| {
+        let own = [&[rows::RECORDER], own].concat();
+        Tried { state: (label, state), ..question("lc_push", calls::push, &own) }
+    };
+    vec![
+        tried("lc_needs", calls::needs, &[rows::CHANNELS]),
+        tried("lc_start", calls::start, &[rows::CHANNELS, rows::MEMORY]),
+        question("lc_append", calls::append, &[rows::FULL]),
+        question("lc_get", calls::get, &[rows::PLACE]),
+        question("lc_samples", calls::samples, &[rows::OUTPUT]),
+        question("lc_whole", calls::whole, &[]),
+        question("lc_summary", calls::summary, &[]),
+        question("lc_next_change", calls::next_change, &[]),
+        question("lc_prev_change", calls::prev_change, &[]),
+        question("lc_burst_at", calls::burst_at, &[]),
+        question("lc_render", calls::render, &[rows::VIEW]),
+        question("lc_mill_extent", calls::mill_extent, &[]),
+        question("lc_mill_get", calls::mill_get, &[rows::BEFORE, rows::MILL_PLACE]),
+        question("lc_mill_samples", calls::mill_samples, &[rows::BEFORE, rows::OUTPUT]),
+        question("lc_mill_summary", calls::mill_summary, &[rows::BEFORE, rows::END_BEFORE]),
+        question("lc_mill_next_change", calls::mill_next_change, &[rows::GRANT, rows::BEFORE]),
+        question("lc_mill_prev_change", calls::mill_prev_change, &[rows::GRANT, rows::BEFORE]),
+        question("lc_mill_burst_at", calls::mill_burst_at, &[rows::GRANT, rows::BEFORE]),
+        question("lc_mill_render", calls::mill_render, &[rows::VIEW]),
+        tried(
+            "lc_feeder_start",
+            calls::feeder_start,
+            &[rows::CHANNELS, rows::MEMORY, rows::SETTINGS],
+        ),
+        push(" going on", |_| (), &[rows::FULL]),
+        // line 15 is not high, line 14 is low
+        push(" waiting", |g| (g.record[7], g.record[8]) = (1, 1 << 15), &[]),
+        push(
+            " of many samples waiting",
+            |g| {
+                (g.record[7], g.record[8]) = (1, 1 << 15);
+                g.bytes = vec![0; 20];
+            },
+            &[],
+        ),
+        push(
+            " that fires",
+            |g| (g.record[7], g.record[9]) = (1, 1 << 14),
+            &[rows::FULL, rows::KEPT_FULL],
+        ),
+    ]
+}
+
+/// What is read-only.
+#[derive(Clone, Copy)]
+enum ReadOnly {
+    Nothing,
+    /// What a question has no call to write in.
+    Kept,
+    AllButCount,
+    All,
+}
+
+/// Calls in a child process, and says how it ended.
+fn called(given: Given, read_only: ReadOnly, call: fn(&Lent) -> u32) -> Ended {
+    let lent = Lent::new(given);
+    let pages: &[&Pages] = match read_only {
+        ReadOnly::Nothing => &[],
+        ReadOnly::Kept => &[&lent.kept],
+        ReadOnly::AllButCount => &[&lent.kept, &lent.out],
+        ReadOnly::All => &[&lent.kept, &lent.out, &lent.count],
+    };
+    ended(pages, || call(&lent))
+}
+
+/// A line where a call did not end with a code.
+fn line(name: &str, what: &str, expected: u32, ended: Ended) -> Option<String> {
+    match ended {
+        Ended::Code(code) if code == expected => None,
+        Ended::Code(code) => Some(format!("{name}, {what}: gives {code} and not {expected}")),
+        Ended::Fault => Some(format!("{name}, {what}: writes, and is to give {expected} without")),
+    }
+}
+
+#[track_caller]
+fn none(lines: Vec<String>) {
+    assert!(lines.is_empty(), "\n{}", lines.join("\n"));
+}
+
+#[test]
+fn a_refused_call_stores_nothing() {
+    let given = Given::new();
+    let mut lines = Vec::new();
+    for tried in exports() {
+        let given = given.with(tried.state.1);
+        for &(row, what, change) in tried.rows.iter().copied().flatten() {
+            let ended = called(given.with(change), ReadOnly::All, tried.call);
+            lines.extend(line(&tried.named(), &format!("{row}, {what}"), row, ended));
+        }
+    }
+    none(lines);
+}
+
+#[test]
+fn every_export_is_tried() {
+    let mut tried: BTreeSet<_> = exports().iter().map(|export| export.name).collect();
+    tried.insert("lc_raw"); // by a test of its own: it has no code
+    assert_eq!(tried, EXPORTS.iter().copied().collect());
+}
+
+/// Where no row refuses, each call answers if it may write, and faults if it may not: a store would have been seen above.
+#[test]
+fn a_call_that_answers_faults_there() {
+    let given = Given::new();
+    for tried in exports() {
+        let mut given = given.with(tried.state.1);
+        let whole = tried.name == "lc_whole"; // it writes which node is wrong
+        given.levels[0][0] ^= u16::from(whole);
+        let code = if whole { NONE } else { 0 };
+        let name = tried.named();
+        assert_eq!(
+            called(given.clone(), ReadOnly::Nothing, tried.call),
+            Ended::Code(code),
+            "{name}"
+        );
+        assert_eq!(called(given, ReadOnly::All, tried.call), Ended::Fault, "{name}");
+    }
+}
+
+#[test]
+fn a_question_stores_behind_its_out_pointers_alone() {
+    let given = Given::new();
+    let mut lines = Vec::new();
+    for tried in exports() {
+        if !["lc_append", "lc_push"].contains(&tried.name) {
+            let ended = called(given.clone(), ReadOnly::Kept, tried.call);
+            lines.extend(line(&tried.named(), "answered", 0, ended));
+        }
+    }
+    none(lines);
+}
+
+#[test]
+fn a_question_that_finds_nothing_stores_nothing_or_its_count() {
+    let given = Given::new();
+    let mut lines = Vec::new();
+    let mut asked = |name, call, read_only, code, change| {
+        let ended = called(given.with(change), read_only, call);
+        lines.extend(line(name, "nothing found", code, ended));
+    };
+    let (all, count) = (ReadOnly::All, ReadOnly::AllButCount);
+    asked("lc_whole", calls::whole as fn(&Lent) -> u32, all, 0, (|_| ()) as fn(&mut Given));
+    asked("lc_summary", calls::summary, all, NONE, |g| g.end = g.place);
+    asked("lc_mill_summary", calls::mill_summary, all, NONE, |g| g.mill_end = g.mill_place);
+    // line 2 does not change
+    let quiet: fn(&mut Given) = |g| (g.grant, g.mask) = (0b100, 0b100);
+    asked("lc_next_change", calls::next_change, count, NONE, quiet);
+    asked("lc_prev_change", calls::prev_change, count, NONE, quiet);
+    asked("lc_burst_at", calls::burst_at, count, NONE, quiet);
+    asked("lc_mill_next_change", calls::mill_next_change, count, NONE, quiet);
+    asked("lc_mill_prev_change", calls::mill_prev_change, count, NONE, quiet);
+    asked("lc_mill_burst_at", calls::mill_burst_at, count, NONE, quiet);
+    none(lines);
+}
+
+/// Its part is empty where a row would refuse.
+#[test]
+fn raw_stores_two_places_alone() {
+    let given = Given::new();
+    let mut lines = Vec::new();
+    let ended = called(given.clone(), ReadOnly::All, calls::raw);
+    lines.extend(line("lc_raw", "answered", 2 * LEN as u32, ended));
+    for &(row, what, change) in [rows::STORE, rows::MEMORY].into_iter().flatten() {
+        let ended = called(given.with(change), ReadOnly::All, calls::raw);
+        lines.extend(line("lc_raw", &format!("{row}, {what}"), 0, ended));
+    }
+    none(lines);
+}

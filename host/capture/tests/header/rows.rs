@@ -1,0 +1,106 @@
+//! What each row refuses.
+
+use crate::given::{Given, CAPACITY, LEN, MARK};
+
+const MOST_SAMPLES: usize = 67_108_864;
+
+/// A row's number, and what makes it refuse.
+pub type Row = (u32, &'static str, fn(&mut Given));
+
+fn shorten<T>(lent: &mut Vec<T>) {
+    lent.pop();
+}
+
+pub const STORE: &[Row] = &[
+    (1, "unit 0", |g| g.record[0] = 0),
+    (1, "unit 3", |g| g.record[0] = 3),
+    (1, "capacity 0", |g| g.record[1..3].fill(0)),
+    (1, "a capacity above the most", |g| g.record[1] = MOST_SAMPLES + 1),
+    (1, "len above the capacity", |g| g.record[2] = CAPACITY + 1),
+    (1, "a mark past len", |g| g.record[4] = LEN + 1),
+    (1, "a record of the greatest numbers", |g| g.record = [usize::MAX; 17]),
+];
+
+pub const MEMORY: &[Row] = &[
+    (2, "samples too short", |g| shorten(&mut g.samples)),
+    (2, "no samples", |g| g.samples.clear()),
+    (2, "level 1 too short", |g| shorten(&mut g.levels[0])),
+    (2, "level 2 too short", |g| shorten(&mut g.levels[1])),
+    (2, "level 3 too short", |g| shorten(&mut g.levels[2])),
+    (2, "level 4 too short", |g| shorten(&mut g.levels[3])),
+    (2, "no level 4", |g| g.levels[3].clear()),
+];
+
+pub const RECORDER: &[Row] = &[
+    (1, "limit above the capacity", |g| g.record[5] = CAPACITY + 1),
+    (1, "pre at the capacity", |g| g.record[6] = CAPACITY),
+    (1, "more kept than pre", |g| g.record[16] = 9),
+    (1, "a place past the ring", |g| g.record[15] = 8),
+    (1, "len above the limit", |g| g.record[5] = LEN - 1),
+    (2, "a ring too short", |g| shorten(&mut g.ring)),
+    (2, "no ring", |g| g.ring.clear()),
+];
+
+/// Of an append, and of a push that stores.
+pub const FULL: &[Row] = &[
+    (8, "more than fits", |g| g.bytes = vec![0; 2 * (CAPACITY - LEN + 1)]),
+    (8, "a few samples that do not fit", |g| (g.record[2], g.record[4]) = (CAPACITY - 1, 0)),
+];
+
+/// Of a push that fires.
+pub const KEPT_FULL: &[Row] = &[(8, "more than fits with what was kept", |g| {
+    g.record[16] = 8;
+    g.bytes = vec![0; 2 * (CAPACITY - LEN - 7)];
+})];
+
+pub const CHANNELS: &[Row] = &[
+    (1, "capacity 0", |g| g.capacity = 0),
+    (1, "a capacity above the most", |g| g.capacity = MOST_SAMPLES + 1),
+];
+
+pub const SETTINGS: &[Row] = &[
+    (3, "line 16", |g| g.terms[0] = 16),
+    (3, "condition 5", |g| g.terms[3] = 5),
+    (3, "an odd count of bytes", |g| g.terms.push(3)),
+    (3, "one byte", |g| g.terms = vec![0]),
+    (4, "limit above the capacity", |g| g.limit = CAPACITY + 1),
+    (5, "a fraction of no limit", |g| g.limit = 0),
+    (5, "seconds beside a limit", |g| g.seconds = true),
+    (6, "a fraction that is no number", |g| g.wish = f64::NAN),
+    (6, "seconds that are no number", |g| (g.limit, g.seconds, g.wish) = (0, true, f64::NAN)),
+    (6, "a rate above the most", |g| (g.limit, g.seconds, g.rate) = (0, true, 1_000_000_001)),
+    (7, "the capacity kept before the trigger", |g| (g.limit, g.seconds) = (0, true)),
+    (7, "a ring too short", |g| shorten(&mut g.ring)),
+];
+
+pub const PLACE: &[Row] =
+    &[(9, "the end", |g| g.place = LEN), (9, "the greatest place", |g| g.place = usize::MAX)];
+
+pub const OUTPUT: &[Row] = &[
+    (11, "output too short for the samples", |g| g.output = 7),
+    (11, "no output", |g| g.output = 0),
+];
+
+pub const VIEW: &[Row] = &[
+    (10, "a start that is no number", |g| g.start = f64::NAN),
+    (10, "an infinite start", |g| g.start = f64::NEG_INFINITY),
+    (10, "samples per pixel that are no number", |g| g.spp = f64::NAN),
+    (10, "infinite samples per pixel", |g| g.spp = f64::INFINITY),
+    (11, "more pixels than the most", |g| g.width = 65_537),
+    (11, "output too short for the pixels", |g| g.output = 15),
+];
+
+pub const GRANT: &[Row] = &[(12, "a mask beyond the grant", |g| g.mask = 0b100)];
+
+pub const BEFORE: &[Row] = &[
+    (13, "a place before the first sample", |g| g.mill_place = -1 - MARK as i64),
+    (13, "the least place", |g| g.mill_place = i64::MIN),
+];
+
+pub const END_BEFORE: &[Row] =
+    &[(13, "an end before the first sample", |g| g.mill_end = -1 - MARK as i64)];
+
+pub const MILL_PLACE: &[Row] = &[
+    (9, "the end", |g| g.mill_place = (LEN - MARK) as i64),
+    (9, "the greatest place", |g| g.mill_place = i64::MAX),
+];
