@@ -1,57 +1,10 @@
 // The exports of logic_core, for Rust; logic_core.h says what each does. Made by host/declare, not to be edited.
 // Who includes this defines `exports!` for it.
 exports! {
-    fn lc_needs(channels: usize, capacity: usize, sizes: *mut [usize; 5]) -> u32;
-    fn lc_start(
-        channels: usize, capacity: usize, samples: *const u8, samples_len: usize,
-        l1: *const u16, l1_len: usize, l2: *const u16, l2_len: usize,
-        l3: *const u16, l3_len: usize, l4: *const u16, l4_len: usize, record: *mut [usize; 5]
-    ) -> u32;
     fn lc_append(
         record: *mut [usize; 5], samples: *mut u8, samples_len: usize, l1: *mut u16, l1_len: usize,
         l2: *mut u16, l2_len: usize, l3: *mut u16, l3_len: usize, l4: *mut u16, l4_len: usize,
         bytes: *const u8, bytes_len: usize
-    ) -> u32;
-    fn lc_get(
-        record: *const [usize; 5], samples: *const u8, samples_len: usize,
-        l1: *const u16, l1_len: usize, l2: *const u16, l2_len: usize,
-        l3: *const u16, l3_len: usize, l4: *const u16, l4_len: usize, i: usize, value: *mut u16
-    ) -> u32;
-    fn lc_samples(
-        record: *const [usize; 5], samples: *const u8, samples_len: usize,
-        l1: *const u16, l1_len: usize, l2: *const u16, l2_len: usize,
-        l3: *const u16, l3_len: usize, l4: *const u16, l4_len: usize, start: usize, count: usize,
-        output: *mut u16, output_len: usize, copied: *mut usize
-    ) -> u32;
-    fn lc_raw(
-        record: *const [usize; 5], samples: *const u8, samples_len: usize,
-        l1: *const u16, l1_len: usize, l2: *const u16, l2_len: usize,
-        l3: *const u16, l3_len: usize, l4: *const u16, l4_len: usize, chunk: usize,
-        from: *mut usize, to: *mut usize
-    ) -> ();
-    fn lc_whole(
-        record: *const [usize; 5], samples: *const u8, samples_len: usize,
-        l1: *const u16, l1_len: usize, l2: *const u16, l2_len: usize,
-        l3: *const u16, l3_len: usize, l4: *const u16, l4_len: usize, level: *mut usize,
-        number: *mut usize
-    ) -> u32;
-    fn lc_summary(
-        record: *const [usize; 5], samples: *const u8, samples_len: usize,
-        l1: *const u16, l1_len: usize, l2: *const u16, l2_len: usize,
-        l3: *const u16, l3_len: usize, l4: *const u16, l4_len: usize, a: usize, b: usize,
-        node: *mut [u16; 3]
-    ) -> u32;
-    fn lc_next_change(
-        record: *const [usize; 5], samples: *const u8, samples_len: usize,
-        l1: *const u16, l1_len: usize, l2: *const u16, l2_len: usize,
-        l3: *const u16, l3_len: usize, l4: *const u16, l4_len: usize, mask: u16, from: usize,
-        place: *mut usize, read: *mut usize
-    ) -> u32;
-    fn lc_prev_change(
-        record: *const [usize; 5], samples: *const u8, samples_len: usize,
-        l1: *const u16, l1_len: usize, l2: *const u16, l2_len: usize,
-        l3: *const u16, l3_len: usize, l4: *const u16, l4_len: usize, mask: u16, from: usize,
-        place: *mut usize, read: *mut usize
     ) -> u32;
     fn lc_burst_at(
         record: *const [usize; 5], samples: *const u8, samples_len: usize,
@@ -59,11 +12,24 @@ exports! {
         l3: *const u16, l3_len: usize, l4: *const u16, l4_len: usize, mask: u16, sample: usize,
         max_gap: usize, tolerance: usize, budget: usize, ends: *mut [usize; 4], read: *mut usize
     ) -> u32;
-    fn lc_render(
+    fn lc_feeder_start(
+        channels: usize, capacity: usize, limit: usize, terms: *const u8, terms_len: usize,
+        seconds: bool, wish: f64, rate: usize, samples: *const u8, samples_len: usize,
+        l1: *const u16, l1_len: usize, l2: *const u16, l2_len: usize,
+        l3: *const u16, l3_len: usize, l4: *const u16, l4_len: usize,
+        ring: *const u8, ring_len: usize, record: *mut [usize; 17], cut: *mut usize
+    ) -> u32;
+    fn lc_get(
         record: *const [usize; 5], samples: *const u8, samples_len: usize,
         l1: *const u16, l1_len: usize, l2: *const u16, l2_len: usize,
-        l3: *const u16, l3_len: usize, l4: *const u16, l4_len: usize, start: f64, spp: f64,
-        width: usize, output: *mut u16, output_len: usize
+        l3: *const u16, l3_len: usize, l4: *const u16, l4_len: usize, i: usize, value: *mut u16
+    ) -> u32;
+    fn lc_mill_burst_at(
+        record: *const [usize; 5], samples: *const u8, samples_len: usize,
+        l1: *const u16, l1_len: usize, l2: *const u16, l2_len: usize,
+        l3: *const u16, l3_len: usize, l4: *const u16, l4_len: usize, grant: u16, mask: u16,
+        sample: i64, max_gap: usize, tolerance: usize, budget: usize, first: *mut i64,
+        last: *mut i64, jumps: *mut [usize; 2], read: *mut usize
     ) -> u32;
     fn lc_mill_extent(
         record: *const [usize; 5], samples: *const u8, samples_len: usize,
@@ -77,18 +43,6 @@ exports! {
         l3: *const u16, l3_len: usize, l4: *const u16, l4_len: usize, grant: u16, place: i64,
         value: *mut u16
     ) -> u32;
-    fn lc_mill_samples(
-        record: *const [usize; 5], samples: *const u8, samples_len: usize,
-        l1: *const u16, l1_len: usize, l2: *const u16, l2_len: usize,
-        l3: *const u16, l3_len: usize, l4: *const u16, l4_len: usize, grant: u16, start: i64,
-        count: usize, output: *mut u16, output_len: usize, copied: *mut usize
-    ) -> u32;
-    fn lc_mill_summary(
-        record: *const [usize; 5], samples: *const u8, samples_len: usize,
-        l1: *const u16, l1_len: usize, l2: *const u16, l2_len: usize,
-        l3: *const u16, l3_len: usize, l4: *const u16, l4_len: usize, grant: u16, a: i64, b: i64,
-        node: *mut [u16; 3]
-    ) -> u32;
     fn lc_mill_next_change(
         record: *const [usize; 5], samples: *const u8, samples_len: usize,
         l1: *const u16, l1_len: usize, l2: *const u16, l2_len: usize,
@@ -101,30 +55,76 @@ exports! {
         l3: *const u16, l3_len: usize, l4: *const u16, l4_len: usize, grant: u16, mask: u16,
         from: i64, place: *mut i64, read: *mut usize
     ) -> u32;
-    fn lc_mill_burst_at(
-        record: *const [usize; 5], samples: *const u8, samples_len: usize,
-        l1: *const u16, l1_len: usize, l2: *const u16, l2_len: usize,
-        l3: *const u16, l3_len: usize, l4: *const u16, l4_len: usize, grant: u16, mask: u16,
-        sample: i64, max_gap: usize, tolerance: usize, budget: usize, first: *mut i64,
-        last: *mut i64, jumps: *mut [usize; 2], read: *mut usize
-    ) -> u32;
     fn lc_mill_render(
         record: *const [usize; 5], samples: *const u8, samples_len: usize,
         l1: *const u16, l1_len: usize, l2: *const u16, l2_len: usize,
         l3: *const u16, l3_len: usize, l4: *const u16, l4_len: usize, grant: u16, start: f64,
         spp: f64, width: usize, output: *mut u16, output_len: usize
     ) -> u32;
-    fn lc_feeder_start(
-        channels: usize, capacity: usize, limit: usize, terms: *const u8, terms_len: usize,
-        seconds: bool, wish: f64, rate: usize, samples: *const u8, samples_len: usize,
+    fn lc_mill_samples(
+        record: *const [usize; 5], samples: *const u8, samples_len: usize,
         l1: *const u16, l1_len: usize, l2: *const u16, l2_len: usize,
-        l3: *const u16, l3_len: usize, l4: *const u16, l4_len: usize,
-        ring: *const u8, ring_len: usize, record: *mut [usize; 17], cut: *mut usize
+        l3: *const u16, l3_len: usize, l4: *const u16, l4_len: usize, grant: u16, start: i64,
+        count: usize, output: *mut u16, output_len: usize, copied: *mut usize
+    ) -> u32;
+    fn lc_mill_summary(
+        record: *const [usize; 5], samples: *const u8, samples_len: usize,
+        l1: *const u16, l1_len: usize, l2: *const u16, l2_len: usize,
+        l3: *const u16, l3_len: usize, l4: *const u16, l4_len: usize, grant: u16, a: i64, b: i64,
+        node: *mut [u16; 3]
+    ) -> u32;
+    fn lc_needs(channels: usize, capacity: usize, sizes: *mut [usize; 5]) -> u32;
+    fn lc_next_change(
+        record: *const [usize; 5], samples: *const u8, samples_len: usize,
+        l1: *const u16, l1_len: usize, l2: *const u16, l2_len: usize,
+        l3: *const u16, l3_len: usize, l4: *const u16, l4_len: usize, mask: u16, from: usize,
+        place: *mut usize, read: *mut usize
+    ) -> u32;
+    fn lc_prev_change(
+        record: *const [usize; 5], samples: *const u8, samples_len: usize,
+        l1: *const u16, l1_len: usize, l2: *const u16, l2_len: usize,
+        l3: *const u16, l3_len: usize, l4: *const u16, l4_len: usize, mask: u16, from: usize,
+        place: *mut usize, read: *mut usize
     ) -> u32;
     fn lc_push(
         record: *mut [usize; 17], samples: *mut u8, samples_len: usize,
         l1: *mut u16, l1_len: usize, l2: *mut u16, l2_len: usize, l3: *mut u16, l3_len: usize,
         l4: *mut u16, l4_len: usize, ring: *mut u8, ring_len: usize,
         bytes: *const u8, bytes_len: usize
+    ) -> u32;
+    fn lc_raw(
+        record: *const [usize; 5], samples: *const u8, samples_len: usize,
+        l1: *const u16, l1_len: usize, l2: *const u16, l2_len: usize,
+        l3: *const u16, l3_len: usize, l4: *const u16, l4_len: usize, chunk: usize,
+        from: *mut usize, to: *mut usize
+    ) -> ();
+    fn lc_render(
+        record: *const [usize; 5], samples: *const u8, samples_len: usize,
+        l1: *const u16, l1_len: usize, l2: *const u16, l2_len: usize,
+        l3: *const u16, l3_len: usize, l4: *const u16, l4_len: usize, start: f64, spp: f64,
+        width: usize, output: *mut u16, output_len: usize
+    ) -> u32;
+    fn lc_samples(
+        record: *const [usize; 5], samples: *const u8, samples_len: usize,
+        l1: *const u16, l1_len: usize, l2: *const u16, l2_len: usize,
+        l3: *const u16, l3_len: usize, l4: *const u16, l4_len: usize, start: usize, count: usize,
+        output: *mut u16, output_len: usize, copied: *mut usize
+    ) -> u32;
+    fn lc_start(
+        channels: usize, capacity: usize, samples: *const u8, samples_len: usize,
+        l1: *const u16, l1_len: usize, l2: *const u16, l2_len: usize,
+        l3: *const u16, l3_len: usize, l4: *const u16, l4_len: usize, record: *mut [usize; 5]
+    ) -> u32;
+    fn lc_summary(
+        record: *const [usize; 5], samples: *const u8, samples_len: usize,
+        l1: *const u16, l1_len: usize, l2: *const u16, l2_len: usize,
+        l3: *const u16, l3_len: usize, l4: *const u16, l4_len: usize, a: usize, b: usize,
+        node: *mut [u16; 3]
+    ) -> u32;
+    fn lc_whole(
+        record: *const [usize; 5], samples: *const u8, samples_len: usize,
+        l1: *const u16, l1_len: usize, l2: *const u16, l2_len: usize,
+        l3: *const u16, l3_len: usize, l4: *const u16, l4_len: usize, level: *mut usize,
+        number: *mut usize
     ) -> u32;
 }

@@ -11,7 +11,9 @@ mod difference;
 pub mod export;
 mod lines;
 mod read;
-pub mod rust;
+mod rust;
+
+pub use read::exports;
 
 use difference::Item;
 use export::Export;
@@ -30,8 +32,6 @@ pub struct Declarations {
     pub header: String,
     pub rust: String,
 }
-
-pub use read::exports;
 
 impl Declarations {
     /// Reads them from the repository. Err has a line for each thing that cannot be read.

@@ -14,7 +14,8 @@ fn run(check: bool) -> Result<(), Vec<String>> {
     let placed = declarations.make();
     declarations.write(&repository).map_err(|line| vec![line])?;
     placed.map_err(|mut lines| {
-        lines.push("a call that is missing: write its comment where it belongs, `void lc_its_name();` under it, and run this again".into());
+        let place = "for one that is missing, write its comment where it belongs and `void lc_its_name();` under it";
+        lines.push(format!("{place}, and run this again"));
         lines
     })
 }

@@ -214,8 +214,8 @@ fn export(
     Ok(Export { name: name.into(), parameters, result, place })
 }
 
-/// The exports that files of one crate have; other names of types are looked for in all crates. Err has a line for each
-/// that cannot be read.
+/// The exports that files of one crate have, by their names, so that it does not matter which file has which; other names of
+/// types are looked for in all crates. Err has a line for each that cannot be read.
 pub fn exports(source: &[File], crates: &[File]) -> Result<Vec<Export>, Vec<String>> {
     let aliases = Aliases::of(crates);
     let (mut found, mut wrong) = (Vec::<Export>::new(), Vec::new());
@@ -225,9 +225,9 @@ pub fn exports(source: &[File], crates: &[File]) -> Result<Vec<Export>, Vec<Stri
         let mut read = 0;
         for at in 0..tokens.len() {
             let mut reader = Reader { tokens: &tokens[at..] };
-            let marked = tokens[..at].iter().rev().take_while(|token| !"{};".contains(token.0));
-            if !(reader.takes("extern") && reader.takes("\"C\"") && reader.takes("fn"))
-                || !marked.into_iter().any(|token| token.0 == "no_mangle")
+            let before = tokens[..at].iter().rev().take_while(|token| !"{};".contains(token.0));
+            if !["extern", "\"C\"", "fn"].iter().all(|token| reader.takes(token))
+                || before.into_iter().all(|token| token.0 != "no_mangle")
             {
                 continue;
             }
@@ -248,6 +248,7 @@ pub fn exports(source: &[File], crates: &[File]) -> Result<Vec<Export>, Vec<Stri
         }
     }
     if wrong.is_empty() {
+        found.sort_by(|one, other| one.name.cmp(&other.name));
         Ok(found)
     } else {
         Err(wrong)

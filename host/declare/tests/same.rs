@@ -1,4 +1,5 @@
-//! The declarations in include/ are those that the exports make, and the archive has these exports and no others.
+//! The declarations in include/ are those that the exports make, the archive has these exports and no others, and the Rust of
+//! host/ and compare/ has no declarations of its own.
 
 use declare::Declarations;
 use std::collections::BTreeSet;
@@ -47,4 +48,32 @@ fn the_archive_has_the_exports() {
         has, declared,
         "the archive, and what the source exports: rt staticlib logic_core makes it anew"
     );
+}
+
+/// The Rust files in a folder and the folders in it, but for what cargo builds.
+fn rust_files(folder: &Path) -> Vec<PathBuf> {
+    let entries = fs::read_dir(folder).unwrap().map(|entry| entry.unwrap().path());
+    let files = entries.flat_map(|path| match path.is_dir() {
+        true if path.ends_with("target") => vec![],
+        true => rust_files(&path),
+        false => vec![path],
+    });
+    files.filter(|path| path.extension().is_some_and(|end| end == "rs")).collect()
+}
+
+#[test]
+fn nothing_is_declared_by_hand() {
+    let folders = ["host/capture", "host/tool", "compare"].map(|name| repository().join(name));
+    let files: Vec<_> = folders.iter().flat_map(|folder| rust_files(folder)).collect();
+    assert!(files.iter().any(|path| path.ends_with("capture/src/boundary.rs")));
+    for path in files {
+        let text = fs::read_to_string(&path).unwrap();
+        let hand = text.lines().find(|line| line.contains("fn lc_"));
+        assert_eq!(
+            hand,
+            None,
+            "{}: include!(\"..include/logic_core.rs\") declares it",
+            path.display()
+        );
+    }
 }
