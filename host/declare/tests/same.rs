@@ -40,14 +40,13 @@ fn the_archive_has_the_exports() {
     let archive =
         fs::read(folder.join("liblogic_core.a")).expect("rt staticlib logic_core makes it");
     let index = index(&archive);
-    let has: BTreeSet<_> =
-        index.iter().map(|name| &name[..]).filter(|name| name.starts_with("lc_")).collect();
-    let exports = read().exports;
-    let declared: BTreeSet<_> = exports.iter().map(|export| &export.name[..]).collect();
-    assert_eq!(
-        has, declared,
-        "the archive, and what the source exports: rt staticlib logic_core makes it anew"
-    );
+    let has: BTreeSet<_> = index.into_iter().filter(|name| name.starts_with("lc_")).collect();
+    let exports: BTreeSet<_> = read().exports.into_iter().map(|export| export.name).collect();
+    let lacks = exports.difference(&has).map(|name| format!("it lacks {name}"));
+    let extra =
+        has.difference(&exports).map(|name| format!("it has {name}, no export of the source"));
+    let lines: Vec<_> = lacks.chain(extra).collect();
+    assert!(lines.is_empty(), "\nliblogic_core.a: {}", lines.join("\nliblogic_core.a: "));
 }
 
 /// The Rust files in a folder and the folders in it, but for what cargo builds.
