@@ -3,6 +3,7 @@
 mod calls;
 mod given;
 mod modes;
+mod numbers;
 mod pages;
 mod refused;
 mod rows;

@@ -25,6 +25,22 @@ impl Tried {
     }
 }
 
+/// The recorder waits for line 15 to be high, with nothing stored.
+fn waits(g: &mut Given) {
+    g.record[2..5].fill(0);
+    (g.record[7], g.record[8]) = (1, 1 << 15);
+}
+
+fn waits_for_many(g: &mut Given) {
+    waits(g);
+    g.bytes = vec![0; 20];
+}
+
+/// It waits for line 15 to be low, which it is.
+fn fires(g: &mut Given) {
+    (g.record[7], g.record[9]) = (1, 1 << 15);
+}
+
 /// Each export with a code.
 fn exports() -> Vec<Tried> {
     let tried = |name, call, rows: &[_]| {
@@ -63,21 +79,9 @@ fn exports() -> Vec<Tried> {
             &[rows::CHANNELS, rows::MEMORY, rows::SETTINGS],
         ),
         push(" going on", |_| (), &[rows::FULL]),
-        // line 15 is not high, line 14 is low
-        push(" waiting", |g| (g.record[7], g.record[8]) = (1, 1 << 15), &[]),
-        push(
-            " of many samples waiting",
-            |g| {
-                (g.record[7], g.record[8]) = (1, 1 << 15);
-                g.bytes = vec![0; 20];
-            },
-            &[],
-        ),
-        push(
-            " that fires",
-            |g| (g.record[7], g.record[9]) = (1, 1 << 14),
-            &[rows::FULL, rows::KEPT_FULL],
-        ),
+        push(" waiting", waits, &[]),
+        push(" of many samples waiting", waits_for_many, &[]),
+        push(" that fires", fires, &[rows::FULL, rows::KEPT_FULL]),
     ]
 }
 

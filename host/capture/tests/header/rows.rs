@@ -17,7 +17,7 @@ pub const STORE: &[Row] = &[
     (1, "capacity 0", |g| g.record[1..3].fill(0)),
     (1, "a capacity above the most", |g| g.record[1] = MOST_SAMPLES + 1),
     (1, "len above the capacity", |g| g.record[2] = CAPACITY + 1),
-    (1, "a mark past len", |g| g.record[4] = LEN + 1),
+    (1, "a mark past len", |g| (g.record[3], g.record[4]) = (1, LEN + 1)),
     (1, "a record of the greatest numbers", |g| g.record = [usize::MAX; 17]),
 ];
 
@@ -36,7 +36,7 @@ pub const RECORDER: &[Row] = &[
     (1, "pre at the capacity", |g| g.record[6] = CAPACITY),
     (1, "more kept than pre", |g| g.record[16] = 9),
     (1, "a place past the ring", |g| g.record[15] = 8),
-    (1, "len above the limit", |g| g.record[5] = LEN - 1),
+    (1, "len above the limit", |g| (g.record[2], g.record[5]) = (LEN, LEN - 1)),
     (2, "a ring too short", |g| shorten(&mut g.ring)),
     (2, "no ring", |g| g.ring.clear()),
 ];
