@@ -31,6 +31,9 @@
 //! ([`Counted`]).
 //!
 //! [`Capture::mill`] gives a [`Mill`], a reader that sees some lines only and counts places from the mark.
+//!
+//! Pixels and the samples kept before a trigger are computed in the default floating-point mode, whatever mode the thread
+//! is in.
 
 #![deny(unsafe_code, missing_docs)]
 
