@@ -8,7 +8,8 @@ macro_rules! exports {
         extern "C" {
             $(fn $name($($parameter: $type),*) -> $result;)*
         }
-        pub const EXPORTS: &[&str] = &[$(stringify!($name)),*];
+        /// The exports' names, and the types of their parameters.
+        pub const EXPORTS: &[(&str, &[&str])] = &[$((stringify!($name), &[$(stringify!($type)),*])),*];
     };
 }
 

@@ -1,7 +1,7 @@
 //! "lc_render, lc_mill_render and lc_feeder_start compute in the mode of the thread that calls them": in another mode they
 //! draw other pixels and keep another count of samples, and the crate, which sets the default mode, does not.
 
-use crate::calls;
+use crate::calls::{self, EXPORTS};
 use crate::given::{Given, Lent, CAPACITY};
 use capture::{Capture, Pixel, Recorder, Settings, View, Wish};
 use std::arch::asm;
@@ -115,6 +115,13 @@ fn the_library_computes_in_the_callers_mode() {
             assert!(in_mode(name, mode, library_keeps) != keeps, "{name}");
         }
     }
+}
+
+#[test]
+fn no_other_export_takes_a_double() {
+    let take = EXPORTS.iter().filter(|(_, types)| types.iter().any(|name| name.contains("f64")));
+    let names: Vec<_> = take.map(|export| export.0).collect();
+    assert_eq!(names, ["lc_feeder_start", "lc_mill_render", "lc_render"]);
 }
 
 fn crate_draws(capture: &Capture) -> Vec<Vec<Pixel>> {

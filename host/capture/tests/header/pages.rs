@@ -45,7 +45,7 @@ impl Pages {
 
     /// Copies values into them, and says where they are.
     pub fn put<T: Copy>(&mut self, values: &[T]) -> *mut T {
-        let begin = self.used.next_multiple_of(align_of::<T>().max(1));
+        let begin = self.used.next_multiple_of(align_of::<T>());
         self.used = begin + size_of_val(values);
         assert!(self.used <= LENGTH);
         // SAFETY: there is room for them, aligned since pages are.

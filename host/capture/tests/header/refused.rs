@@ -139,7 +139,7 @@ fn a_refused_call_stores_nothing() {
 fn every_export_is_tried() {
     let mut tried: BTreeSet<_> = exports().iter().map(|export| export.name).collect();
     tried.insert("lc_raw"); // by a test of its own: it has no code
-    assert_eq!(tried, EXPORTS.iter().copied().collect());
+    assert_eq!(tried, EXPORTS.iter().map(|export| export.0).collect());
 }
 
 /// Where no row refuses, each call answers if it may write, and faults if it may not: a store would have been seen above.
