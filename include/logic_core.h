@@ -29,7 +29,7 @@
  * Floating point. lc_render, lc_mill_render and lc_feeder_start compute in the mode of the thread that calls them. What they
  * promise holds in the mode that a program starts in, FE_DFL_ENV of fenv.h: numbers are rounded to nearest, subnormal ones
  * are neither flushed to zero nor read as zero, and nothing traps. In another mode, as where the program was linked with
- * -ffast-math or rounds upward, they draw other pixels and keep another count of samples. A thread in such a mode calls
+ * -ffast-math or rounds upward, they may draw other pixels and keep another count of samples. A thread in such a mode calls
  * fegetenv(&mode) and fesetenv(FE_DFL_ENV) before them, and fesetenv(&mode) after.
  */
 #ifndef LOGIC_CORE_H
