@@ -9,7 +9,7 @@ use Rattle.rules.specs.Answer.{Answer, refused, given, unless}
 use Rattle.rules.specs.Burst as rule
 use Rattle.rules.specs.Burst.{places}
 use Rattle.rules.specs.Refusal.{storeRefusal}
-use Rattle.rules.specs.Walk.{Counted, Walked, nothing, nextWalk, previousWalk, allLevels}
+use Rattle.rules.specs.Walk.{Counted, Walked, nextWalk, previousWalk, allLevels}
 use Rattle.node.specs.Memory.{readerOf}
 use Rattle.capture.specs.declared.Capture.{Capture}
 use Rattle.capture.specs.Record.{storeOf, lentOf}
@@ -57,11 +57,6 @@ back unit len samples levels mask from = previousWalk allLevels (readerOf unit s
 
 abbrev pub fore : ℕ → ℕ → List ℕ → (ℕ → List ℕ) → ℕ → ℕ → Walked
 fore unit len samples levels mask from = nextWalk allLevels (readerOf unit samples levels) len mask from
-
--- a call's walk, if it gives one
-abbrev pub walkedOf : Answer Walked → Walked
-walkedOf (refused n) = nothing
-walkedOf (given walked) = walked
 
 -- the search for what an end of a burst may jump to, and whether a change lies further out than it; true is the start
 abbrev pub reachOf : (ℕ → Walked) → (ℕ → Walked) → ℕ → Bool → ℕ → Walked

@@ -1,7 +1,7 @@
 // Bursts: a run of changes whose gaps are all below a bound, found by searches and grown by jumps, with the nodes read for it.
 use capture::Capture;
+use find::Place;
 use lines::Mask;
-use search::Found;
 use search::next_in;
 use search::prev_in;
 ghost use mathlib.Core.Path.{_≡_};
@@ -10,9 +10,9 @@ ghost use Prim.Native.Nat.{_-_, _≤_, min};
 ghost use lib.Dec.{ltb};
 ghost use Rattle.rules.specs.Burst.{sum, sideIf, nearer};
 ghost use Rattle.node.specs.Memory.{levelOf};
+ghost use Rattle.find.specs.Way.{placeOf};
 ghost use Rattle.search.specs.Part.{Stored};
-ghost use Rattle.search.specs.Answer.{foundOf};
-ghost use Rattle.burst.specs.Answer.{burstAs, burstOf, walkedOf, changeAs, soughtAs, sideAs, sidedAs, back, fore, reachOf, furtherOf, Jumped, between, sidedBy, pairedBy};
+ghost use Rattle.burst.specs.Answer.{burstAs, burstOf, changeAs, soughtAs, sideAs, sidedAs, back, fore, reachOf, furtherOf, Jumped, between, sidedBy, pairedBy};
 
 // The first and last change of a burst, and the jumps made at its end and at its start.
 pub struct Burst {
@@ -91,22 +91,18 @@ fn pick(start: bool, x: usize, y: usize) -> usize
     if start { x } else { y }
 }
 
-// The answer of a search that refuses nothing.
-fn sought_of(found: Found) -> Sought
-    ensures { λ r. ⌜ soughtAs r ≡ walkedOf (foundOf found) ⌝ }
+// A search's answer in two parts.
+fn sought_of(place: Place) -> Sought
+    ensures { λ r. ⌜ soughtAs r ≡ placeOf place ⌝ }
 {
-    match found {
-        Found::At(i, read) => Sought {
+    match place {
+        Place::At(i, read) => Sought {
             change: Change::At(i),
             read,
         },
-        Found::Nothing(read) => Sought {
+        Place::Nothing(read) => Sought {
             change: Change::Nothing,
             read,
-        },
-        Found::Refused(_) => Sought {
-            change: Change::Nothing,
-            read: 0,
         },
     }
 }

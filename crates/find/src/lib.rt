@@ -54,7 +54,7 @@ fn mirror(n: Node) -> Node
 }
 
 // The node after k others from number `from` on, or before k others from there down; its near end is its first.
-fn nth(
+pub fn nth(
     part: &[u8],
     level: &[Mask],
     unitsize: usize,
@@ -103,7 +103,7 @@ fn run(
 }
 
 // The place d samples on.
-fn moved(back: bool, pos: usize, d: usize) -> usize
+pub fn moved(back: bool, pos: usize, d: usize) -> usize
     requires { ⌜ (back ≡ true → d ≤ pos) × (back ≡ false → pos + d < 18446744073709551616) ⌝ }
     ensures { λ r. ⌜ r ≡ moved back pos d ⌝ }
 {

@@ -1,6 +1,7 @@
 // What a mill searches in a capture: next and previous change and the burst at a place, of masks within its grant, at places that count from
 // the mark. 02: CR 1.
 use capture::Capture;
+use find::Place;
 use lines::Mask;
 use mill::beyond;
 use mill::counted_from;
@@ -9,11 +10,11 @@ use mill::place_at;
 use search::next_in;
 use search::prev_in;
 ghost use mathlib.Core.Path.{_≡_};
-ghost use Rattle.rules.specs.Answer.{seen};
+ghost use Rattle.rules.specs.Answer.{given, seen};
 ghost use Rattle.rules.specs.Walk.{through};
 ghost use Rattle.rules.specs.Mill.{shownPlace, shownBurst};
 ghost use Rattle.node.specs.Memory.{levelOf};
-ghost use Rattle.search.specs.Answer as service;
+ghost use Rattle.find.specs.Way.{placeOf};
 ghost use Rattle.burst.specs.Answer as bursts;
 ghost use Rattle.mill_search.specs.Answer.{foundOf, burstAs, SmallPlace, SmallBurst, Counts, changeOf, nextOf, previousOf, burstOf};
 
@@ -39,14 +40,13 @@ pub enum Bursts {
 }
 
 // A place that was found, as the mill counts it.
-fn found_from(from: usize, found: search::Found) -> Found
-    requires { ⌜ Counts SmallPlace from (service.foundOf found) ⌝ }
-    ensures { λ r. ⌜ foundOf r ≡ seen (through (shownPlace from)) (service.foundOf found) ⌝ }
+fn found_from(from: usize, place: Place) -> Found
+    requires { ⌜ Counts SmallPlace from (given (placeOf place)) ⌝ }
+    ensures { λ r. ⌜ foundOf r ≡ given (through (shownPlace from) (placeOf place)) ⌝ }
 {
-    match found {
-        search::Found::Refused(n) => Found::Refused(n),
-        search::Found::At(i, n) => Found::At(counted_from(from, i), n),
-        search::Found::Nothing(n) => Found::Nothing(n),
+    match place {
+        Place::At(i, n) => Found::At(counted_from(from, i), n),
+        Place::Nothing(n) => Found::Nothing(n),
     }
 }
 
@@ -83,11 +83,11 @@ fn change<'a>(
     let base = origin(c);
     let i = place_at(base, from);
     if backward {
-        let found = prev_in(samples, l1, l2, l3, l4, c.unitsize, c.len, mask, i);
-        return found_from(base, found);
+        let place = prev_in(samples, l1, l2, l3, l4, c.unitsize, c.len, mask, i);
+        return found_from(base, place);
     }
-    let found = next_in(samples, l1, l2, l3, l4, c.unitsize, c.len, mask, i);
-    found_from(base, found)
+    let place = next_in(samples, l1, l2, l3, l4, c.unitsize, c.len, mask, i);
+    found_from(base, place)
 }
 
 // The next change after a place, none, or 1, 2, 12 or 13, and the nodes read.

@@ -58,6 +58,9 @@ module _ (has : ℕ → Bool) (reader : ℕ → ℕ → Node) (mask len : ℕ) (
       back = omega arith
 
 module _ {k : Course} {mask : ℕ} {whole : Walked} {count n c p v : ℕ} (g : Coursing k mask whole count n c p v) where
+  pub coursing-fits : count < 18446744073709551616
+  coursing-fits = omega (arith, g .few-steps, ap (λ (x : Walked). x .steps) (g .same))
+
   pub coursing-end : n ≡ 0 → told none count ≡ whole
   unfolding chunks
   coursing-end z = sym (from-end count) ∙ sym (ap (λ (x : ℕ). counted-from count (chunks k mask x c p v)) z) ∙ g .same

@@ -2,9 +2,13 @@
 use capture::Capture;
 use find::Place;
 use find::find;
+use find::moved;
 use find::near;
+use find::nth;
+use level::LEVELS;
 use lines::Mask;
 ghost use mathlib.Core.Path.{_≡_};
+ghost use mathlib.Core.Bool.{false};
 ghost use Prim.Native.Nat.{_+_, _-_, _*_, _≤_, _<_, min};
 ghost use Rattle.rules.specs.Node.{chunk};
 ghost use Rattle.rules.specs.Refusal.{mostSamples};
@@ -13,6 +17,7 @@ ghost use Rattle.rules.specs.Answer.{given};
 ghost use Rattle.node.specs.Memory.{levelOf, readerOf};
 ghost use Rattle.find.specs.Way.{wayIn, placeOf};
 ghost use Rattle.search.specs.Part.{Stored, Entered};
+ghost use Rattle.search.specs.Quiet.{beside, quietNth, ChunkHeld, ChunksHeld, QuietChunks};
 ghost use Rattle.search.specs.Answer.{foundOf, nextOf, previousOf};
 
 const CHUNK: usize = 1048576;
@@ -79,6 +84,60 @@ fn in_chunk<'a>(
     )
 }
 
+// The place next to a border of chunks on the side that a search comes from: a chunk's first sample, or forward the one before it.
+fn beside(back: bool, border: usize) -> usize
+    requires { ⌜ (border * chunk < 18446744073709551616) × (back ≡ false → 1 ≤ border) ⌝ }
+    ensures { λ r. ⌜ r ≡ beside back border ⌝ }
+{
+    if back {
+        border * CHUNK
+    } else {
+        border * CHUNK - 1
+    }
+}
+
+// Whether the whole chunk after k others from a border on, or from there down, can be passed: it is one node of level 4, and the
+// value before it is the sample, read anew.
+fn quiet_nth(
+    samples: &[u8],
+    l4: &[Mask],
+    unitsize: usize,
+    back: bool,
+    mask: Mask,
+    border: usize,
+    k: usize,
+) -> bool
+    requires { ⌜ ChunkHeld unitsize (now samples) (now l4) back border k ⌝ }
+    ensures { λ r. ⌜ r ≡ quietNth unitsize (now (samples .entry)) (now (l4 .entry)) back mask border k ⌝ }
+{
+    let value = lines::get(samples, unitsize, beside(back, moved(back, border, k)));
+    let m = nth(samples, l4, unitsize, LEVELS, back, border, k);
+    m.quiet(value, mask)
+}
+
+// How many of n whole chunks can be passed. With nothing else in the loop a chunk costs what its two reads cost.
+fn quiet_chunks(
+    samples: &[u8],
+    l4: &[Mask],
+    unitsize: usize,
+    back: bool,
+    mask: Mask,
+    border: usize,
+    n: usize,
+) -> usize
+    requires { ⌜ ChunksHeld unitsize (now samples) (now l4) back border n ⌝ }
+    ensures { λ r. ⌜ QuietChunks unitsize (now (samples .entry)) (now (l4 .entry)) back mask border n r ⌝ }
+{
+    let mut k = 0;
+    while k < n {
+        if !quiet_nth(samples, l4, unitsize, back, mask, border, k) {
+            return k;
+        }
+        k += 1;
+    }
+    k
+}
+
 // The next change after from, chunk after chunk.
 fn chunks_fwd<'a>(
     samples: &[u8],
@@ -90,11 +149,12 @@ fn chunks_fwd<'a>(
     len: usize,
     mask: Mask,
     from: usize,
-) -> Found
+) -> Place
     requires { ⌜ Stored unitsize len (now samples) (levelOf (now l1) (now l2) (now l3) (now l4)) × (from + 1 < len) ⌝ }
-    ensures { λ r. ⌜ foundOf r ≡ given (nextWalk allLevels (readerOf unitsize (now (samples .entry)) (levelOf (now (l1 .entry)) (now (l2 .entry)) (now (l3 .entry)) (now (l4 .entry)))) len mask from) ⌝ }
+    ensures { λ r. ⌜ placeOf r ≡ nextWalk allLevels (readerOf unitsize (now (samples .entry)) (levelOf (now (l1 .entry)) (now (l2 .entry)) (now (l3 .entry)) (now (l4 .entry)))) len mask from ⌝ }
 {
     let end = (len + (CHUNK - 1)) / CHUNK;
+    let whole = len / CHUNK;
     let mut lo = from + 1;
     let mut ci = lo / CHUNK;
     let mut count = 0;
@@ -116,16 +176,27 @@ fn chunks_fwd<'a>(
         match p {
             Place::At(i, n) => {
                 count += n;
-                return Found::At(i, count); // with those of the chunks before
+                return Place::At(i, count); // with those of the chunks before
             }
             Place::Nothing(n) => {
                 count += n;
             }
         }
         ci += 1;
+        let n = quiet_chunks(
+            samples,
+            l4,
+            unitsize,
+            false,
+            mask,
+            ci,
+            whole - least(ci, whole),
+        );
+        count += n; // a step each
+        ci += n;
         lo = ci * CHUNK;
     }
-    Found::Nothing(count)
+    Place::Nothing(count)
 }
 
 // The next change after from. Where changes are dense it is one of the next few samples.
@@ -139,16 +210,16 @@ fn next_from<'a>(
     len: usize,
     mask: Mask,
     from: usize,
-) -> Found
+) -> Place
     requires { ⌜ Stored unitsize len (now samples) (levelOf (now l1) (now l2) (now l3) (now l4)) × (from + 1 < len) ⌝ }
-    ensures { λ r. ⌜ foundOf r ≡ given (nextWalk allLevels (readerOf unitsize (now (samples .entry)) (levelOf (now (l1 .entry)) (now (l2 .entry)) (now (l3 .entry)) (now (l4 .entry)))) len mask from) ⌝ }
+    ensures { λ r. ⌜ placeOf r ≡ nextWalk allLevels (readerOf unitsize (now (samples .entry)) (levelOf (now (l1 .entry)) (now (l2 .entry)) (now (l3 .entry)) (now (l4 .entry)))) len mask from ⌝ }
 {
     let value = lines::get(samples, unitsize, from);
     let p = near(samples, l1, unitsize, len, false, mask, from + 1, value);
     let Place::At(i, n) = p else {
         return chunks_fwd(samples, l1, l2, l3, l4, unitsize, len, mask, from);
     };
-    Found::At(i, n)
+    Place::At(i, n)
 }
 
 // The last change up to start, chunk before chunk; an earlier chunk is entered at its length.
@@ -162,9 +233,9 @@ fn chunks_back<'a>(
     len: usize,
     mask: Mask,
     start: usize,
-) -> Found
+) -> Place
     requires { ⌜ Stored unitsize len (now samples) (levelOf (now l1) (now l2) (now l3) (now l4)) × (start < len) ⌝ }
-    ensures { λ r. ⌜ foundOf r ≡ given (previousFrom allLevels (readerOf unitsize (now (samples .entry)) (levelOf (now (l1 .entry)) (now (l2 .entry)) (now (l3 .entry)) (now (l4 .entry)))) mask start) ⌝ }
+    ensures { λ r. ⌜ placeOf r ≡ previousFrom allLevels (readerOf unitsize (now (samples .entry)) (levelOf (now (l1 .entry)) (now (l2 .entry)) (now (l3 .entry)) (now (l4 .entry)))) mask start ⌝ }
 {
     let mut at = start;
     let mut left = start / CHUNK + 1;
@@ -188,16 +259,18 @@ fn chunks_back<'a>(
         match p {
             Place::At(i, n) => {
                 count += n;
-                return Found::At(i, count);
+                return Place::At(i, count);
             }
             Place::Nothing(n) => {
                 count += n;
             }
         }
-        at = ci * CHUNK;
-        left = ci;
+        let n = quiet_chunks(samples, l4, unitsize, true, mask, ci, ci);
+        count += n;
+        left = ci - n;
+        at = left * CHUNK;
     }
-    Found::Nothing(count)
+    Place::Nothing(count)
 }
 
 // The last change up to start. Where changes are dense it is one of the few samples before it.
@@ -211,16 +284,16 @@ fn prev_from<'a>(
     len: usize,
     mask: Mask,
     start: usize,
-) -> Found
+) -> Place
     requires { ⌜ Stored unitsize len (now samples) (levelOf (now l1) (now l2) (now l3) (now l4)) × (start < len) ⌝ }
-    ensures { λ r. ⌜ foundOf r ≡ given (previousFrom allLevels (readerOf unitsize (now (samples .entry)) (levelOf (now (l1 .entry)) (now (l2 .entry)) (now (l3 .entry)) (now (l4 .entry)))) mask start) ⌝ }
+    ensures { λ r. ⌜ placeOf r ≡ previousFrom allLevels (readerOf unitsize (now (samples .entry)) (levelOf (now (l1 .entry)) (now (l2 .entry)) (now (l3 .entry)) (now (l4 .entry)))) mask start ⌝ }
 {
     let value = lines::get(samples, unitsize, start);
     let p = near(samples, l1, unitsize, len, true, mask, start, value);
     let Place::At(i, n) = p else {
         return chunks_back(samples, l1, l2, l3, l4, unitsize, len, mask, start);
     };
-    Found::At(i, n)
+    Place::At(i, n)
 }
 
 // The next change after any place, of a capture that passed rows 1 and 2.
@@ -234,15 +307,15 @@ pub fn next_in<'a>(
     len: usize,
     mask: Mask,
     from: usize,
-) -> Found
+) -> Place
     requires { ⌜ Stored unitsize len (now samples) (levelOf (now l1) (now l2) (now l3) (now l4)) ⌝ }
-    ensures { λ r. ⌜ foundOf r ≡ given (nextWalk allLevels (readerOf unitsize (now (samples .entry)) (levelOf (now (l1 .entry)) (now (l2 .entry)) (now (l3 .entry)) (now (l4 .entry)))) len mask from) ⌝ }
+    ensures { λ r. ⌜ placeOf r ≡ nextWalk allLevels (readerOf unitsize (now (samples .entry)) (levelOf (now (l1 .entry)) (now (l2 .entry)) (now (l3 .entry)) (now (l4 .entry)))) len mask from ⌝ }
 {
     if len <= from {
-        return Found::Nothing(0);
+        return Place::Nothing(0);
     }
     if len <= from + 1 {
-        return Found::Nothing(0);
+        return Place::Nothing(0);
     }
     next_from(samples, l1, l2, l3, l4, unitsize, len, mask, from)
 }
@@ -258,12 +331,12 @@ pub fn prev_in<'a>(
     len: usize,
     mask: Mask,
     from: usize,
-) -> Found
+) -> Place
     requires { ⌜ Stored unitsize len (now samples) (levelOf (now l1) (now l2) (now l3) (now l4)) ⌝ }
-    ensures { λ r. ⌜ foundOf r ≡ given (previousWalk allLevels (readerOf unitsize (now (samples .entry)) (levelOf (now (l1 .entry)) (now (l2 .entry)) (now (l3 .entry)) (now (l4 .entry)))) len mask from) ⌝ }
+    ensures { λ r. ⌜ placeOf r ≡ previousWalk allLevels (readerOf unitsize (now (samples .entry)) (levelOf (now (l1 .entry)) (now (l2 .entry)) (now (l3 .entry)) (now (l4 .entry)))) len mask from ⌝ }
 {
     if len == 0 {
-        return Found::Nothing(0);
+        return Place::Nothing(0);
     }
     prev_from(
         samples,
@@ -276,6 +349,16 @@ pub fn prev_in<'a>(
         mask,
         least(from, len - 1),
     )
+}
+
+// A search's answer where no row refuses.
+fn given(place: Place) -> Found
+    ensures { λ r. ⌜ foundOf r ≡ given (placeOf place) ⌝ }
+{
+    match place {
+        Place::At(i, n) => Found::At(i, n),
+        Place::Nothing(n) => Found::Nothing(n),
+    }
 }
 
 // 01's Next: the smallest place after from, and below len, at which a masked line changes; and the nodes read.
@@ -296,7 +379,7 @@ pub fn next_change<'a>(
     if number != 0 {
         return Found::Refused(number);
     }
-    next_in(samples, l1, l2, l3, l4, c.unitsize, c.len, mask, from)
+    given(next_in(samples, l1, l2, l3, l4, c.unitsize, c.len, mask, from))
 }
 
 // 01's Previous: the largest place up to from, from 1 on and below len, at which a masked line changes; and the nodes read.
@@ -317,5 +400,5 @@ pub fn prev_change<'a>(
     if number != 0 {
         return Found::Refused(number);
     }
-    prev_in(samples, l1, l2, l3, l4, c.unitsize, c.len, mask, from)
+    given(prev_in(samples, l1, l2, l3, l4, c.unitsize, c.len, mask, from))
 }

@@ -1,7 +1,6 @@
 -- `burst::previous` meets its contract: it is the walk. Assumes nothing.
-use mathlib.Core.Path.{ap, _∙_}
+use mathlib.Core.Path.{_∙_}
 use borrow.Author.Needs.{needs}
-use Rattle.burst.specs.Answer.{walkedOf}
 use Rattle.burst.proofs.previous.Statement.{statement}
 use Rattle.burst.proofs.previous.Tie as tie
 
@@ -12,7 +11,7 @@ sought-of-requires : tie.Need-sought-of-requires
 sought-of-requires c κs = search needs
 
 returns : tie.Need-returns
-returns c = c .sought-of .ensures ∙ ap walkedOf (c .before .prev-in .ensures)
+returns c = c .sought-of .ensures ∙ c .before .prev-in .ensures
 
 pub previous-spec : {M : Type 1} → statement M
 previous-spec = tie.close (tie.spec prev-in-requires sought-of-requires returns)

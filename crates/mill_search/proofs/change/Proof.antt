@@ -6,15 +6,15 @@ use mathlib.Core.List.{List}
 use lib.IntN.{ℤ}
 use denote.Ref.{now}
 use borrow.Author.Needs.{needs}
-use Rattle.rules.specs.Answer.{Answer, given, unless, seen}
+use Rattle.rules.specs.Answer.{Answer, given, unless}
 use Rattle.rules.specs.Refusal.{storeRefusal}
 use Rattle.rules.specs.Walk.{Counted, Walked, through}
 use Rattle.rules.specs.Mill.{placeAt, shownPlace}
 use Rattle.node.specs.Memory.{levelOf}
 use Rattle.capture.specs.Record.{storeOf, lentOf}
-use Rattle.search.specs.declared.Found.{Found}
+use Rattle.find.specs.declared.Place.{Place}
+use Rattle.find.specs.Way.{placeOf}
 use Rattle.search.specs.Part.{Stored}
-use Rattle.search.specs.Answer as service
 use Rattle.mill.specs.Reader.{originIn}
 use Rattle.mill_search.specs.Answer.{Counts, SmallPlace, sought, changeOf}
 use Rattle.mill_search.proofs.Asked.{asked-refused, asked-stored, asked-given, asked-placed, asked-counts, asked-shown, change-small}
@@ -71,25 +71,24 @@ module _ (a : tie.After-place-at) where
   stored = asked-stored (t .args .c) (now (t .args .samples)) (now (t .args .l1)) (now (t .args .l2)) (now (t .args .l3)) (now (t .args .l4)) (t .args .grant) (t .args .mask) (t .args .from) (t .fits .from) (f .before .beyond .result) (f .before .beyond .ensures) (f .refusal .result) (f .refusal .ensures) (o .before .if1 .left) (o .origin .result) (o .origin .ensures)
 
   -- a search in the direction asked
-  module _ (backward : Bool) (same : t .args .backward ≡ backward) (found : Found) (answer : service.foundOf found ≡ given (find f backward (a .place-at .result))) where
-    answered : service.foundOf found ≡ unless (storeRefusal (storeOf (t .args .c)) (lentOf (now (t .args .samples)) (levels f))) (find f (t .args .backward) (a .place-at .result))
+  module _ (backward : Bool) (same : t .args .backward ≡ backward) (place : Place) (answer : placeOf place ≡ find f backward (a .place-at .result)) where
+    answered : given (placeOf place) ≡ unless (storeRefusal (storeOf (t .args .c)) (lentOf (now (t .args .samples)) (levels f))) (find f (t .args .backward) (a .place-at .result))
     answered =
-        answer
-        ∙ ap (λ (b : Bool). given (find f b (a .place-at .result))) (sym same)
+        ap given (answer ∙ ap (λ (b : Bool). find f b (a .place-at .result)) (sym same))
         ∙ asked-given (t .args .c) (now (t .args .samples)) (now (t .args .l1)) (now (t .args .l2)) (now (t .args .l3)) (now (t .args .l4)) (t .args .grant) (t .args .mask) (t .args .from) (t .fits .from) (f .before .beyond .result) (f .before .beyond .ensures) (f .refusal .result) (f .refusal .ensures) (o .before .if1 .left) (o .origin .result) (o .origin .ensures) (find f (t .args .backward) (a .place-at .result))
 
-    counts : Counts SmallPlace (o .origin .result) (service.foundOf found)
+    counts : Counts SmallPlace (o .origin .result) (given (placeOf place))
     counts =
         asked-counts (t .args .c) (now (t .args .samples)) (now (t .args .l1)) (now (t .args .l2)) (now (t .args .l3)) (now (t .args .l4)) (t .args .grant) (t .args .mask) (t .args .from) (t .fits .from) (f .before .beyond .result) (f .before .beyond .ensures) (f .refusal .result) (f .refusal .ensures) (o .before .if1 .left) (o .origin .result) (o .origin .ensures)
-        (find f (t .args .backward)) (a .place-at .result) (a .place-at .ensures) (service.foundOf found) answered
+        (find f (t .args .backward)) (a .place-at .result) (a .place-at .ensures) (given (placeOf place)) answered
         SmallPlace (change-small (t .args .c) (now (t .args .samples)) (levels f) (t .args .mask) (t .args .backward))
 
-    shows : (shown : Answer (Counted ℤ)) → shown ≡ seen (through (shownPlace (o .origin .result))) (service.foundOf found)
+    shows : (shown : Answer (Counted ℤ)) → shown ≡ given (through (shownPlace (o .origin .result)) (placeOf place))
         → shown ≡ changeOf (t .args .backward) (t .args .c) (now (t .args .samples)) (levels f) (t .args .grant) (t .args .mask) (t .args .from)
     unfolding changeOf
     shows shown e =
         asked-shown (t .args .c) (now (t .args .samples)) (now (t .args .l1)) (now (t .args .l2)) (now (t .args .l3)) (now (t .args .l4)) (t .args .grant) (t .args .mask) (t .args .from) (t .fits .from) (f .before .beyond .result) (f .before .beyond .ensures) (f .refusal .result) (f .refusal .ensures) (o .before .if1 .left) (o .origin .result) (o .origin .ensures)
-        (find f (t .args .backward)) (a .place-at .result) (a .place-at .ensures) (service.foundOf found) answered
+        (find f (t .args .backward)) (a .place-at .result) (a .place-at .ensures) (given (placeOf place)) answered
         shownPlace shown e
 
 prev-in-requires : tie.Need-prev-in-requires

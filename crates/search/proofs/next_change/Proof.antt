@@ -1,7 +1,8 @@
 -- `search::next_change` meets its contract: a refusal, or the walk. Assumes nothing.
-use mathlib.Core.Path.{_∙_}
+use mathlib.Core.Path.{ap, _∙_}
 use denote.Ref.{now}
 use borrow.Author.Needs.{needs}
+use Rattle.rules.specs.Answer.{given}
 use Rattle.rules.specs.Walk.{nextWalk, allLevels}
 use Rattle.node.specs.Memory.{levelOf, readerOf}
 use Rattle.search.specs.Answer.{nextOf}
@@ -26,13 +27,16 @@ next-in-requires c κs =
     let a = f .before .before .before .before .before .before .args in
     asked-stored (a .c) (now (a .samples)) (now (a .l1)) (now (a .l2)) (now (a .l3)) (now (a .l4)) (f .refusal .result) (f .refusal .ensures) (c .if1 .left)
 
+given-requires : tie.Need-given-requires
+given-requires c κs = search needs
+
 returns-2 : tie.Need-returns-2
 unfolding nextOf
 returns-2 c =
-    let f = c .before .before in
+    let f = c .before .before .before in
     let a = f .before .before .before .before .before .before .args in
     let reader = readerOf (a .c .unitsize) (now (a .samples)) (levelOf (now (a .l1)) (now (a .l2)) (now (a .l3)) (now (a .l4))) in
-    c .next-in .ensures ∙ asked-given (a .c) (now (a .samples)) (now (a .l1)) (now (a .l2)) (now (a .l3)) (now (a .l4)) (f .refusal .result) (f .refusal .ensures) (nextWalk allLevels reader (a .c .len) (a .mask) (a .from)) (c .before .if1 .left)
+    c .given .ensures ∙ ap given (c .before .next-in .ensures) ∙ asked-given (a .c) (now (a .samples)) (now (a .l1)) (now (a .l2)) (now (a .l3)) (now (a .l4)) (f .refusal .result) (f .refusal .ensures) (nextWalk allLevels reader (a .c .len) (a .mask) (a .from)) (c .before .before .if1 .left)
 
 pub next-change-spec : {M : Type 1} → statement M
-next-change-spec = tie.close (tie.spec refusal-requires returns next-in-requires returns-2)
+next-change-spec = tie.close (tie.spec refusal-requires returns next-in-requires given-requires returns-2)

@@ -1,9 +1,8 @@
 -- `search::prev_in` meets its contract: nothing to search, or the walk over chunks. Assumes nothing.
-use mathlib.Core.Path.{ap, _∙_}
+use mathlib.Core.Path.{_∙_}
 use native.Mathlib.Omega.{arith}
 use denote.Ref.{now}
 use borrow.Author.Needs.{needs}
-use Rattle.rules.specs.Answer.{given}
 use Rattle.rules.specs.Walk.{allLevels}
 use Rattle.node.specs.Memory.{levelOf, readerOf}
 use Rattle.search.proofs.Asked.{previous-nothing, previous-something}
@@ -11,7 +10,7 @@ use Rattle.search.proofs.prev_in.Statement.{statement}
 use Rattle.search.proofs.prev_in.Tie as tie
 
 returns : tie.Need-returns
-returns c = let a = c .before .before .before .before .before .before .args in ap given (previous-nothing allLevels (readerOf (a .unitsize) (now (a .samples)) (levelOf (now (a .l1)) (now (a .l2)) (now (a .l3)) (now (a .l4)))) (a .len) (a .mask) (a .from) (c .if1 .taken))
+returns c = let a = c .before .before .before .before .before .before .args in previous-nothing allLevels (readerOf (a .unitsize) (now (a .samples)) (levelOf (now (a .l1)) (now (a .l2)) (now (a .l3)) (now (a .l4)))) (a .len) (a .mask) (a .from) (c .if1 .taken)
 
 sub-least : tie.Need-sub-least
 sub-least c = search needs
@@ -25,7 +24,7 @@ prev-from-requires c κs = search needs
 returns-2 : tie.Need-returns-2
 returns-2 c =
     let a = c .before .before .before .before .before .before .before .before .args in
-    c .prev-from .ensures ∙ ap given (previous-something allLevels (readerOf (a .unitsize) (now (a .samples)) (levelOf (now (a .l1)) (now (a .l2)) (now (a .l3)) (now (a .l4)))) (a .len) (a .mask) (a .from) (c .before .before .if1 .left) (c .before .least .result) (c .before .least .ensures))
+    c .prev-from .ensures ∙ previous-something allLevels (readerOf (a .unitsize) (now (a .samples)) (levelOf (now (a .l1)) (now (a .l2)) (now (a .l3)) (now (a .l4)))) (a .len) (a .mask) (a .from) (c .before .before .if1 .left) (c .before .least .result) (c .before .least .ensures)
 
 pub prev-in-spec : {M : Type 1} → statement M
 prev-in-spec = tie.close (tie.spec returns sub-least least-requires prev-from-requires returns-2)
