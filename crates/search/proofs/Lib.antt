@@ -5,4 +5,5 @@ pub mod Chunks
 pub mod Quiet
 pub mod Near
 pub mod Within
+pub mod Call
 pub mod Change
