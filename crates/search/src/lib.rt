@@ -183,7 +183,7 @@ fn chunks_fwd<'a>(
             }
         }
         ci += 1;
-        let n = quiet_chunks(
+        let passed = quiet_chunks(
             samples,
             l4,
             unitsize,
@@ -192,8 +192,8 @@ fn chunks_fwd<'a>(
             ci,
             whole - least(ci, whole),
         );
-        count += n; // a step each
-        ci += n;
+        count += passed; // a step each
+        ci += passed;
         lo = ci * CHUNK;
     }
     Place::Nothing(count)
@@ -265,9 +265,9 @@ fn chunks_back<'a>(
                 count += n;
             }
         }
-        let n = quiet_chunks(samples, l4, unitsize, true, mask, ci, ci);
-        count += n;
-        left = ci - n;
+        let passed = quiet_chunks(samples, l4, unitsize, true, mask, ci, ci);
+        count += passed;
+        left = ci - passed;
         at = left * CHUNK;
     }
     Place::Nothing(count)
