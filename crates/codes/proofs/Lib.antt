@@ -1,2 +1,3 @@
 pub mod Coded
 mod Written
+pub mod ReadBack

@@ -1,1 +1,4 @@
 mod Pushed
+pub mod Narrow
+pub mod Leaves
+pub mod ReadBack

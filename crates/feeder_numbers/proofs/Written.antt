@@ -13,7 +13,7 @@ use Rattle.terms.specs.Terms.{asMasks, previousOf}
 use Rattle.feeder.specs.declared.Armed.{Armed}
 use Rattle.feeder.specs.declared.Feeder.{Feeder}
 use Rattle.feeder.specs.Record.{armedAs, recorderOf}
-use Rattle.feeder_numbers.specs.Numbers.{markIn, masksIn, armedIn, previousIn, feederFrom, markedNumber, markNumber, waitsNumber, masksOf, pushedNumbers, recorderNumbers}
+use Rattle.feeder_numbers.specs.Numbers.{markIn, masksIn, armedIn, previousIn, feederFrom, markedNumber, markNumber, waitsNumber, masksOf, maskNumbers, pushedNumbers, recorderNumbers}
 
 pub read : (r : List ℕ) {mark : Mark} {masks : Masks} {armed : Armed} {prev : Previous}
     → mark ≡ markIn (getD r 3 0) (getD r 4 0)
@@ -47,10 +47,10 @@ pub whole-written : (f : Feeder) (old new : List ℕ) {masks : Masks}
     → asMasks masks ≡ masksOf (armedAs (f .masks))
     → new
     ≡ pushedNumbers (recorderOf f)
-    (sets (sets (sets old 0 (f .capture .unitsize ∷ f .capture .capacity ∷ [])) 5 (f .limit ∷ f .pre ∷ [])) 8 (masks .high ∷ masks .low ∷ masks .rising ∷ masks .falling ∷ masks .edge ∷ []))
+    (sets (sets (sets old 0 (f .capture .unitsize ∷ f .capture .capacity ∷ [])) 5 (f .limit ∷ f .pre ∷ [])) 8 (maskNumbers (asMasks masks)))
     → new ≡ recorderNumbers (recorderOf f) old
 whole-written f old new d e =
     e
     ∙ ap
-    (λ (m : rule.Masks). pushedNumbers (recorderOf f) (sets (sets (sets old 0 (f .capture .unitsize ∷ f .capture .capacity ∷ [])) 5 (f .limit ∷ f .pre ∷ [])) 8 (m .high ∷ m .low ∷ m .rising ∷ m .falling ∷ m .edge ∷ [])))
+    (λ (m : rule.Masks). pushedNumbers (recorderOf f) (sets (sets (sets old 0 (f .capture .unitsize ∷ f .capture .capacity ∷ [])) 5 (f .limit ∷ f .pre ∷ [])) 8 (maskNumbers m)))
     d

@@ -64,11 +64,12 @@ abbrev pub masksOf : rule.Armed → rule.Masks
 masksOf rule.unarmed = rule.noMasks
 masksOf (rule.waiting m) = m
 
+abbrev pub maskNumbers : rule.Masks → List ℕ
+maskNumbers m = m .high ∷ m .low ∷ m .rising ∷ m .falling ∷ m .edge ∷ []
+
 -- what a push never changes: unit, capacity, limit, pre, and the lines of each condition
 abbrev pub fixedNumbers : Recorder → List ℕ → List ℕ
-fixedNumbers r old =
-    sets (sets (sets old 0 (r .store .unit ∷ r .store .capacity ∷ [])) 5 (r .limit ∷ r .pre ∷ [])) 8
-    (masksOf (r .armed) .high ∷ masksOf (r .armed) .low ∷ masksOf (r .armed) .rising ∷ masksOf (r .armed) .falling ∷ masksOf (r .armed) .edge ∷ [])
+fixedNumbers r old = sets (sets (sets old 0 (r .store .unit ∷ r .store .capacity ∷ [])) 5 (r .limit ∷ r .pre ∷ [])) 8 (maskNumbers (masksOf (r .armed)))
 
 -- what a push may change: len and mark, whether it waits, previous sample, ring place and kept count
 abbrev pub pushedNumbers : Recorder → List ℕ → List ℕ

@@ -5,7 +5,7 @@ use mathlib.Core.Bool.{Bool, true, cond}
 use mathlib.Core.Logic.{_⊎_, inl, inr, _≢_}
 use mathlib.Core.List.{List}
 use native.Mathlib.Nat.{div-add-mod', mod-one, add-zero}
-use native.Mathlib.Decide.{ℕ-discrete}
+use native.Mathlib.Decide.{ℕ-discrete, decLt}
 use native.Mathlib.Omega.{arith}
 use borrow.Author.Tests.{eq-eqb, ne-eqb}
 use lib.ListN.{length, getD, set, length-set}
@@ -63,6 +63,14 @@ node-at k l i h = λ t. record { first = first t; last = h 1 (omega arith) t; to
   where
     first : getD k (i * nodeSize) 0 ≡ getD l (i * nodeSize) 0
     first = ap (λ (x : ℕ). getD k x 0) (sym (add-zero (i * nodeSize))) ∙ h 0 (omega arith) ∙ ap (λ (x : ℕ). getD l x 0) (add-zero (i * nodeSize))
+
+-- the other nodes stay
+pub put-other : (l : List ℕ) (j : ℕ) (n : Node) (i : ℕ) → i ≢ j → nodeIn (putNode l j n) i ≡ nodeIn l i
+put-other l j n i z = node-at (putNode l j n) l i (λ x h. put-rest l j n (i * nodeSize + x) (side (decLt i j) x h))
+  where
+    side : Dec (i < j) → (x : ℕ) → x < nodeSize → (i * nodeSize + x < j * nodeSize) ⊎ (j * nodeSize + nodeSize ≤ i * nodeSize + x)
+    side (yes d) x h = inl (omega arith)
+    side (no d) x h = inr (omega (arith, z))
 
 -- ---- what memory reads
 module _ (unit : ℕ) (samples : List ℕ) (levels : ℕ → List ℕ) where

@@ -1,5 +1,6 @@
 pub mod Bits
 pub mod Sample
+pub mod SampleBytes
 pub mod Trigger
 pub mod Both
 pub mod Selection

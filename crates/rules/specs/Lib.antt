@@ -1,4 +1,5 @@
 pub mod Sample
+pub mod SampleBytes
 pub mod Node
 pub mod Search
 pub mod Walk

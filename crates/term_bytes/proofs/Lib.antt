@@ -1,1 +1,2 @@
 mod Fold
+pub mod ReadBack

@@ -22,3 +22,15 @@ unfoldable pub termsIn : List ℕ → List TriggerTerm
 termsIn [] = []
 termsIn (line ∷ []) = termIn line noCondition ∷ []
 termsIn (line ∷ n ∷ rest) = termIn line n ∷ termsIn rest
+
+-- ---- as a caller writes them
+abbrev pub conditionNumber : Condition → ℕ
+conditionNumber Rising = 0
+conditionNumber Falling = 1
+conditionNumber Edge = 2
+conditionNumber High = 3
+conditionNumber Low = 4
+
+unfoldable pub termBytes : List TriggerTerm → List ℕ
+termBytes [] = []
+termBytes (t ∷ ts) = t .channel ∷ conditionNumber (t .condition) ∷ termBytes ts
