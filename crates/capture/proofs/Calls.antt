@@ -1,16 +1,17 @@
 -- Laws of the plain calls: samples that are copied, and a chunk's bytes.
 use Prim.Native.Nat.{ℕ, zero, suc, _+_, _-_, _*_, _/_, _≤_, _<_}
-use mathlib.Core.Path.{_≡_, refl, sym, ap, _∙_}
-use mathlib.Core.Bool.{Bool, cond}
+use mathlib.Core.Path.{_≡_, refl, sym, ap, ap₂, _∙_}
+use mathlib.Core.Bool.{Bool, true, false, cond, _&&_}
 use mathlib.Core.List.{List, [], _∷_, _++_, append-assoc}
 use native.Mathlib.Nat.{le-refl, mul-le-mul-right, mul-le-mul-left, add-zero}
 use native.Mathlib.Numerals.{add-one}
 use native.Mathlib.Omega.{arith}
 use lib.ListN.{length, getD, take, drop, set, length-append, length-drop}
 use lib.Seq.{drop-cons, set-at}
-use borrow.Author.Tests.{eq-eqb, ne-eqb}
+use lib.Dec.{ltb}
+use borrow.Author.Tests.{eq-eqb, ne-eqb, lt-ltb, le-ltb}
 use Rattle.rules.specs.Answer.{unrefused}
-use Rattle.rules.specs.Reading.{copiedTo, partOf}
+use Rattle.rules.specs.Reading.{copiedTo, partOf, rawShown}
 use Rattle.rules.specs.Sample.{listFrom}
 use Rattle.rules.specs.Node.{chunk, topLevel, chunkEnd}
 use Rattle.rules.specs.Refusal.{Store, storeWrong, samplesNeed, levelNeed, storeRefusal, fresh, copied}
@@ -19,7 +20,7 @@ use Rattle.lines.specs.Held.{Held}
 use Rattle.node.specs.Memory.{levelOf}
 use Rattle.capture.specs.declared.Sizes.{Sizes}
 use Rattle.capture.specs.Record.{lentNumbers, lentOf, Sized}
-use Rattle.capture.specs.Calls.{needRefusal, memoryNeed, Source, rawOf, Lies}
+use Rattle.capture.specs.Calls.{needRefusal, memoryNeed, Source, rawOf, RawLies}
 
 -- ---- needs
 pub memory-is : (st : Store) (r : Sizes) → Sized st r → lentNumbers (r .samples) (r .l1) (r .l2) (r .l3) (r .l4) ≡ memoryNeed st
@@ -154,19 +155,31 @@ module _ (st : Store) (bytes : List ℕ) (levels : ℕ → List ℕ) (c : ℕ) w
       none : chunkEnd (st .len) c * st .unit - c * chunk * st .unit ≡ 0
       none = omega (arith, mul-le-mul-right {m = chunkEnd (st .len) c} {n = c * chunk} (st .unit) (omega arith))
 
-  nothing : [] ≡ rawOf st bytes levels c → Lies bytes (rawOf st bytes levels c) 0 0
-  nothing e = record { order = omega arith; inside = omega arith; part-is = e }
+  -- an empty part
+  nothing : [] ≡ rawOf st bytes levels c → rawShown st (lentOf bytes levels) c ≡ false → RawLies st bytes levels c 0 0
+  nothing e f = record {
+    from-is = sym (ap (λ (b : Bool). cond b (c * chunk * st .unit) 0) f);
+    to-is = sym (ap (λ (b : Bool). cond b (chunkEnd (st .len) c * st .unit) 0) f);
+    lies = record { order = omega arith; inside = omega arith; part-is = e };
+  }
 
-  pub lies-refused : (n : ℕ) → rows ≡ n → (n ≡ 0 → ⊥) → Lies bytes (rawOf st bytes levels c) 0 0
-  lies-refused n e h = nothing (raw-refused n e h)
+  pub lies-refused : (n : ℕ) → rows ≡ n → (n ≡ 0 → ⊥) → RawLies st bytes levels c 0 0
+  lies-refused n e h = nothing (raw-refused n e h) (ap (λ (b : Bool). b && ltb (c * chunk) (st .len)) (ne-eqb rows 0 (λ z. h (sym e ∙ z))))
 
-  pub lies-past : rows ≡ 0 → (st .len + (chunk - 1)) / chunk ≤ c → Lies bytes (rawOf st bytes levels c) 0 0
-  lies-past e h = nothing (raw-past e h)
+  pub lies-past : rows ≡ 0 → (st .len + (chunk - 1)) / chunk ≤ c → RawLies st bytes levels c 0 0
+  lies-past e h = nothing (raw-past e h) (ap₂ (λ (a b : Bool). a && b) (eq-eqb rows 0 e) (le-ltb (c * chunk) (st .len) (omega arith)))
 
-  pub lies-part : Sound st (lentOf bytes levels) → (e : ℕ) → rows ≡ 0 → e ≡ chunkEnd (st .len) c → c < (st .len + (chunk - 1)) / chunk → Lies bytes (rawOf st bytes levels c) (c * chunk * st .unit) (e * st .unit)
+  pub lies-part : Sound st (lentOf bytes levels) → (e : ℕ) → rows ≡ 0 → e ≡ chunkEnd (st .len) c → c < (st .len + (chunk - 1)) / chunk → RawLies st bytes levels c (c * chunk * st .unit) (e * st .unit)
   unfolding partOf
   lies-part h e z d l = record {
-    order = chunk-forward st c e d l;
-    inside = chunk-ends st bytes levels h c e d;
-    part-is = ap (λ (k : ℕ). take (k * st .unit - c * chunk * st .unit) (drop (c * chunk * st .unit) bytes)) d ∙ raw-is z;
+    from-is = sym (ap (λ (b : Bool). cond b (c * chunk * st .unit) 0) shown);
+    to-is = ap (λ (k : ℕ). k * st .unit) d ∙ sym (ap (λ (b : Bool). cond b (chunkEnd (st .len) c * st .unit) 0) shown);
+    lies = record {
+      order = chunk-forward st c e d l;
+      inside = chunk-ends st bytes levels h c e d;
+      part-is = ap (λ (k : ℕ). take (k * st .unit - c * chunk * st .unit) (drop (c * chunk * st .unit) bytes)) d ∙ raw-is z;
+    };
   }
+    where
+      shown : rawShown st (lentOf bytes levels) c ≡ true
+      shown = ap₂ (λ (a b : Bool). a && b) (eq-eqb rows 0 z) (lt-ltb (c * chunk) (st .len) (omega arith))

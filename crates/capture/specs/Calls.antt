@@ -3,10 +3,11 @@ use mathlib.Core.Path.{_≡_}
 use mathlib.Core.List.{List, [], _∷_}
 use Prim.Native.Nat.{ℕ, _+_, _-_, _*_, _≤_}
 use lib.ListN.{length, take, drop}
+use denote.Ref.{RefT, now, ptr}
 use Rattle.rules.specs.Sample.{sampleOf}
 use Rattle.rules.specs.Answer.{Answer, refused, given}
 use Rattle.rules.specs.Refusal.{Store, Lent, firstOf, storeWrong, samplesNeed, levelNeed}
-use Rattle.rules.specs.Reading.{copiedTo, copyCount, samplesAnswer, rawAnswer}
+use Rattle.rules.specs.Reading.{copiedTo, copyCount, samplesAnswer, rawAnswer, rawFrom, rawTo}
 use Rattle.capture.specs.Record.{storeOf, lentNumbers, lentOf}
 use Rattle.capture.specs.declared.Needed.{Needed}
 use Rattle.capture.specs.declared.Needed.the-variants as needed
@@ -66,3 +67,15 @@ pub record Lies (bytes part : List ℕ) (from to : ℕ) : Type 0 where
   pub order : from ≤ to
   pub inside : to ≤ length bytes
   pub part-is : take (to - from) (drop from bytes) ≡ part
+
+-- the part of chunk c, as two places
+pub record RawLies (st : Store) (bytes : List ℕ) (levels : ℕ → List ℕ) (c from to : ℕ) : Type 0 where
+  pub from-is : from ≡ rawFrom st (lentOf bytes levels) c
+  pub to-is : to ≡ rawTo st (lentOf bytes levels) c
+  pub lies : Lies bytes (rawOf st bytes levels c) from to
+
+-- and as a reference into sample memory: its bytes, and the place that it points to
+pub record RawPart (st : Store) (samples : RefT (List ℕ)) (levels : ℕ → List ℕ) (c : ℕ) (part : RefT (List ℕ)) : Type 0 where
+  pub bytes-are : now part ≡ rawOf st (now samples) levels c
+  pub block-is : ptr part .0 ≡ ptr samples .0
+  pub place-is : ptr part .1 ≡ ptr samples .1 + rawFrom st (lentOf (now samples) levels) c

@@ -11,7 +11,7 @@ ghost use Rattle.rules.specs.Answer.{unless};
 ghost use Rattle.rules.specs.Refusal.{unitWrong, markWrong, storeWrong, lentShort, storeRefusal, fresh, copied};
 ghost use Rattle.node.specs.Memory.{levelOf};
 ghost use Rattle.capture.specs.Record.{markOf, storeOf, lentNumbers, lentOf, Small, Sized};
-ghost use Rattle.capture.specs.Calls.{neededOf, needRefusal, memoryNeed, startedOf, gotOf, Source, Copies, rawOf, Lies};
+ghost use Rattle.capture.specs.Calls.{neededOf, needRefusal, memoryNeed, startedOf, gotOf, Source, Copies, RawLies, RawPart};
 
 // 01's mark: the place of the firing sample, once there is one.
 pub enum Mark {
@@ -303,7 +303,7 @@ pub fn raw_part<'a>(
     l4: &'a [Mask],
     chunk: usize,
 ) -> Part
-    ensures { λ r. ⌜ Lies (now (samples .entry)) (rawOf (storeOf c) (now (samples .entry)) (levelOf (now (l1 .entry)) (now (l2 .entry)) (now (l3 .entry)) (now (l4 .entry))) chunk) (r .from) (r .to) ⌝ }
+    ensures { λ r. ⌜ RawLies (storeOf c) (now (samples .entry)) (levelOf (now (l1 .entry)) (now (l2 .entry)) (now (l3 .entry)) (now (l4 .entry))) chunk (r .from) (r .to) ⌝ }
 {
     let n = refusal(c, samples.len(), l1.len(), l2.len(), l3.len(), l4.len());
     if n != 0 {
@@ -328,7 +328,7 @@ pub fn raw<'s, 'a>(
     l4: &'a [Mask],
     chunk: usize,
 ) -> &'s [u8]
-    ensures { λ r. ⌜ now r ≡ rawOf (storeOf c) (now (samples .entry)) (levelOf (now (l1 .entry)) (now (l2 .entry)) (now (l3 .entry)) (now (l4 .entry))) chunk ⌝ }
+    ensures { λ r. ⌜ RawPart (storeOf c) (samples .entry) (levelOf (now (l1 .entry)) (now (l2 .entry)) (now (l3 .entry)) (now (l4 .entry))) chunk r ⌝ }
 {
     let p = raw_part(c, samples, l1, l2, l3, l4, chunk);
     let a = p.from;

@@ -9,15 +9,14 @@ use native.Mathlib.Omega.{arith}
 use borrow.Author.Tests.{eqb-true}
 use lib.Dec.{ltb, leb, eqb}
 use lib.ListN.{length, take, drop}
-use Rattle.rules.specs.Sample.{sampleOf, countOf, samplesOf}
+use Rattle.rules.specs.Sample.{sampleOf, sampleCount, samplesOf}
 use Rattle.rules.specs.SampleBytes.{Bytes}
 use Rattle.rules.specs.Trigger.{Armed, unarmed, waiting, firstFire}
-use Rattle.rules.specs.Selection.{Reply, refused, going-on, complete}
-use Rattle.rules.specs.Refusal.{Lent, Recorder}
-use Rattle.ring.specs.Bytes.{keptBytes, ringBytes, joined}
-use Rattle.ring.specs.Step.{replyOf}
-use Rattle.ring.specs.Push.{Left, withLen, storable, storeBytes, firedBy, waitedFor, wanted, passed, firingBytes, takenBytes, pushBytes}
-use Rattle.feeder.specs.Record.{recorderRefusal}
+use Rattle.rules.specs.Selection.{Reply, refused, going-on, complete, replyOf}
+use Rattle.rules.specs.Refusal.{Lent, Recorder, recorderRefusal}
+use Rattle.rules.specs.Ring.{keptBytes, ringBytes, written}
+use Rattle.rules.specs.Push.{Left, withLen, firedBy, waitedFor, wanted, passed}
+use Rattle.ring.specs.Push.{storable, storeBytes, firingBytes, takenBytes, pushBytes}
 use Rattle.feeder.proofs.Rows.{recorder-sound}
 use Rattle.feeder_push.specs.Push.{leftOf}
 use Rattle.feeder_numbers.proofs.ReadBack.{Follows}
@@ -54,7 +53,7 @@ module _ (c : Recorder) (previous : NarrowSample (c .previous)) where
         done = record {
           reply = replyOf (d .armed) (d .limit) (d .store .len + storable d n);
           recorder = withLen d (d .store .len + storable d n);
-          samples = joined s (d .store .len * d .store .unit) (take (storable d n * d .store .unit) x);
+          samples = written s (d .store .len * d .store .unit) (take (storable d n * d .store .unit) x);
           ring = g;
         }
 
@@ -67,7 +66,7 @@ module _ (c : Recorder) (previous : NarrowSample (c .previous)) where
 
     module _ (b : List ℕ) (narrow : (i : ℕ) → sampleOf (c .store .unit) b i < 65536) where
       abbrev n : ℕ
-      n = countOf (c .store .unit) b
+      n = sampleCount (c .store .unit) b
 
       fired : (i : ℕ) → Leaves c (firingBytes c s g b n i)
       fired i = go (ltb i n)

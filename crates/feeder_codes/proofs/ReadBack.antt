@@ -13,12 +13,12 @@ use Rattle.rules.specs.SampleBytes.{Bytes}
 use Rattle.rules.specs.Selection.{Settings, Reply, refused, going-on, complete}
 use Rattle.rules.specs.Refusal.{Lent, Recorder, startRefusal}
 use Rattle.rules.proofs.Start.{start-passed}
-use Rattle.ring.specs.Push.{Left}
+use Rattle.rules.specs.Push.{Left}
+use Rattle.rules.specs.Start.{begun}
 use Rattle.terms.specs.Terms.{previousOf}
 use Rattle.terms.specs.declared.Previous.the-variants.{Nothing, Sample}
 use Rattle.feeder.specs.declared.Feeder.{Feeder}
 use Rattle.feeder.specs.Record.{recorderOf}
-use Rattle.feeder.specs.Start.{begun}
 use Rattle.feeder_numbers.specs.Numbers.{markIn, maskIn, feederFrom, pushedNumbers, recorderNumbers}
 use Rattle.feeder_numbers.proofs.ReadBack.{Follows, recorder-back, pushed-back}
 use Rattle.feeder_push.specs.Push.{leftOf}

@@ -10,7 +10,7 @@ use pixel::View;
 ghost use mathlib.Core.Path.{_≡_};
 ghost use Rattle.node.specs.Memory.{levelOf};
 ghost use Rattle.capture.specs.Record.{storeOf};
-ghost use Rattle.capture.specs.Calls.{rawOf, Lies};
+ghost use Rattle.capture.specs.Calls.{RawLies};
 ghost use Rattle.search.specs.Answer.{nextOf, previousOf};
 ghost use Rattle.burst.specs.Answer.{burstOf};
 ghost use Rattle.codes.specs.Record.{captureIn, storeNumbers, lentNumbers, nodeNumbers, burstNumbers, number, placeLevel, placeNumber};
@@ -124,7 +124,7 @@ pub extern "C" fn lc_raw<'a>(
     from: &mut usize,
     to: &mut usize,
 )
-    ensures { λ _. ⌜ Lies (now (samples .entry)) (rawOf (storeOf (captureIn (now (numbers .entry)))) (now (samples .entry)) (levelOf (now (l1 .entry)) (now (l2 .entry)) (now (l3 .entry)) (now (l4 .entry))) chunk) (now (from .exit)) (now (to .exit)) ⌝ }
+    ensures { λ _. ⌜ RawLies (storeOf (captureIn (now (numbers .entry)))) (now (samples .entry)) (levelOf (now (l1 .entry)) (now (l2 .entry)) (now (l3 .entry)) (now (l4 .entry))) chunk (now (from .exit)) (now (to .exit)) ⌝ }
 {
     let part = capture::raw_part(capture_in(numbers), samples, l1, l2, l3, l4, chunk);
     *from = part.from;

@@ -6,7 +6,7 @@ use native.Mathlib.Nat.{zero-add, zero-mul, div-add-mod', div-lt-iff-lt-mul, mod
 use native.Mathlib.Omega.{arith}
 use lib.ListN.{length, getD, length-append}
 use lib.Seq.{ext-getD}
-use Rattle.rules.specs.Sample.{little, sampleOf, countOf, listFrom, samplesOf}
+use Rattle.rules.specs.Sample.{little, sampleOf, sampleCount, listFrom, samplesOf}
 use Rattle.rules.specs.SampleBytes.{sampleBytes, bytesOf, Bytes}
 use Rattle.rules.proofs.Sample.{list-length, list-at, little-same, sample-after, samples-length, samples-at}
 
@@ -66,10 +66,10 @@ pub samples-back : (u : ℕ) (vs : List ℕ) → 0 < u → ((k : ℕ) → getD v
 samples-back u vs pos n =
     ext-getD 0 (samplesOf u (bytesOf u vs)) vs (samples-length u (bytesOf u vs) ∙ count)
     (λ i h.
-    let l : i < countOf u (bytesOf u vs) = rw (← samples-length u (bytesOf u vs)) h in
+    let l : i < sampleCount u (bytesOf u vs) = rw (← samples-length u (bytesOf u vs)) h in
     samples-at u (bytesOf u vs) i l ∙ ap (λ (b : List ℕ). sampleOf u b i) (sym (append-nil (bytesOf u vs))) ∙ bytes-back u vs [] i (rw (← count) l) n)
   where
-    count : countOf u (bytesOf u vs) ≡ length vs
+    count : sampleCount u (bytesOf u vs) ≡ length vs
     count = ap (λ (k : ℕ). k / u) (bytes-length u vs) ∙ mul-div-cancel (length vs) pos
 
 -- ---- they are bytes

@@ -1,8 +1,8 @@
 -- What get, samples and Raw give of the stored samples. 01: Other calls.
-use mathlib.Core.Bool.{cond}
+use mathlib.Core.Bool.{Bool, cond, _&&_}
 use mathlib.Core.List.{List, [], _++_}
 use Prim.Native.Nat.{ℕ, _-_, _*_}
-use lib.Dec.{eqb}
+use lib.Dec.{ltb, eqb}
 use lib.ListN.{take, drop}
 use Rattle.rules.specs.Sample.{listFrom}
 use Rattle.rules.specs.Node.{chunk, chunkEnd}
@@ -32,3 +32,13 @@ partOf unit bytes a b = take (b * unit - a * unit) (drop (a * unit) bytes)
 -- "Raw(c) returns chunk c's stored bytes as a part of the lent sample memory, empty if c is past the end or 1 or 2 below would apply."
 abbrev pub rawAnswer : Store → Lent → List ℕ → ℕ → List ℕ
 rawAnswer st lent bytes c = cond (eqb (storeRefusal st lent) 0) (partOf (st .unit) bytes (c * chunk) (chunkEnd (st .len) c)) []
+
+-- where that part lies: from the chunk's first place up to its end, in bytes; where it is empty, from 0 to 0
+abbrev pub rawShown : Store → Lent → ℕ → Bool
+rawShown st lent c = eqb (storeRefusal st lent) 0 && ltb (c * chunk) (st .len)
+
+abbrev pub rawFrom : Store → Lent → ℕ → ℕ
+rawFrom st lent c = cond (rawShown st lent c) (c * chunk * st .unit) 0
+
+abbrev pub rawTo : Store → Lent → ℕ → ℕ
+rawTo st lent c = cond (rawShown st lent c) (chunkEnd (st .len) c * st .unit) 0
