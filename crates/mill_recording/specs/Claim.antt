@@ -1,12 +1,13 @@
--- CR 1: what a mill's reader is told of a recording, and that it learns nothing of lines not granted.
--- The claim speaks of the calls' own contracts, as that of `recording` does: `Post` of a call's generated `Reads` is what its `ensures` says.
+-- CR 1: what a mill's reader is told of a capture with right levels, a recording for one, and that it learns nothing of lines not granted.
+-- The claim speaks of the calls' own contracts, as that of `claim_captures` does: `Post` of a call's generated `Reads` is what its `ensures` says.
 -- No range is asked of grant, masks, places and counts.
 use mathlib.Core.Path.{_≡_}
 use mathlib.Core.List.{List}
+use mathlib.Core.Option.{Option}
 use Prim.Native.Nat.{ℕ}
 use lib.Bits.{bitAnd}
 use lib.IntN.{ℤ}
-use lib.ListN.{length, take}
+use lib.ListN.{length}
 use contract.Lifetimes.{Lfts}
 use denote.Ref.{at-last}
 use Rattle.rules.specs.Sample.{listFrom, cutLines}
@@ -17,11 +18,9 @@ use Rattle.rules.specs.Burst.{burstSearch}
 use Rattle.rules.specs.Pixel.{rowBy, rangeFrom, cutPixels}
 use Rattle.rules.specs.Refusal.{firstOf, viewRows, copied}
 use Rattle.rules.specs.Mill.{originOf, placeAt, shownPlace, shownBurst, millGetRows, millSamplesRows, millSummaryRows, millSearchRows}
-use Rattle.rules.specs.Answer.{Answer, refused, given, unless}
+use Rattle.rules.specs.Answer.{given, unless}
 use Rattle.capture.specs.declared.Capture.{Capture}
 use Rattle.capture.specs.declared.Got.{Got}
-use Rattle.capture.specs.declared.Copied.{Copied}
-use Rattle.capture.specs.declared.Copied.the-variants as copies
 use Rattle.capture.specs.Calls.{gotOf}
 use Rattle.summary.specs.declared.Summed.{Summed}
 use Rattle.summary.specs.Summary.{summedOf}
@@ -40,7 +39,8 @@ use Rattle.mill_search.proofs.next_change.Reads as next-change
 use Rattle.mill_search.proofs.prev_change.Reads as prev-change
 use Rattle.mill_search.proofs.burst_at.Reads as burst-at
 use Rattle.mill_render.proofs.render.Reads as render-call
-use Rattle.recording.specs.Claim.{Memory, Ref, Places, lending, Drawing, pixelsIn, Recording, store, s, len, mark, Same, Answered, Agree}
+use Rattle.claim_captures.specs.Claim.{Memory, Ref, Places, lending, Copying, samplesIn, Drawing, pixelsIn, at, Held, Same, Answered, Agree}
+use Rattle.recording.specs.Claim.{Recording, store, run, mark}
 
 -- ---- what each call may answer, by its contract; a question leaves what it was lent
 abbrev pub MayExtent : Capture → Memory → Bounded → Type 0
@@ -63,23 +63,10 @@ MayBurst c m grant mask sample gap tolerance budget v =
     (κs : Lfts 2) × (p : Places)
     × burst-at.Post κs (lending c p m (grant, (mask, (sample, (gap, (tolerance, (budget, tt))))))) v (lending c p m (grant, (mask, (sample, (gap, (tolerance, (budget, tt)))))))
 
--- samples' answer, and the output after it
-pub record Copying : Type 0 where
-  pub answer : Copied
-  pub output : List ℕ
-
 abbrev pub MaySamples : Capture → Memory → ℕ → ℤ → ℕ → List ℕ → Copying → Type 0
 MaySamples c m grant start count output v =
     (κs : Lfts 3) × (p : Places) × (o : Ref)
     × samples-call.Post κs (lending c p m (grant, (start, (count, (at-last o output, tt))))) (v .answer) (lending c p m (grant, (start, (count, (at-last o (v .output), tt)))))
-
--- 01's number of a refusal, or the samples: as many numbers of output as were copied
-abbrev pub samplesOf : List ℕ → Copied → Answer (List ℕ)
-samplesOf output (copies.Refused n) = refused n
-samplesOf output (copies.Count k) = given (take k output)
-
-abbrev pub samplesIn : Copying → Answer (List ℕ)
-samplesIn v = samplesOf (v .output) (v .answer)
 
 abbrev pub MayRender : Capture → Memory → ℕ → View → ℕ → List ℕ → Drawing → Type 0
 MayRender c m grant view width output v =
@@ -87,30 +74,26 @@ MayRender c m grant view width output v =
     × render-call.Post κs (lending c p m (grant, (view, (width, (at-last o output, tt))))) (v .answer) (lending c p m (grant, (view, (width, (at-last o (v .output), tt)))))
 
 -- ---- answers: the run's granted lines, at places that count from its mark
--- the place of the run that counts as 0
-abbrev pub origin : Recording → ℕ
-origin r = originOf (mark r)
-
 -- the place of the run that a mill's place is
-abbrev pub place : Recording → ℤ → ℕ
-place r p = placeAt (origin r) p
+abbrev pub place : Option ℕ → ℤ → ℕ
+place mark p = placeAt (originOf mark) p
 
--- After a recording rows 1 and 2 refuse no question; 12 and 13 do, and 9, 10 and 11
-pub record MillAnswers (grant : ℕ) (r : Recording) : Type 0 where
-  pub extent-is : Answered (MayExtent (store r) (r .memory)) boundedOf (given (extentFor (mark r) (len r)))
-  pub get-is : (p : ℤ) → Answered (MayGet (store r) (r .memory) grant p) gotOf (unless (firstOf (millGetRows (mark r) (len r) p)) (bitAnd (s r (place r p)) grant))
+-- rows 1 and 2 refuse no question; 12 and 13 do, and 9, 10 and 11
+pub record MillAnswers (grant : ℕ) (run : List ℕ) (mark : Option ℕ) (c : Capture) (m : Memory) : Type 0 where
+  pub extent-is : Answered (MayExtent c m) boundedOf (given (extentFor mark (length run)))
+  pub get-is : (p : ℤ) → Answered (MayGet c m grant p) gotOf (unless (firstOf (millGetRows mark (length run) p)) (bitAnd (at run (place mark p)) grant))
   pub samples-are : (p : ℤ) (n : ℕ) (output : List ℕ)
-      → Answered (MaySamples (store r) (r .memory) grant p n output) samplesIn
-      (unless (firstOf (millSamplesRows (mark r) (len r) p n (length output))) (listFrom (cutLines grant (s r)) (place r p) (copied (len r) (place r p) n)))
-  pub summary-is : (a b : ℤ) → Answered (MaySummary (store r) (r .memory) grant a b) summedOf (unless (firstOf (millSummaryRows (mark r) a b)) (cutSummary grant (summary (s r) (len r) (place r a) (place r b))))
-  pub next-is : (mask : ℕ) (p : ℤ) → Answered (MayNext (store r) (r .memory) grant mask p) foundOf (unless (firstOf (millSearchRows grant mask (mark r) p)) (through (shownPlace (origin r)) (nextSearch (s r) (len r) mask (place r p))))
-  pub previous-is : (mask : ℕ) (p : ℤ) → Answered (MayPrevious (store r) (r .memory) grant mask p) foundOf (unless (firstOf (millSearchRows grant mask (mark r) p)) (through (shownPlace (origin r)) (previousSearch (s r) (len r) mask (place r p))))
+      → Answered (MaySamples c m grant p n output) samplesIn
+      (unless (firstOf (millSamplesRows mark (length run) p n (length output))) (listFrom (cutLines grant (at run)) (place mark p) (copied (length run) (place mark p) n)))
+  pub summary-is : (a b : ℤ) → Answered (MaySummary c m grant a b) summedOf (unless (firstOf (millSummaryRows mark a b)) (cutSummary grant (summary (at run) (length run) (place mark a) (place mark b))))
+  pub next-is : (mask : ℕ) (p : ℤ) → Answered (MayNext c m grant mask p) foundOf (unless (firstOf (millSearchRows grant mask mark p)) (through (shownPlace (originOf mark)) (nextSearch (at run) (length run) mask (place mark p))))
+  pub previous-is : (mask : ℕ) (p : ℤ) → Answered (MayPrevious c m grant mask p) foundOf (unless (firstOf (millSearchRows grant mask mark p)) (through (shownPlace (originOf mark)) (previousSearch (at run) (length run) mask (place mark p))))
   pub burst-is : (mask : ℕ) (p : ℤ) (gap tolerance budget : ℕ)
-      → Answered (MayBurst (store r) (r .memory) grant mask p gap tolerance budget) burstAs
-      (unless (firstOf (millSearchRows grant mask (mark r) p)) (through (shownBurst (origin r)) (burstSearch (s r) (len r) mask (place r p) gap tolerance budget)))
+      → Answered (MayBurst c m grant mask p gap tolerance budget) burstAs
+      (unless (firstOf (millSearchRows grant mask mark p)) (through (shownBurst (originOf mark)) (burstSearch (at run) (length run) mask (place mark p) gap tolerance budget)))
   pub render-is : (view : View) (width : ℕ) (output : List ℕ)
-      → Answered (MayRender (store r) (r .memory) grant view width output) (pixelsIn width)
-      (unless (firstOf (viewRows (viewAs view) width (length output))) (cutPixels grant (rowBy (nodeOf (s r)) (rangeFrom (origin r) (viewAs view) (len r)) 0 width)))
+      → Answered (MayRender c m grant view width output) (pixelsIn width)
+      (unless (firstOf (viewRows (viewAs view) width (length output))) (cutPixels grant (rowBy (nodeOf (at run)) (rangeFrom (originOf mark) (viewAs view) (length run)) 0 width)))
 
 -- ---- "two recordings .. look alike to it, refusals too": whatever a mill asks of both, it is told the same.
 -- A mask may have any lines: one beyond the grant is refused
@@ -126,10 +109,20 @@ pub record MillAlike (grant : ℕ) (c₁ : Capture) (m₁ : Memory) (c₂ : Capt
 
 -- ---- the claim
 -- "A mill must learn nothing of lines not granted: two recordings alike in length, mark and its lines, each with its whole memory lent, look alike to it,
--- refusals too." And what it is told is the run's
+-- refusals too." And what it is told is the run's. Of any two captures that hold a run each,
+abbrev pub CapturesShow : Type 0
+CapturesShow =
+    (grant : ℕ) (run₁ : List ℕ) (mark₁ : Option ℕ) (c₁ : Capture) (m₁ : Memory) (run₂ : List ℕ) (mark₂ : Option ℕ) (c₂ : Capture) (m₂ : Memory)
+    → Held run₁ mark₁ c₁ m₁
+    → Held run₂ mark₂ c₂ m₂
+    → MillAnswers grant run₁ mark₁ c₁ m₁
+    × MillAnswers grant run₂ mark₂ c₂ m₂
+    × (Same grant run₁ mark₁ run₂ mark₂ → MillAlike grant c₁ m₁ c₂ m₂)
+
+-- and so of recordings
 abbrev pub MillLearns : Type 0
 MillLearns =
     (grant : ℕ) (one two : Recording)
-    → MillAnswers grant one
-    × MillAnswers grant two
-    × (Same grant one two → MillAlike grant (store one) (one .memory) (store two) (two .memory))
+    → MillAnswers grant (run one) (mark one) (store one) (one .memory .store)
+    × MillAnswers grant (run two) (mark two) (store two) (two .memory .store)
+    × (Same grant (run one) (mark one) (run two) (mark two) → MillAlike grant (store one) (one .memory .store) (store two) (two .memory .store))

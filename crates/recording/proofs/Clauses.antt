@@ -17,12 +17,13 @@ use Rattle.feeder.specs.declared.Started.{Started}
 use Rattle.feeder_start.proofs.start_list as start-list
 use Rattle.feeder_start.proofs.start_list.Met as start-met
 use Rattle.feeder_start.proofs.start_list.Statement as start-stated
-use Rattle.recording.specs.Claim.{Memory, Ref, Places, Given, MayStart}
+use Rattle.claim_captures.specs.Claim.{Ref, Places}
+use Rattle.recording.specs.Claim.{Memory, Given, MayStart}
 
 -- what start is given, with the references by which terms and memory are lent
-abbrev given-as : Given → RefT (List TriggerTerm) → Places → Memory
+abbrev given-as : Given → RefT (List TriggerTerm) → Places → Ref → Memory
     → ℕ × (ℕ × (ℕ × (RefT (List TriggerTerm) × (Pretrigger × (ℕ × (Ref × (Ref × (Ref × (Ref × (Ref × (Ref × Unit {0})))))))))))
-given-as g ts p m = (
+given-as g ts p o m = (
   g .channels,
   (
     g .capacity,
@@ -34,7 +35,7 @@ given-as g ts p m = (
           g .wish,
           (
             g .rate,
-            (at-last (p .samples) (m .samples), (at-last (p .l1) (m .l1), (at-last (p .l2) (m .l2), (at-last (p .l3) (m .l3), (at-last (p .l4) (m .l4), (at-last (p .ring) (m .ring), tt)))))),
+            (at-last (p .samples) (m .store .samples), (at-last (p .l1) (m .store .l1), (at-last (p .l2) (m .store .l2), (at-last (p .l3) (m .store .l3), (at-last (p .l4) (m .store .l4), (at-last o (m .ring), tt)))))),
           ),
         ),
       ),
@@ -44,11 +45,11 @@ given-as g ts p m = (
 
 -- at every model of the logic
 module _ {M : Type 1} (𝓤 : URA M) (H : Heap 𝓤) (A : Atoms 𝓤) (mem : machine.Memory → SProp 𝓤) (run : Routine → Fun 𝓤)
-    (κs : Lfts 4) (g : Given) (ts : RefT (List TriggerTerm)) (p : Places) (m : Memory) where
-  pub start-asks : start-list.clauses 𝓤 H A mem run κs (given-as g ts p m) .requires tt ≡ emp 𝓤
+    (κs : Lfts 4) (g : Given) (ts : RefT (List TriggerTerm)) (p : Places) (o : Ref) (m : Memory) where
+  pub start-asks : start-list.clauses 𝓤 H A mem run κs (given-as g ts p o m) .requires tt ≡ emp 𝓤
   start-asks = refl
 
-  pub start-says : (v : Started) → start-list.clauses 𝓤 H A mem run κs (given-as g ts p m) .ensures tt v (given-as g ts p m) ≡ fact 𝓤 (MayStart g m v)
+  pub start-says : (v : Started) → start-list.clauses 𝓤 H A mem run κs (given-as g ts p o m) .ensures tt v (given-as g ts p o m) ≡ fact 𝓤 (MayStart g m v)
   start-says v = refl
 
 -- and the function meets them

@@ -2,9 +2,7 @@
 use mathlib.Core.Path.{_≡_, refl, sym, ap, _∙_}
 use mathlib.Core.List.{List, [], _∷_}
 use mathlib.Core.Option.{Option, none, some}
-use Prim.Native.Nat.{ℕ, zero, suc, _-_, _≤_}
-use native.Mathlib.Omega.{arith}
-use Rattle.rules.specs.Node.{topLevel}
+use Prim.Native.Nat.{ℕ, _-_}
 use Rattle.rules.specs.Trigger as trigger
 use Rattle.rules.specs.Selection.{Reply}
 use Rattle.rules.specs.Selection as reply
@@ -14,7 +12,6 @@ use Rattle.rules.specs.Push.{Left, leftOf}
 use Rattle.rules.specs.Start.{begun}
 use Rattle.rebuild.specs.Rebuild.{levelAfter}
 use Rattle.store.specs.Stored.{firstNodes}
-use Rattle.node.specs.Memory.{levelOf}
 use Rattle.capture.specs.declared.Mark.{Mark}
 use Rattle.capture.specs.declared.Mark.the-variants as mark
 use Rattle.capture.specs.Record.{markOf, lentOf}
@@ -28,9 +25,10 @@ use Rattle.feeder.specs.Record.{armedAs, recorderOf}
 use Rattle.feeder_push.specs.declared.Pushed.{Pushed}
 use Rattle.feeder_push.specs.declared.Pushed.the-variants as pushed
 use Rattle.feeder_push.specs.Push.{replyAs, feederIn}
-use Rattle.recording.specs.Claim.{Memory, levels, settings, MayPush, Pushing, Existence}
+use Rattle.claim_captures.specs.Claim.{levels}
+use Rattle.claim_captures.proofs.Answers.{anywhere, somewhere, four-levels}
+use Rattle.recording.specs.Claim.{Memory, settings, MayPush, Pushing, Existence}
 use Rattle.recording.specs.Claim.Pushing.{stop, step}
-use Rattle.recording.proofs.Answers.{anywhere, somewhere}
 
 -- ---- the code's record for each of 01's
 mark-for : (o : Option ℕ) → (x : Mark) × (markOf x ≡ o)
@@ -45,7 +43,7 @@ armed-for : (a : trigger.Armed) → (x : Armed) × (armedAs x ≡ a)
 armed-for trigger.unarmed = (armed.Unarmed, refl)
 armed-for (trigger.waiting m) = (armed.Waiting (record { high = m .high; low = m .low; rising = m .rising; falling = m .falling; edge = m .edge }), refl)
 
-feeder-for : (c : Recorder) → (f : Feeder) × (recorderOf f ≡ c)
+pub feeder-for : (c : Recorder) → (f : Feeder) × (recorderOf f ≡ c)
 feeder-for c = (
   record {
     capture = record { unitsize = c .store .unit; capacity = c .store .capacity; len = c .store .len; trigger = mark-for (c .store .mark) .0 };
@@ -67,7 +65,7 @@ feeder-for c = (
   },
 )
 
-pushed-for : (x : Reply) (f : Feeder) → (v : Pushed) × (replyAs v ≡ x) × (feederIn v ≡ f)
+pub pushed-for : (x : Reply) (f : Feeder) → (v : Pushed) × (replyAs v ≡ x) × (feederIn v ≡ f)
 pushed-for (reply.refused k) f = (pushed.Refused k f, refl, refl)
 pushed-for reply.going-on f = (pushed.GoingOn f, refl, refl)
 pushed-for reply.complete f = (pushed.Complete f, refl, refl)
@@ -75,7 +73,7 @@ pushed-for reply.complete f = (pushed.Complete f, refl, refl)
 -- ---- one push
 module _ (f : Feeder) (m : Memory) (bytes : List ℕ) where
   abbrev left : Left
-  left = leftOf (recorderOf f) (lentOf (m .samples) (levels m)) (m .samples) (m .ring) bytes
+  left = leftOf (recorderOf f) (lentOf (m .store .samples) (levels (m .store))) (m .store .samples) (m .ring) bytes
 
   told : (v : Pushed) × (replyAs v ≡ left .reply) × (feederIn v ≡ feeder-for (left .recorder) .0)
   told = pushed-for (left .reply) (feeder-for (left .recorder) .0)
@@ -84,28 +82,20 @@ module _ (f : Feeder) (m : Memory) (bytes : List ℕ) where
   answer = told .0
 
   abbrev level : ℕ → List ℕ
-  level l = levelAfter (firstNodes (f .capture .unitsize) (left .samples) (levels m 1) (f .capture .len) (feederIn answer .capture .len)) (levels m) (f .capture .len) (feederIn answer .capture .len - f .capture .len) l
+  level l = levelAfter (firstNodes (f .capture .unitsize) (left .samples) (levels (m .store) 1) (f .capture .len) (feederIn answer .capture .len)) (levels (m .store)) (f .capture .len) (feederIn answer .capture .len - f .capture .len) l
 
   abbrev after : Memory
-  after = record { samples = left .samples; l1 = level 1; l2 = level 2; l3 = level 3; l4 = level 4; ring = left .ring }
-
-  four : (l : ℕ) → 1 ≤ l → l ≤ topLevel → levels after l ≡ level l
-  unfolding levelOf
-  four zero p q = absurd (omega arith)
-  four (suc zero) p q = refl
-  four (suc (suc zero)) p q = refl
-  four (suc (suc (suc zero))) p q = refl
-  four (suc (suc (suc (suc zero)))) p q = refl
-  four (suc (suc (suc (suc (suc l))))) p q = absurd (omega arith)
+  after = record { store = record { samples = left .samples; l1 = level 1; l2 = level 2; l3 = level 3; l4 = level 4 }; ring = left .ring }
 
   may-push : MayPush f m bytes answer after
   may-push = (
     ([], ([], ([], ([], ([], ([], ([], tt))))))),
     somewhere,
     anywhere,
+    anywhere,
     record {
       left-is = λ i. record { reply = told .1 i; recorder = (ap recorderOf (told .2) ∙ feeder-for (left .recorder) .1) i; samples = left .samples; ring = left .ring };
-      levels-are = four;
+      levels-are = four-levels level;
     },
   )
 

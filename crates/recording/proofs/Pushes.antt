@@ -18,13 +18,14 @@ use Rattle.feeder.specs.Record.{recorderOf}
 use Rattle.feeder_push.specs.declared.Pushed.{Pushed}
 use Rattle.feeder_push.specs.Push.{replyAs, feederIn, Pushes}
 use Rattle.feeder_push.proofs.Written.{one-push, level-lengths, right-stays}
-use Rattle.recording.specs.Claim.{Memory, levels, MayPush, Pushing}
+use Rattle.claim_captures.specs.Claim.{levels}
+use Rattle.recording.specs.Claim.{Memory, MayPush, Pushing}
 use Rattle.recording.specs.Claim.Pushing.{stop, step}
 
 -- the contract's equations
 pub equations : (f : Feeder) (m : Memory) (bytes : List ℕ) (v : Pushed) (m′ : Memory) → MayPush f m bytes v m′
-    → Pushes f bytes (m .samples) (levels m) (m .ring) v (m′ .samples) (levels m′) (m′ .ring)
-equations f m bytes v m′ call = call .3
+    → Pushes f bytes (m .store .samples) (levels (m .store)) (m .ring) v (m′ .store .samples) (levels (m′ .store)) (m′ .ring)
+equations f m bytes v m′ call = call .4
 
 -- bounds of a store hold of memory of the same lengths
 sound-lent : (st : Store) (a b : Lent) → Sound st a → a .samples ≡ b .samples → ((l : ℕ) → 1 ≤ l → l ≤ topLevel → a .level l ≡ b .level l) → Sound st b
@@ -64,15 +65,15 @@ module _ (lent : Lent) where
   -- a record and memory are what l says, and the levels are right
   pub record Kept (l : Left) (f : Feeder) (m : Memory) : Type 0 where
     pub recorder-is : recorderOf f ≡ l .recorder
-    pub samples-are : m .samples ≡ l .samples
+    pub samples-are : m .store .samples ≡ l .samples
     pub ring-is : m .ring ≡ l .ring
-    pub lengths : (k : ℕ) → 1 ≤ k → k ≤ topLevel → length (levels m k) ≡ lent .level k
-    pub right : Right (sampleOf (f .capture .unitsize) (m .samples)) (f .capture .len) (levels m)
+    pub lengths : (k : ℕ) → 1 ≤ k → k ≤ topLevel → length (levels (m .store) k) ≡ lent .level k
+    pub right : Right (sampleOf (f .capture .unitsize) (m .store .samples)) (f .capture .len) (levels (m .store))
 
   pub kept-sound : (l : Left) (f : Feeder) (m : Memory) → SoundRecorder (l .recorder) lent (length (l .ring)) → length (l .samples) ≡ lent .samples → Kept l f m
-      → SoundRecorder (recorderOf f) (lentOf (m .samples) (levels m)) (length (m .ring))
+      → SoundRecorder (recorderOf f) (lentOf (m .store .samples) (levels (m .store))) (length (m .ring))
   kept-sound l f m sound size k =
-      recorder-lent (recorderOf f) lent (lentOf (m .samples) (levels m)) (length (m .ring))
+      recorder-lent (recorderOf f) lent (lentOf (m .store .samples) (levels (m .store))) (length (m .ring))
       (subst⁻¹ (λ (c : Recorder). SoundRecorder c lent (length (m .ring))) (k .recorder-is) (subst⁻¹ (λ (x : List ℕ). SoundRecorder (l .recorder) lent (length x)) (k .ring-is) sound))
       (sym (ap length (k .samples-are) ∙ size))
       (λ j p q. sym (k .lengths j p q))
@@ -91,13 +92,13 @@ module _ (lent : Lent) where
     ap (λ (x : Left). x .reply) left,
   )
     where
-      fit : Pushes f bytes (m .samples) (levels m) (m .ring) v (m′ .samples) (levels m′) (m′ .ring)
+      fit : Pushes f bytes (m .store .samples) (levels (m .store)) (m .ring) v (m′ .store .samples) (levels (m′ .store)) (m′ .ring)
       fit = equations f m bytes v m′ call
 
-      sound : SoundRecorder (recorderOf f) (lentOf (m .samples) (levels m)) (length (m .ring))
+      sound : SoundRecorder (recorderOf f) (lentOf (m .store .samples) (levels (m .store))) (length (m .ring))
       sound = kept-sound l f m (g .sound []) (g .size []) k
 
-      left : record { reply = replyAs v; recorder = recorderOf (feederIn v); samples = m′ .samples; ring = m′ .ring } ≡ pushOn l bytes
+      left : record { reply = replyAs v; recorder = recorderOf (feederIn v); samples = m′ .store .samples; ring = m′ .ring } ≡ pushOn l bytes
       left = one-push fit sound ∙ (λ i. pushBytes (k .recorder-is i) (k .samples-are i) (k .ring-is i) bytes)
 
   pub all-kept : (l : Left) {pushes : List (List ℕ)} {f : Feeder} {m : Memory} {replies : List Reply} {f″ : Feeder} {m″ : Memory} → Going l → Kept l f m → Pushing f m pushes replies f″ m″

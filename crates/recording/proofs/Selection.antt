@@ -11,7 +11,7 @@ use Rattle.rules.specs.Sample.{sampleOf}
 use Rattle.rules.specs.Trigger.{Masks, unarmed, waiting}
 use Rattle.rules.specs.Selection.{slotOf, besideOf}
 use Rattle.rules.specs.Refusal.{Lent, Recorder, startRefusal}
-use Rattle.rules.proofs.Refusal.{SoundRecorder}
+use Rattle.rules.proofs.Refusal.{SoundRecorder, none-refused}
 use Rattle.ring.specs.Bytes.{units}
 use Rattle.ring.specs.Push.{pushesBytes, repliesBytes, startedWith}
 use Rattle.ring.proofs.Bytes.{units-at, units-length}
@@ -21,20 +21,21 @@ use Rattle.ring.proofs.Selects as state
 use Rattle.ring.proofs.Lists.{Recorded, start-goes, all-go, held, start-sound, start-list-sound, start-recorded}
 use Rattle.node.specs.Memory.{Right}
 use Rattle.rebuild.proofs.Right.{right-same}
-use Rattle.capture.specs.Record.{lentOf}
+use Rattle.capture.specs.Record.{storeOf, lentOf}
 use Rattle.capture.proofs.Answer.{unless-given, lent-same}
 use Rattle.feeder.specs.Record.{recorderOf, armedAs}
 use Rattle.rules.specs.Push.{Left}
 use Rattle.rules.specs.Start.{freshRecorder, besideIn, begun}
-use Rattle.recording.specs.Claim.{levels, settings, lengths, Recording, store, ruled, all, run, s, len, Selects}
+use Rattle.claim_captures.specs.Claim.{levels, at}
+use Rattle.recording.specs.Claim.{settings, lengths, Recording, store, ruled, all, run, Selects}
 use Rattle.recording.proofs.Pushes.{Going, Kept, kept-sound, all-kept}
 
 module _ (r : Recording) where
   abbrev lent : Lent
-  lent = lengths (r .before)
+  lent = lengths (r .before .store)
 
   abbrev begins : Left
-  begins = startedWith (ruled r) (r .before .samples) (r .before .ring)
+  begins = startedWith (ruled r) (r .before .store .samples) (r .before .ring)
 
   abbrev last : Left
   last = pushesBytes begins (r .pushes)
@@ -46,16 +47,16 @@ module _ (r : Recording) where
       (t .0, sym (ap (λ b. b .recorder) (t .1)))
 
   sound-start : SoundRecorder (freshRecorder (ruled r)) lent (length (r .before .ring))
-  sound-start = start-sound (settings (r .setup)) (r .before .samples) (r .before .ring) lent refl (start-is .0)
+  sound-start = start-sound (settings (r .setup)) (r .before .store .samples) (r .before .ring) lent refl (start-is .0)
 
-  goes : (rest : List (List ℕ)) → GoesOn (ruled r) (length (r .before .samples)) (length (r .before .ring)) (pushesBytes begins rest)
+  goes : (rest : List (List ℕ)) → GoesOn (ruled r) (length (r .before .store .samples)) (length (r .before .ring)) (pushesBytes begins rest)
   goes rest =
-      all-go (ruled r) (length (r .before .samples)) (length (r .before .ring)) rest begins
-      (start-goes (ruled r) (r .before .samples) (r .before .ring) (sound-start .store .samples) (sound-start .ring))
+      all-go (ruled r) (length (r .before .store .samples)) (length (r .before .ring)) rest begins
+      (start-goes (ruled r) (r .before .store .samples) (r .before .ring) (sound-start .store .samples) (sound-start .ring))
 
   going : Going lent begins
   going = record {
-    sound = start-list-sound (settings (r .setup)) (r .before .samples) (r .before .ring) lent refl (start-is .0);
+    sound = start-list-sound (settings (r .setup)) (r .before .store .samples) (r .before .ring) lent refl (start-is .0);
     size = λ rest. goes rest .samples-length;
   }
 
@@ -65,7 +66,7 @@ module _ (r : Recording) where
     recorder-is = start-is .1;
     samples-are = refl;
     ring-is = refl;
-    lengths = λ k p q. sym (ap (λ (x : Lent). x .level k) (lent-same (r .before .samples) (r .before .l1) (r .before .l2) (r .before .l3) (r .before .l4)));
+    lengths = λ k p q. sym (ap (λ (x : Lent). x .level k) (lent-same (r .before .store .samples) (r .before .store .l1) (r .before .store .l2) (r .before .store .l3) (r .before .store .l4)));
     right = λ l p q j h. absurd (omega (arith, ap (λ (c : Recorder). c .store .len) (start-is .1)));
   }
 
@@ -77,30 +78,26 @@ module _ (r : Recording) where
   kept = both .0
 
   -- rows 1 and 2 let pass what a recording leaves
-  pub recorder-sound : SoundRecorder (recorderOf (r .feeder)) (lentOf (r .memory .samples) (levels (r .memory))) (length (r .memory .ring))
+  recorder-sound : SoundRecorder (recorderOf (r .feeder)) (lentOf (r .memory .store .samples) (levels (r .memory .store))) (length (r .memory .ring))
   recorder-sound = kept-sound lent last (r .feeder) (r .memory) (going .sound (r .pushes)) (going .size (r .pushes)) kept
 
   made : Recorded (ruled r) (r .pushes) last (repliesBytes begins (r .pushes))
-  made = start-recorded (settings (r .setup)) (r .before .samples) (r .before .ring) lent refl (start-is .0) (r .pushes)
+  made = start-recorded (settings (r .setup)) (r .before .store .samples) (r .before .ring) lent refl (start-is .0) (r .pushes)
 
   unit-is : store r .unitsize ≡ ruled r .unit
   unit-is = ap (λ (c : Recorder). c .store .unit) (kept .recorder-is) ∙ goes (r .pushes) .unit
 
-  pub len-is : store r .len ≡ len r
+  len-is : store r .len ≡ length (run r)
   len-is = ap (λ (c : Recorder). c .store .len) (kept .recorder-is) ∙ made .len
 
   -- the run, as memory has it
-  stored : units (store r .unitsize) (store r .len) (r .memory .samples) ≡ run r
+  stored : units (store r .unitsize) (store r .len) (r .memory .store .samples) ≡ run r
   stored =
       (λ i. units (unit-is i) (kept .recorder-is i .store .len) (kept .samples-are i))
       ∙ made .samples
 
-  pub samples-are : (i : ℕ) → i < len r → sampleOf (store r .unitsize) (r .memory .samples) i ≡ s r i
-  samples-are i h = sym (units-at (store r .unitsize) (store r .len) (r .memory .samples) i (omega (arith, len-is))) ∙ ap (λ (x : List ℕ). getD x i 0) stored
-
-  -- the levels are right for the samples in memory
-  pub right : Right (sampleOf (store r .unitsize) (r .memory .samples)) (store r .len) (levels (r .memory))
-  right = kept .right
+  samples-are : (i : ℕ) → i < length (run r) → sampleOf (store r .unitsize) (r .memory .store .samples) i ≡ at (run r) i
+  samples-are i h = sym (units-at (store r .unitsize) (store r .len) (r .memory .store .samples) i (omega (arith, len-is))) ∙ ap (λ (x : List ℕ). getD x i 0) stored
 
   -- ---- the ring
   ring-is : units (last .recorder .store .unit) (last .recorder .pre) (last .ring) ≡ units (ruled r .unit) (ruled r .pre) (r .memory .ring)
@@ -108,7 +105,7 @@ module _ (r : Recording) where
 
   -- what the list over definitions says of the record and the ring
   holds : Holds (ruled r) (units (ruled r .unit) (ruled r .pre) (r .before .ring)) (all r) (standsIn last)
-  holds = held (ruled r) (r .before .samples) (r .before .ring) (sound-start .store .samples) (sound-start .ring) (r .pushes)
+  holds = held (ruled r) (r .before .store .samples) (r .before .ring) (sound-start .store .samples) (sound-start .ring) (r .pushes)
 
   beside-is : besideIn (recorderOf (r .feeder)) ≡ besideOf (ruled r) (all r)
   beside-is = ap besideIn (kept .recorder-is) ∙ holds-beside (ruled r) (units (ruled r .unit) (ruled r .pre) (r .before .ring)) (all r) (standsIn last) holds
@@ -128,10 +125,15 @@ module _ (r : Recording) where
 
   pub selection : Selects r
   selection = record {
-    len-is = len-is;
-    mark-is = ap (λ (c : Recorder). c .store .mark) (kept .recorder-is) ∙ made .mark;
-    samples-are = samples-are;
-    levels-right = subst (λ (n : ℕ). Right (s r) n (levels (r .memory))) len-is (right-same (sampleOf (store r .unitsize) (r .memory .samples)) (s r) (levels (r .memory)) (store r .len) (λ i h. samples-are i (omega (arith, len-is))) (kept .right));
+    held = record {
+      passes = none-refused (storeOf (store r)) (lentOf (r .memory .store .samples) (levels (r .memory .store))) (recorder-sound .store) (recorder-sound .mark);
+      len-is = len-is;
+      mark-is = ap (λ (c : Recorder). c .store .mark) (kept .recorder-is) ∙ made .mark;
+      samples-are = samples-are;
+      levels-right =
+          subst (λ (n : ℕ). Right (at (run r)) n (levels (r .memory .store))) len-is
+          (right-same (sampleOf (store r .unitsize) (r .memory .store .samples)) (at (run r)) (levels (r .memory .store)) (store r .len) (λ i h. samples-are i (omega (arith, len-is))) (kept .right));
+    };
     replies-are = both .1 ∙ made .replies;
     beside-is = beside-is;
     slots = slots;

@@ -1,0 +1,208 @@
+-- Captures with right levels, however they were made: each question's answer is 01's for the samples, and when two look alike to a viewer of chosen lines.
+-- Recordings and captures that appends made are such. The claim speaks of the calls' own contracts: `Post` of a call's generated `Reads` is what its `ensures`
+-- says of the arguments, the answer, and the memory after the call.
+-- No range is asked of record, memory and the viewer's lines. In `LookAlike` a question's arguments range over what its parameters' types hold: nothing else can be asked.
+use mathlib.Core.Path.{_≡_}
+use mathlib.Core.Bool.{true}
+use mathlib.Core.List.{List, [], _∷_}
+use mathlib.Core.Logic.{_↔_}
+use mathlib.Core.Option.{Option}
+use Prim.Native.Nat.{ℕ, _*_, _^_, _<_}
+use lib.Ieee.{Float, binary64, fits}
+use lib.ListN.{length, take, getD}
+use contract.Lifetimes.{Lfts}
+use denote.Ref.{RefT, at-last}
+use Rattle.rules.specs.Sample.{Word, sampleOf, listFrom, Within}
+use Rattle.rules.specs.Search.{summary, cutSummary}
+use Rattle.rules.specs.Walk.{nextSearch, previousSearch}
+use Rattle.rules.specs.Burst.{burstSearch}
+use Rattle.rules.specs.Pixel.{render, cutPixels}
+use Rattle.rules.specs.Refusal.{firstOf, storeRefusal, getRow, copied, copyRow, viewRows}
+use Rattle.rules.specs.Answer.{Answer, refused, given, unless, seen}
+use Rattle.alike.specs.Alike as alike
+use Rattle.node.specs.Memory.{levelOf, Right}
+use Rattle.capture.specs.declared.Capture.{Capture}
+use Rattle.capture.specs.declared.Got.{Got}
+use Rattle.capture.specs.declared.Copied.{Copied}
+use Rattle.capture.specs.declared.Copied.the-variants as copies
+use Rattle.capture.specs.Record.{markOf, storeOf, lentOf}
+use Rattle.capture.specs.Calls.{gotOf}
+use Rattle.capture.proofs.get.Reads as get-call
+use Rattle.capture.proofs.samples.Reads as samples-call
+use Rattle.summary.specs.declared.Summed.{Summed}
+use Rattle.summary.specs.Summary.{summedOf}
+use Rattle.summary.proofs.summary.Reads as summary-call
+use Rattle.search.specs.declared.Found.{Found}
+use Rattle.search.specs.Answer.{foundOf}
+use Rattle.search.proofs.next_change.Reads as next-change
+use Rattle.search.proofs.prev_change.Reads as prev-change
+use Rattle.burst.specs.declared.Bursts.{Bursts}
+use Rattle.burst.specs.Answer.{burstAs}
+use Rattle.burst.proofs.burst_at.Reads as burst-at
+use Rattle.pixel.specs.declared.View.{View}
+use Rattle.pixel.specs.Ranges.{viewAs}
+use Rattle.render.specs.declared.Drawn.{Drawn}
+use Rattle.render.specs.declared.Drawn.the-variants as drawn
+use Rattle.render.proofs.render.Reads as render-call
+
+-- ---- memory
+-- what is lent to a question
+pub record Memory : Type 0 where
+  pub samples : List ℕ
+  pub l1 : List ℕ
+  pub l2 : List ℕ
+  pub l3 : List ℕ
+  pub l4 : List ℕ
+
+abbrev pub levels : Memory → ℕ → List ℕ
+levels m = levelOf (m .l1) (m .l2) (m .l3) (m .l4)
+
+-- the references by which a caller lends it, to wherever they point
+abbrev pub Ref : Type 0
+Ref = RefT (List ℕ)
+
+pub record Places : Type 0 where
+  pub samples : Ref
+  pub l1 : Ref
+  pub l2 : Ref
+  pub l3 : Ref
+  pub l4 : Ref
+
+-- arguments of a call: its record, the samples and levels as they are lent, and the others
+abbrev pub lending : {A B : Type 0} → A → Places → Memory → B → A × (Ref × (Ref × (Ref × (Ref × (Ref × B)))))
+lending c p m others = (c, (at-last (p .samples) (m .samples), (at-last (p .l1) (m .l1), (at-last (p .l2) (m .l2), (at-last (p .l3) (m .l3), (at-last (p .l4) (m .l4), others))))))
+
+-- ---- what each call may answer, by its contract; a question leaves what it was lent
+abbrev pub MayGet : Capture → Memory → ℕ → Got → Type 0
+MayGet c m i v = (κs : Lfts 2) × (p : Places) × get-call.Post κs (lending c p m (i, tt)) v (lending c p m (i, tt))
+
+abbrev pub MaySummary : Capture → Memory → ℕ → ℕ → Summed → Type 0
+MaySummary c m a b v = (κs : Lfts 2) × (p : Places) × summary-call.Post κs (lending c p m (a, (b, tt))) v (lending c p m (a, (b, tt)))
+
+abbrev pub MayNext : Capture → Memory → ℕ → ℕ → Found → Type 0
+MayNext c m mask from v = (κs : Lfts 2) × (p : Places) × next-change.Post κs (lending c p m (mask, (from, tt))) v (lending c p m (mask, (from, tt)))
+
+abbrev pub MayPrevious : Capture → Memory → ℕ → ℕ → Found → Type 0
+MayPrevious c m mask from v = (κs : Lfts 2) × (p : Places) × prev-change.Post κs (lending c p m (mask, (from, tt))) v (lending c p m (mask, (from, tt)))
+
+abbrev pub MayBurst : Capture → Memory → ℕ → ℕ → ℕ → ℕ → ℕ → Bursts → Type 0
+MayBurst c m mask sample gap tolerance budget v =
+    (κs : Lfts 2) × (p : Places)
+    × burst-at.Post κs (lending c p m (mask, (sample, (gap, (tolerance, (budget, tt)))))) v (lending c p m (mask, (sample, (gap, (tolerance, (budget, tt))))))
+
+-- samples' answer, and the output after it
+pub record Copying : Type 0 where
+  pub answer : Copied
+  pub output : List ℕ
+
+abbrev pub MaySamples : Capture → Memory → ℕ → ℕ → List ℕ → Copying → Type 0
+MaySamples c m start count output v =
+    (κs : Lfts 3) × (p : Places) × (o : Ref)
+    × samples-call.Post κs (lending c p m (start, (count, (at-last o output, tt)))) (v .answer) (lending c p m (start, (count, (at-last o (v .output), tt))))
+
+-- 01's number of a refusal, or the samples: as many numbers of output as were copied
+abbrev pub samplesOf : List ℕ → Copied → Answer (List ℕ)
+samplesOf output (copies.Refused n) = refused n
+samplesOf output (copies.Count k) = given (take k output)
+
+abbrev pub samplesIn : Copying → Answer (List ℕ)
+samplesIn v = samplesOf (v .output) (v .answer)
+
+-- render's answer, and the output after it
+pub record Drawing : Type 0 where
+  pub answer : Drawn
+  pub output : List ℕ
+
+abbrev pub MayRender : Capture → Memory → View → ℕ → List ℕ → Drawing → Type 0
+MayRender c m view width output v =
+    (κs : Lfts 3) × (p : Places) × (o : Ref)
+    × render-call.Post κs (lending c p m (view, (width, (at-last o output, tt)))) (v .answer) (lending c p m (view, (width, (at-last o (v .output), tt))))
+
+-- 01's number of a refusal, or the pixels: the first 2 × width numbers of output
+abbrev pub pixelsOf : ℕ → List ℕ → Drawn → Answer (List ℕ)
+pixelsOf width output (drawn.Refused n) = refused n
+pixelsOf width output drawn.Done = given (take (2 * width) output)
+
+abbrev pub pixelsIn : ℕ → Drawing → Answer (List ℕ)
+pixelsIn width v = pixelsOf width (v .output) (v .answer)
+
+-- ---- captures
+-- "In their rules s and len are the run's."
+abbrev pub at : List ℕ → ℕ → ℕ
+at run i = getD run i 0
+
+-- a record and memory that hold a run and its mark, with right levels: rows 1 and 2 let them pass
+pub record Held (run : List ℕ) (mark : Option ℕ) (c : Capture) (m : Memory) : Type 0 where
+  pub passes : storeRefusal (storeOf c) (lentOf (m .samples) (levels m)) ≡ 0
+  pub len-is : c .len ≡ length run
+  pub mark-is : markOf (c .trigger) ≡ mark
+  pub samples-are : (i : ℕ) → i < length run → sampleOf (c .unitsize) (m .samples) i ≡ at run i
+  pub levels-right : Right (at run) (length run) (levels m)
+
+-- ---- answers
+-- whatever a call may answer comes to x, and there is something that it may answer
+pub record Answered {X A : Type 0} (may : X → Type 0) (told : X → A) (x : A) : Type 0 where
+  pub is : (v : X) → may v → told v ≡ x
+  pub answer : X
+  pub allowed : may answer
+
+-- each answer is 01's for the run. A search's count of nodes read is the steps of 01's walk over it (02, CR 3). Rows 1 and 2 refuse no question; 9 refuses get, 10 and 11, `viewRows`, render, and 11 samples
+pub record Answers (run : List ℕ) (c : Capture) (m : Memory) : Type 0 where
+  pub get-is : (i : ℕ) → Answered (MayGet c m i) gotOf (unless (firstOf (getRow (length run) i ∷ [])) (at run i))
+  pub samples-are : (start count : ℕ) (output : List ℕ)
+      → Answered (MaySamples c m start count output) samplesIn
+      (unless (firstOf (copyRow (length run) start count (length output) ∷ [])) (listFrom (at run) start (copied (length run) start count)))
+  pub summary-is : (a b : ℕ) → Answered (MaySummary c m a b) summedOf (given (summary (at run) (length run) a b))
+  pub next-is : (mask from : ℕ) → Answered (MayNext c m mask from) foundOf (given (nextSearch (at run) (length run) mask from))
+  pub previous-is : (mask from : ℕ) → Answered (MayPrevious c m mask from) foundOf (given (previousSearch (at run) (length run) mask from))
+  pub burst-is : (mask sample gap tolerance budget : ℕ)
+      → Answered (MayBurst c m mask sample gap tolerance budget) burstAs (given (burstSearch (at run) (length run) mask sample gap tolerance budget))
+  pub render-is : (view : View) (width : ℕ) (output : List ℕ)
+      → Answered (MayRender c m view width output) (pixelsIn width)
+      (unless (firstOf (viewRows (viewAs view) width (length output))) (render (at run) (length run) (viewAs view) width))
+
+-- ---- looking alike
+-- the ranges of usize and of f64; a mask's is Word
+abbrev pub Usize : ℕ → Type 0
+Usize n = n < 2 ^ 64
+
+abbrev pub F64 : Float → Type 0
+F64 x = fits binary64 x ≡ true
+
+-- whatever two calls may answer, they are told the same
+abbrev pub Agree : {X A : Type 0} → (X → Type 0) → (X → Type 0) → (X → A) → Type 0
+Agree {X} may₁ may₂ told = (x y : X) → may₁ x → may₂ y → told x ≡ told y
+
+-- "the two recordings look alike to a viewer of chosen lines", v
+pub record LookAlike (v : ℕ) (c₁ : Capture) (m₁ : Memory) (c₂ : Capture) (m₂ : Memory) : Type 0 where
+  -- "the same length, the same mark,"
+  pub lens : c₁ .len ≡ c₂ .len
+  pub marks : markOf (c₁ .trigger) ≡ markOf (c₂ .trigger)
+  -- "the same summaries and pixels cut down to those lines,"
+  pub summaries : (a b : ℕ) → Usize a → Usize b → Agree (MaySummary c₁ m₁ a b) (MaySummary c₂ m₂ a b) (λ x. seen (cutSummary v) (summedOf x))
+  pub pixels : (view : View) (width : ℕ) → F64 (view .start) → F64 (view .spp) → Usize width
+      → (output₁ output₂ : List ℕ) → length output₁ ≡ length output₂ → Usize (length output₁)
+      → Agree (MayRender c₁ m₁ view width output₁) (MayRender c₂ m₂ view width output₂) (λ x. seen (cutPixels v) (pixelsIn width x))
+  -- "and the same next, previous and burst answers, jumps included, for every mask within them"; each has its count of nodes read (02, CR 3:
+  -- "two recordings that look alike to a viewer also give equal counts for every mask within the viewer's lines")
+  pub nexts : (mask from : ℕ) → Word mask → Within mask v → Usize from → Agree (MayNext c₁ m₁ mask from) (MayNext c₂ m₂ mask from) foundOf
+  pub previouses : (mask from : ℕ) → Word mask → Within mask v → Usize from → Agree (MayPrevious c₁ m₁ mask from) (MayPrevious c₂ m₂ mask from) foundOf
+  pub bursts : (mask sample gap tolerance budget : ℕ) → Word mask → Within mask v → Usize sample → Usize gap → Usize tolerance → Usize budget
+      → Agree (MayBurst c₁ m₁ mask sample gap tolerance budget) (MayBurst c₂ m₂ mask sample gap tolerance budget) burstAs
+
+-- "their runs have the same length, the same mark and the same chosen lines at every sample"
+pub record Same (v : ℕ) (run₁ : List ℕ) (mark₁ : Option ℕ) (run₂ : List ℕ) (mark₂ : Option ℕ) : Type 0 where
+  pub marks : mark₁ ≡ mark₂
+  pub runs : alike.Same v (at run₁) (length run₁) (at run₂) (length run₂)
+
+-- ---- the claim
+-- two captures that hold a run each: "Each of these answers .. is 01's for its run", and they look alike exactly when the runs are the same to the viewer
+abbrev pub CapturesAlike : Type 0
+CapturesAlike =
+    (run₁ : List ℕ) (mark₁ : Option ℕ) (c₁ : Capture) (m₁ : Memory) (run₂ : List ℕ) (mark₂ : Option ℕ) (c₂ : Capture) (m₂ : Memory)
+    → Held run₁ mark₁ c₁ m₁
+    → Held run₂ mark₂ c₂ m₂
+    → (v : ℕ)
+    → Answers run₁ c₁ m₁
+    × Answers run₂ c₂ m₂
+    × (LookAlike v c₁ m₁ c₂ m₂ ↔ Same v run₁ mark₁ run₂ mark₂)
