@@ -1,5 +1,5 @@
 -- What a push leaves of a recorder: what it may change, and that a refusal changes nothing.
-use mathlib.Core.Path.{_≡_, refl, sym, ap, _∙_}
+use mathlib.Core.Path.{_≡_, refl, sym, ap, _∙_, subst⁻¹}
 use mathlib.Core.Bool.{Bool, true, false, cond}
 use mathlib.Core.List.{List, _++_}
 use mathlib.Core.Logic.{_⊎_, inl, inr}
@@ -15,10 +15,10 @@ use Rattle.rules.specs.Trigger.{Armed, unarmed, waiting, firstFire}
 use Rattle.rules.specs.Selection.{Reply, refused, going-on, complete, replyOf}
 use Rattle.rules.specs.Refusal.{Lent, Recorder, recorderRefusal}
 use Rattle.rules.specs.Ring.{keptBytes, ringBytes, written}
-use Rattle.rules.specs.Push.{Left, withLen, firedBy, waitedFor, wanted, passed}
-use Rattle.ring.specs.Push.{storable, storeBytes, firingBytes, takenBytes, pushBytes}
+use Rattle.rules.specs.Push.{Left, withLen, firedBy, waitedFor, wanted, passed, leftOf}
+use Rattle.ring.specs.Push.{storable, storeBytes, firingBytes, takenBytes, pushBytes, leftBy}
 use Rattle.feeder.proofs.Rows.{recorder-sound}
-use Rattle.feeder_push.specs.Push.{leftOf}
+use Rattle.ring.proofs.Left.{left-is}
 use Rattle.feeder_numbers.proofs.ReadBack.{Follows}
 use Rattle.feeder_codes.proofs.Narrow.{NarrowSample, some-narrow, last-narrow, sample-narrow}
 
@@ -98,11 +98,14 @@ module _ (c : Recorder) (previous : NarrowSample (c .previous)) where
           go unarmed = stored c n b same
           go (waiting m) = fired (firstFire m (c .previous) (samplesOf (c .store .unit) b))
 
-    pub push-leaves : (lent : Lent) (b : List ℕ) → Bytes b → Leaves c (leftOf c lent s g b)
-    unfolding leftOf
-    push-leaves lent b h = go (eqb (recorderRefusal c lent (length g)) 0) refl
+    by-leaves : (lent : Lent) (b : List ℕ) → Bytes b → Leaves c (leftBy c lent s g b)
+    unfolding leftBy
+    by-leaves lent b h = go (eqb (recorderRefusal c lent (length g)) 0) refl
       where
         go : (t : Bool) → eqb (recorderRefusal c lent (length g)) 0 ≡ t
             → Leaves c (cond t (pushBytes c s g b) (record { reply = refused (recorderRefusal c lent (length g)); recorder = c; samples = s; ring = g }))
         go true e = pushed b (sample-narrow (c .store .unit) b (recorder-sound c lent (length g) (eqb-true (recorderRefusal c lent (length g)) 0 e) .store .unit-most) h)
         go false e = record { follows = same; stays = λ n d. refl }
+
+    pub push-leaves : (lent : Lent) (b : List ℕ) → Bytes b → Leaves c (leftOf c lent s g b)
+    push-leaves lent b h = subst⁻¹ (Leaves c) (left-is c lent s g b) (by-leaves lent b h)

@@ -21,7 +21,7 @@ use Rattle.feeder.specs.declared.Feeder.{Feeder}
 use Rattle.feeder.specs.Record.{recorderOf}
 use Rattle.feeder_numbers.specs.Numbers.{markIn, maskIn, feederFrom, pushedNumbers, recorderNumbers}
 use Rattle.feeder_numbers.proofs.ReadBack.{Follows, recorder-back, pushed-back}
-use Rattle.feeder_push.specs.Push.{leftOf}
+use Rattle.rules.specs.Push.{leftOf}
 use Rattle.codes.specs.Record.{captureIn}
 use Rattle.feeder_codes.specs.Recorder.{begunNumbers, numbersAfter}
 use Rattle.feeder_codes.proofs.Narrow.{NarrowSample, some-narrow, armed-narrow}
