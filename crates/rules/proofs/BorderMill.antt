@@ -69,6 +69,8 @@ pub row-13 :
     × (copy (negsuc 3) 0 0 ≡ 13)
     × (copy (negsuc 2) 9 5 ≡ 0)
     × (copy (negsuc 2) 9 4 ≡ 11)
+    × (copy (negsuc 2) 2 2 ≡ 0)
+    × (copy (negsuc 2) 2 1 ≡ 11)
     × (copy (pos 1) 9 1 ≡ 0)
     × (copy (pos 1) 9 0 ≡ 11)
     × (copy (pos 2) 9 0 ≡ 0)
@@ -77,7 +79,7 @@ pub row-13 :
     × (sums (pos 0) (negsuc 3) ≡ 13)
     × (millSummaryRefusal plain plenty (pos 0) (negsuc 0) ≡ 13)
 unfolding levelShort
-row-13 = (refl, refl, refl, refl, refl, refl, refl, refl, refl, refl, refl, refl, refl, refl, refl, refl, refl, refl, refl, refl, refl, refl, refl)
+row-13 = (refl, refl, refl, refl, refl, refl, refl, refl, refl, refl, refl, refl, refl, refl, refl, refl, refl, refl, refl, refl, refl, refl, refl, refl, refl)
 
 -- ---- "It refuses with 12 .. and then with 13 .., both after 2 and ahead of 9": every row refuses, then every one but the first, and so on
 pub in-order :

@@ -52,24 +52,27 @@ pub nodes :
     × (nodeOf s 1 2 ≡ node 3 3 0)
     × (nodeOf s 1 3 ≡ node 3 2 1)
     × (nodeOf s 0 4 ≡ node 1 6 7)
+    × (nodeOf (sampleOf 1 (0 ∷ 1 ∷ 0 ∷ [])) 0 3 ≡ node 0 0 1)
     × (leaf 3 ≡ node 3 3 0)
     -- "toggles = both toggles OR (left last XOR right first)": the border alone, and what is not the border
     × (join (nodeOf s 0 2) (nodeOf s 2 4) ≡ node 1 6 7)
-    × (join (node 0 1 0) (node 0 1 0) ≡ node 0 1 1)
-    × (join (node 0 1 0) (node 1 0 0) ≡ node 0 0 0)
-    × (join (node 0 0 1) (node 0 0 2) ≡ node 0 0 3)
+    × (join (node 0 1 0) (node 0 0 0) ≡ node 0 0 1)
+    × (join (node 0 1 0) (node 1 1 0) ≡ node 0 1 0)
+    × (join (node 0 0 1) (node 0 0 3) ≡ node 0 0 3)
+    × (join (node 0 1 3) (node 0 0 1) ≡ node 0 0 3)
     × (mirror (node 1 2 4) ≡ node 2 1 4)
     -- "Cutting down takes first, last and toggles AND that mask"
-    × (cut 5 (node 6 3 12) ≡ node 4 1 4)
-    -- "No masked change against the value before, nor inside": the border alone, inside alone, another line, the last sample
+    × (cut 6 (node 5 3 15) ≡ node 4 2 6)
+    -- "No masked change against the value before, nor inside": the border alone, inside alone, both, another line, the last sample
     × (quiet (node 1 1 0) 1 1 ≡ true)
     × (quiet (node 1 1 0) 0 1 ≡ false)
     × (quiet (node 1 1 1) 1 1 ≡ false)
+    × (quiet (node 1 1 1) 0 1 ≡ false)
     × (quiet (node 1 1 0) 3 1 ≡ true)
     × (quiet (node 1 1 2) 1 1 ≡ true)
     × (quiet (node 1 0 0) 1 1 ≡ true)
 unfolding sampleOf togglesOf nodeOf
-nodes = (refl, refl, refl, refl, refl, refl, refl, refl, refl, refl, refl, refl, refl, refl, refl, refl, refl, refl)
+nodes = (refl, refl, refl, refl, refl, refl, refl, refl, refl, refl, refl, refl, refl, refl, refl, refl, refl, refl, refl, refl, refl)
 
 -- ---- levels; the sample at each place is the place
 abbrev places : ℕ → ℕ
@@ -103,8 +106,8 @@ levels = (refl, refl, refl, refl, refl, refl, refl, refl, refl, refl, refl, refl
 abbrev t : ℕ → ℕ
 t = sampleOf 1 (0 ∷ 0 ∷ 1 ∷ 1 ∷ 3 ∷ [])
 
-pub searches :
-    -- "smallest i with from < i < len"
+-- "smallest i with from < i < len"
+pub nexts :
     (next t 5 1 1 ≡ some 2)
     × (next t 5 1 2 ≡ none)
     × (next t 3 1 0 ≡ some 2)
@@ -116,8 +119,12 @@ pub searches :
     × (next t 5 65532 0 ≡ none)
     × (next t 5 1 18446744073709551615 ≡ none)
     × (next t 0 1 0 ≡ none)
-    -- "largest such i with 1 ≤ i ≤ from"
-    × (previous t 5 1 1 ≡ none)
+unfolding sampleOf seek
+nexts = (refl, refl, refl, refl, refl, refl, refl, refl, refl, refl, refl)
+
+-- "largest such i with 1 ≤ i ≤ from"
+pub previouses :
+    (previous t 5 1 1 ≡ none)
     × (previous t 5 1 2 ≡ some 2)
     × (previous t 5 3 3 ≡ some 2)
     × (previous t 5 3 4 ≡ some 4)
@@ -126,10 +133,15 @@ pub searches :
     × (previous t 3 3 100 ≡ some 2)
     × (previous t 2 3 100 ≡ none)
     × (previous s 4 2 1 ≡ some 1)
+    × (previous s 2 2 9 ≡ some 1)
     × (previous s 4 2 0 ≡ none)
     × (previous t 0 1 100 ≡ none)
-    -- "the node of [a, min(b,len)), or none if empty"
-    × (summary t 5 1 2 ≡ some (node 0 0 0))
+unfolding sampleOf seek
+previouses = (refl, refl, refl, refl, refl, refl, refl, refl, refl, refl, refl, refl)
+
+-- "the node of [a, min(b,len)), or none if empty"
+pub summaries :
+    (summary t 5 1 2 ≡ some (node 0 0 0))
     × (summary t 5 1 3 ≡ some (node 0 1 1))
     × (summary t 5 2 2 ≡ none)
     × (summary t 5 3 2 ≡ none)
@@ -138,39 +150,6 @@ pub searches :
     × (summary t 4 3 5 ≡ some (node 1 1 0))
     × (summary t 5 5 9 ≡ none)
     × (cutSummary 5 none ≡ none)
-    × (cutSummary 5 (some (node 6 3 12)) ≡ some (node 4 1 4))
-unfolding sampleOf togglesOf nodeOf seek
-searches = (
-  refl,
-  refl,
-  refl,
-  refl,
-  refl,
-  refl,
-  refl,
-  refl,
-  refl,
-  refl,
-  refl,
-  refl,
-  refl,
-  refl,
-  refl,
-  refl,
-  refl,
-  refl,
-  refl,
-  refl,
-  refl,
-  refl,
-  refl,
-  refl,
-  refl,
-  refl,
-  refl,
-  refl,
-  refl,
-  refl,
-  refl,
-  refl,
-)
+    × (cutSummary 6 (some (node 5 3 15)) ≡ some (node 4 2 6))
+unfolding sampleOf togglesOf nodeOf
+summaries = (refl, refl, refl, refl, refl, refl, refl, refl, refl, refl)

@@ -3,14 +3,14 @@ use mathlib.Core.Path.{_≡_, refl}
 use mathlib.Core.Bool.{true, false}
 use mathlib.Core.List.{List, [], _∷_}
 use mathlib.Core.Option.{Option, none, some}
-use Prim.Native.Nat.{ℕ}
+use Prim.Native.Nat.{ℕ, _+_, _*_}
 use lib.IntN.{pos, negsuc}
 use lib.Ieee.{Float, nan, inf, fin, add, mul, ofInt}
 use Rattle.rules.specs.Sample.{sampleOf}
 use Rattle.rules.specs.Node.{togglesOf, nodeOf}
 use Rattle.rules.specs.Floor.{Whole, under, over, at, floorOf, nearestOf, natural}
 use Rattle.rules.specs.Floor
-use Rattle.rules.specs.Pixel.{View, pixelEdge, Range, rangeOf, pixelRange, rowBy, render, cutPixels, rangeFrom}
+use Rattle.rules.specs.Pixel.{View, pixelEdge, endOf, Range, rangeOf, pixelRange, rowBy, render, cutPixels, rangeFrom}
 use Rattle.rules.proofs.BorderRows.{largest}
 
 -- ---- whole numbers: n, −n, and halves and quarters of them
@@ -61,7 +61,7 @@ from a b = some (record { from = a; to = b })
 abbrev pixel : Float → Float → ℕ → Option Range
 pixel start spp px = pixelRange (view start spp) 8 px
 
-pub ranges :
+pub drawn-or-blank :
     -- −0.0, and just below 0: a and b, a alone, b alone
     (pixel (minus 0) (whole 0) 0 ≡ from 0 2)
     × (pixel (minus 0) (minus 0) 0 ≡ from 0 2)
@@ -76,8 +76,15 @@ pub ranges :
     × (pixel (whole 7) (whole 1) 0 ≡ from 7 8)
     × (pixel (fin false 31 (negsuc 1)) (whole 1) 0 ≡ from 7 8)
     × (pixel (whole 8) (whole 1) 0 ≡ none)
+    -- len = 0
+    × (pixelRange (view (minus 1) (whole 2)) 0 0 ≡ none)
+    × (pixelRange (view (whole 0) (whole 1)) 1 0 ≡ from 0 1)
+unfolding floorOf pixelEdge add mul ofInt
+drawn-or-blank = (refl, refl, refl, refl, refl, refl, refl, refl, refl, refl, refl, refl, refl)
+
+pub ends :
     -- the end below len, at len and cut to len
-    × (pixel (whole 0) (whole 6) 0 ≡ from 0 7)
+    (pixel (whole 0) (whole 6) 0 ≡ from 0 7)
     × (pixel (whole 0) (whole 7) 0 ≡ from 0 8)
     × (pixel (whole 0) (whole 8) 0 ≡ from 0 8)
     × (pixel (whole 6) (whole 1) 0 ≡ from 6 8)
@@ -96,42 +103,12 @@ pub ranges :
     × (pixel (whole 0) (fin true 9007199254740991 (pos 971)) 1 ≡ none)
     × (rangeOf under over 8 ≡ from 0 8)
     × (rangeOf under (at (pos 3)) 8 ≡ from 0 4)
-    -- len = 0
-    × (pixelRange (view (minus 1) (whole 2)) 0 0 ≡ none)
-    × (pixelRange (view (whole 0) (whole 1)) 1 0 ≡ from 0 1)
+    × (endOf under 3 8 ≡ 5)
+    × (endOf under 7 8 ≡ 8)
+    × (endOf (at (negsuc 0)) 3 8 ≡ 5)
+    × (endOf (at (negsuc 0)) 7 8 ≡ 8)
 unfolding floorOf pixelEdge add mul ofInt
-ranges = (
-  refl,
-  refl,
-  refl,
-  refl,
-  refl,
-  refl,
-  refl,
-  refl,
-  refl,
-  refl,
-  refl,
-  refl,
-  refl,
-  refl,
-  refl,
-  refl,
-  refl,
-  refl,
-  refl,
-  refl,
-  refl,
-  refl,
-  refl,
-  refl,
-  refl,
-  refl,
-  refl,
-  refl,
-  refl,
-  refl,
-)
+ends = (refl, refl, refl, refl, refl, refl, refl, refl, refl, refl, refl, refl, refl, refl, refl, refl, refl, refl, refl, refl, refl)
 
 -- ---- CR 1: "In render, −mark and len − mark stand for 0 and len": 8 samples, the mark at 3. The floor is taken first, and then moved
 abbrev moved : Float → Float → ℕ → Option Range
@@ -163,6 +140,7 @@ pub drawn :
     × (render s 3 (view (minus 2) (whole 1)) 2 ≡ 0 ∷ 0 ∷ 5 ∷ 2 ∷ [])
     × (render s 3 (view (whole 0) (whole 3)) 1 ≡ 5 ∷ 3 ∷ [])
     × (render s 3 (view (whole 0) (whole 1)) 0 ≡ [])
+    × (rowBy (λ a b. record { first = b; last = 7; toggles = a * 10 + b }) (λ px. from (px + 2) 5) 1 2 ≡ 5 ∷ 35 ∷ 5 ∷ 45 ∷ [])
     × (cutPixels 5 (6 ∷ 3 ∷ []) ≡ 4 ∷ 1 ∷ [])
 unfolding sampleOf togglesOf nodeOf floorOf pixelEdge rowBy add mul ofInt
-drawn = (refl, refl, refl, refl, refl)
+drawn = (refl, refl, refl, refl, refl, refl)

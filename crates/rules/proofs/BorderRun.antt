@@ -9,7 +9,7 @@ use lib.Ieee.{fin, mul, ofInt, lt}
 use Rattle.rules.specs.Sample.{sampleOf, listFrom}
 use Rattle.rules.specs.Floor.{floorOf, nearestOf}
 use Rattle.rules.specs.Pretrigger.{Pretrigger, fraction, seconds, one, mostFraction, times}
-use Rattle.rules.specs.Trigger.{Condition, rising, falling, edge, high, low, Term, Masks, withTerms, namedBy, bothAsEdge, masksOf, Armed, unarmed, waiting, armedOf, matches, fires, firstFire, lastOf}
+use Rattle.rules.specs.Trigger.{Condition, rising, falling, edge, high, low, Term, Masks, withLine, withTerms, namedBy, bothAsEdge, masksOf, Armed, unarmed, waiting, armedOf, matches, fires, firstFire, lastOf}
 use Rattle.rules.specs.Selection.{Settings, Rule, ruleOf, Selected, chosen, selection, acceptedFrom, accepted, runOf, markOf, Reply, refused, going-on, complete, repliesFrom, repliesOf}
 
 -- ---- terms
@@ -20,7 +20,12 @@ abbrev masks : ℕ → ℕ → ℕ → ℕ → ℕ → Masks
 masks h l r f e = record { high = h; low = l; rising = r; falling = f; edge = e }
 
 pub terms :
-    (namedBy (on 0 high ∷ on 1 low ∷ on 2 rising ∷ on 3 falling ∷ on 15 edge ∷ []) ≡ masks 1 2 4 8 32768)
+    (withLine (masks 1 2 4 8 16) high 32 ≡ masks 33 2 4 8 16)
+    × (withLine (masks 1 2 4 8 16) low 32 ≡ masks 1 34 4 8 16)
+    × (withLine (masks 1 2 4 8 16) rising 32 ≡ masks 1 2 36 8 16)
+    × (withLine (masks 1 2 4 8 16) falling 32 ≡ masks 1 2 4 40 16)
+    × (withLine (masks 1 2 4 8 16) edge 32 ≡ masks 1 2 4 8 48)
+    × (namedBy (on 0 high ∷ on 1 low ∷ on 2 rising ∷ on 3 falling ∷ on 15 edge ∷ []) ≡ masks 1 2 4 8 32768)
     × (namedBy (on 15 high ∷ on 0 low ∷ on 0 edge ∷ on 1 falling ∷ on 1 rising ∷ []) ≡ masks 32768 1 2 2 1)
     × (namedBy (on 0 high ∷ on 0 high ∷ on 3 high ∷ on 1 low ∷ on 1 low ∷ on 3 low ∷ []) ≡ masks 9 10 0 0 0)
     × (namedBy (on 0 rising ∷ on 0 rising ∷ on 3 rising ∷ on 1 falling ∷ on 1 falling ∷ on 3 falling ∷ on 2 edge ∷ on 2 edge ∷ on 3 edge ∷ []) ≡ masks 0 0 9 10 12)
@@ -33,7 +38,7 @@ pub terms :
     × (armedOf [] ≡ unarmed)
     × (armedOf (on 0 falling ∷ on 0 rising ∷ []) ≡ waiting (masks 0 0 0 0 1))
 unfolding withTerms bothAsEdge
-terms = (refl, refl, refl, refl, refl, refl, refl, refl, refl, refl)
+terms = (refl, refl, refl, refl, refl, refl, refl, refl, refl, refl, refl, refl, refl, refl, refl)
 
 -- ---- "A sample v after p fires when .."; the first sample has no p
 abbrev firing : List Term → ℕ → ℕ → Bool
@@ -52,8 +57,12 @@ pub fired :
     × (after rising ≡ false ∷ true ∷ false ∷ false ∷ [])
     × (after falling ≡ false ∷ false ∷ true ∷ false ∷ [])
     × (after edge ≡ false ∷ true ∷ true ∷ false ∷ [])
-    -- "every": two lines, and one of them
-    × (firing (on 0 high ∷ on 1 high ∷ []) 0 3 ≡ true)
+unfolding withTerms bothAsEdge matches fires
+fired = (refl, refl, refl, refl, refl)
+
+-- "every": two lines, and one of them
+pub every-line :
+    (firing (on 0 high ∷ on 1 high ∷ []) 0 3 ≡ true)
     × (firing (on 0 high ∷ on 1 high ∷ []) 0 2 ≡ false)
     × (firing (on 0 low ∷ on 1 low ∷ []) 0 65532 ≡ true)
     × (firing (on 0 low ∷ on 1 low ∷ []) 0 2 ≡ false)
@@ -72,8 +81,12 @@ pub fired :
     -- a line that the unit lacks is 0
     × (firing (on 8 high ∷ []) 0 255 ≡ false)
     × (firing (on 8 low ∷ []) 0 255 ≡ true)
-    -- "it fires only if there is no Rising, Falling or Edge term, tested with p = v"
-    × (first (on 0 high ∷ []) 0 ≡ false)
+unfolding withTerms bothAsEdge matches fires
+every-line = (refl, refl, refl, refl, refl, refl, refl, refl, refl, refl, refl, refl, refl, refl, refl, refl, refl)
+
+-- "it fires only if there is no Rising, Falling or Edge term, tested with p = v"
+pub first-sample :
+    (first (on 0 high ∷ []) 0 ≡ false)
     × (first (on 0 high ∷ []) 1 ≡ true)
     × (first (on 0 low ∷ []) 0 ≡ true)
     × (first (on 0 low ∷ []) 1 ≡ false)
@@ -83,39 +96,7 @@ pub fired :
     × (fires (masks 0 0 0 1 0) none 0 ≡ false)
     × (fires (masks 0 0 0 0 1) none 0 ≡ false)
 unfolding withTerms bothAsEdge matches fires
-fired = (
-  refl,
-  refl,
-  refl,
-  refl,
-  refl,
-  refl,
-  refl,
-  refl,
-  refl,
-  refl,
-  refl,
-  refl,
-  refl,
-  refl,
-  refl,
-  refl,
-  refl,
-  refl,
-  refl,
-  refl,
-  refl,
-  refl,
-  refl,
-  refl,
-  refl,
-  refl,
-  refl,
-  refl,
-  refl,
-  refl,
-  refl,
-)
+first-sample = (refl, refl, refl, refl, refl, refl, refl, refl, refl)
 
 -- "T the first firing place", the count where there is none; "previous sample or none"
 pub first-fire :
@@ -200,12 +181,13 @@ pub lists :
 unfolding sampleOf listFrom matches fires firstFire chosen selection acceptedFrom repliesFrom
 lists = (refl, refl, refl, refl, refl, refl, refl, refl, refl, refl, refl, refl, refl, refl, refl)
 
--- ---- "Its settings are what start was given": Fraction 0.5, and Seconds 1
+-- ---- "Its settings are what start was given": Fraction 0.5, and Seconds 1 in either unit, at a rate above two bytes' cap
 abbrev settings : ℕ → ℕ → List Term → Pretrigger → Settings
-settings channels limit terms wish = record { channels = channels; capacity = 40; limit = limit; terms = terms; wish = wish; rate = 7 }
+settings channels limit terms wish = record { channels = channels; capacity = 40; limit = limit; terms = terms; wish = wish; rate = 40000000 }
 
 pub rules :
-    (ruleOf (settings 9 10 (on 3 high ∷ []) (fraction (fin false 1 (negsuc 0)))) ≡ rule 2 40 10 5 (waiting (masks 8 0 0 0 0)))
-    × (ruleOf (settings 8 0 [] (seconds one)) ≡ rule 1 40 0 7 unarmed)
+    (ruleOf (settings 9 6 (on 3 high ∷ []) (fraction (fin false 1 (negsuc 0)))) ≡ rule 2 40 6 3 (waiting (masks 8 0 0 0 0)))
+    × (ruleOf (settings 8 0 [] (seconds one)) ≡ rule 1 40 0 40000000 unarmed)
+    × (ruleOf (settings 9 0 [] (seconds one)) ≡ rule 2 40 0 33554432 unarmed)
 unfolding floorOf nearestOf mostFraction times withTerms bothAsEdge mul ofInt lt
-rules = (refl, refl)
+rules = (refl, refl, refl)

@@ -3,6 +3,7 @@
 use mathlib.Core.Path.{_≡_, refl}
 use mathlib.Core.Bool.{Bool, false, true}
 use mathlib.Core.List.{List, [], _∷_}
+use mathlib.Core.Option.{none}
 use Prim.Native.Nat.{ℕ}
 use lib.IntN.{pos, negsuc}
 use lib.Ieee.{Float, nan, inf, fin, binary64, round, ofBits, mul, ofInt, lt, isNan}
@@ -10,8 +11,8 @@ use Rattle.rules.specs.Floor.{floorOf, nearestOf}
 use Rattle.rules.specs.Pretrigger.{Pretrigger, fraction, seconds, nought, one, mostFraction, times, Pre, preFor}
 use Rattle.rules.specs.Trigger.{Term, high}
 use Rattle.rules.specs.Selection.{Settings}
-use Rattle.rules.specs.Refusal.{Lent, levelShort, lineWrong, startRefusal}
-use Rattle.rules.proofs.BorderRows.{lent, plenty, no-memory}
+use Rattle.rules.specs.Refusal.{Lent, fresh, levelShort, lineWrong, startRefusal}
+use Rattle.rules.proofs.BorderRows.{store, lent, plenty, no-memory}
 
 abbrev half : Float
 half = fin false 1 (negsuc 0)
@@ -27,7 +28,9 @@ abbrev startStore : ℕ → ℕ → Lent → ℕ
 startStore channels capacity memory = startRefusal (settings channels capacity 0 [] (seconds nought) 0) memory 0
 
 pub row-1-2 :
-    (startStore 8 0 plenty ≡ 1)
+    (fresh 8 33 ≡ store 1 33 0 none)
+    × (fresh 9 34 ≡ store 2 34 0 none)
+    × (startStore 8 0 plenty ≡ 1)
     × (startStore 8 1 plenty ≡ 0)
     × (startStore 9 67108864 plenty ≡ 0)
     × (startStore 8 67108865 plenty ≡ 1)
@@ -40,11 +43,11 @@ pub row-1-2 :
     × (startStore 9 33 (lent 66 6 3 3 3) ≡ 0)
     × (startStore 9 33 (lent 65 6 3 3 3) ≡ 2)
 unfolding nearestOf times mul ofInt lt isNan levelShort lineWrong
-row-1-2 = (refl, refl, refl, refl, refl, refl, refl, refl, refl, refl, refl, refl)
+row-1-2 = (refl, refl, refl, refl, refl, refl, refl, refl, refl, refl, refl, refl, refl, refl)
 
--- ---- 3 to 7: 8 samples of capacity, unit 1, and a ring of 8 bytes
+-- ---- 3 to 7: 4 channels, 8 samples of capacity, and a ring of 8 bytes
 abbrev start : ℕ → List Term → Pretrigger → ℕ → ℕ
-start limit terms wish rate = startRefusal (settings 8 8 limit terms wish rate) plenty 8
+start limit terms wish rate = startRefusal (settings 4 8 limit terms wish rate) plenty 8
 
 pub row-3-6 :
     -- 3: "a term's line above 15"
@@ -87,13 +90,18 @@ pub row-7 :
     × (startRing 8 0 [] (seconds one) 7 6 ≡ 7)
     × (startRing 9 0 (on 0 ∷ []) (seconds one) 7 14 ≡ 0)
     × (startRing 9 0 (on 0 ∷ []) (seconds one) 7 13 ≡ 7)
-    × (startRing 8 8 [] (fraction half) 0 4 ≡ 0)
-    × (startRing 8 8 [] (fraction half) 0 3 ≡ 7)
-    × (startRing 9 8 [] (fraction half) 0 8 ≡ 0)
-    × (startRing 9 8 [] (fraction half) 0 7 ≡ 7)
+    × (startRing 8 6 [] (fraction half) 0 3 ≡ 0)
+    × (startRing 8 6 [] (fraction half) 0 2 ≡ 7)
+    × (startRing 9 6 [] (fraction half) 0 6 ≡ 0)
+    × (startRing 9 6 [] (fraction half) 0 5 ≡ 7)
     × (startRing 8 0 [] (seconds nought) 7 0 ≡ 0)
+    -- capped, which only two bytes a sample let pass
+    × (startRefusal (settings 9 33554433 0 [] (seconds one) 1000000000) plenty 67108864 ≡ 0)
+    × (startRefusal (settings 9 33554432 0 [] (seconds one) 1000000000) plenty 67108864 ≡ 7)
+    × (startRefusal (settings 8 67108864 0 [] (seconds one) 67108863) plenty 67108863 ≡ 0)
+    × (startRefusal (settings 8 67108864 0 [] (seconds one) 1000000000) plenty 67108864 ≡ 7)
 unfolding floorOf nearestOf mostFraction times mul ofInt lt isNan levelShort lineWrong
-row-7 = (refl, refl, refl, refl, refl, refl, refl, refl, refl, refl, refl, refl, refl)
+row-7 = (refl, refl, refl, refl, refl, refl, refl, refl, refl, refl, refl, refl, refl, refl, refl, refl, refl)
 
 -- "Rows in order": all of them refuse, then all but the first, and so on
 abbrev startAll : ℕ → Lent → ℕ → ℕ → ℕ → ℕ

@@ -16,7 +16,7 @@ ahead cap hi p = best (λ l. forward allLevels (λ l p. leaf 0) hi .takes l p) c
 abbrev back : ℕ → ℕ → ℕ → ℕ
 back cap lo p = best (λ l. backward allLevels (λ l p. leaf 0) lo .takes l p) cap
 
-pub level-taken :
+pub level-ahead :
     -- 31, 32 and 33 samples left, and the same of each level
     (ahead 4 31 0 ≡ 0)
     × (ahead 4 32 0 ≡ 1)
@@ -38,8 +38,15 @@ pub level-taken :
     × (ahead 3 1048576 0 ≡ 3)
     × (ahead 1 1048576 0 ≡ 1)
     × (ahead 0 1048576 0 ≡ 0)
-    -- backward, in the first chunk and in the second
-    × (back 4 0 31 ≡ 0)
+    -- a level that is not there
+    × (best (λ l. forward (λ l. eqb l 2) (λ l p. leaf 0) 1023 .takes l 0) 4 ≡ 0)
+    × (best (λ l. forward (λ l. eqb l 2) (λ l p. leaf 0) 1024 .takes l 0) 4 ≡ 2)
+unfolding best
+level-ahead = (refl, refl, refl, refl, refl, refl, refl, refl, refl, refl, refl, refl, refl, refl, refl, refl, refl, refl, refl, refl)
+
+-- "Backward is the mirror": in the first chunk and in the second
+pub level-back :
+    (back 4 0 31 ≡ 0)
     × (back 4 0 32 ≡ 1)
     × (back 4 0 33 ≡ 0)
     × (back 4 0 1024 ≡ 2)
@@ -50,47 +57,10 @@ pub level-taken :
     × (back 4 1048576 1048608 ≡ 1)
     × (back 4 1048576 1049600 ≡ 2)
     × (back 4 1048576 2097152 ≡ 4)
-    -- a level that is not there
-    × (best (λ l. forward (λ l. eqb l 2) (λ l p. leaf 0) 1023 .takes l 0) 4 ≡ 0)
-    × (best (λ l. forward (λ l. eqb l 2) (λ l p. leaf 0) 1024 .takes l 0) 4 ≡ 2)
     × (best (λ l. backward (λ l. eqb l 2) (λ l p. leaf 0) 0 .takes l 32) 4 ≡ 0)
     × (best (λ l. backward (λ l. eqb l 2) (λ l p. leaf 0) 0 .takes l 1024) 4 ≡ 2)
 unfolding best
-level-taken = (
-  refl,
-  refl,
-  refl,
-  refl,
-  refl,
-  refl,
-  refl,
-  refl,
-  refl,
-  refl,
-  refl,
-  refl,
-  refl,
-  refl,
-  refl,
-  refl,
-  refl,
-  refl,
-  refl,
-  refl,
-  refl,
-  refl,
-  refl,
-  refl,
-  refl,
-  refl,
-  refl,
-  refl,
-  refl,
-  refl,
-  refl,
-  refl,
-  refl,
-)
+level-back = (refl, refl, refl, refl, refl, refl, refl, refl, refl, refl, refl, refl, refl)
 
 -- ---- steps over nodes of a run whose one change is at place c, worked out without the run, so that it may be long
 abbrev lone : ℕ → ℕ → ℕ → Node
@@ -174,6 +144,18 @@ pub cap-lowered :
     × (nextWalk allLevels (false-at 1) 96 2 31 ≡ steps none 2)
 unfolding best walk chunks
 cap-lowered = (refl, refl, refl, refl, refl)
+
+-- the end of a node that is looked at, and the one that stands for the value before: at level 1 first and last differ, and nothing inside
+abbrev torn : ℕ → ℕ → ℕ → ℕ → Node
+torn first last l p = record { first = cond (eqb l 0) 0 first; last = cond (eqb l 0) 0 last; toggles = 0 }
+
+pub ends-of-nodes :
+    (nextWalk allLevels (torn 0 1) 65 1 31 ≡ steps (some 64) 2)
+    × (nextWalk allLevels (torn 1 0) 65 1 31 ≡ steps none 34)
+    × (previousWalk allLevels (torn 1 0) 66 1 64 ≡ steps (some 32) 3)
+    × (previousWalk allLevels (torn 0 1) 66 1 64 ≡ steps none 65)
+unfolding best walk chunks
+ends-of-nodes = (refl, refl, refl, refl)
 
 -- ---- chunks entered
 abbrev nextIn : ℕ → ℕ → ℕ → ℕ
