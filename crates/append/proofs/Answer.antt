@@ -11,13 +11,14 @@ use lib.ListN.{length}
 use borrow.Author.Tests.{le-ltb, lt-ltb, eq-eqb, ne-eqb, ltb-false}
 use Rattle.rules.specs.Sample.{sampleCount}
 use Rattle.rules.specs.Refusal.{Row, firstOf, storeRows, storeRefusal}
-use Rattle.rules.proofs.Refusal.{Sound, MarkInside, rows-left, rows-refused, rows-passed, row-passed}
+use Rattle.rules.proofs.Refusal.{Sound, MarkInside, rows-passed, row-passed}
 use Rattle.store.specs.Stored.{Stored}
 use Rattle.store.specs.Room.{AppendRoom}
 use Rattle.store.proofs.Fits.{sound-room}
 use Rattle.store.proofs.Stored.{stored-none}
 use Rattle.capture.specs.declared.Capture.{Capture}
 use Rattle.capture.specs.Record.{storeOf, lentOf}
+use Rattle.capture.proofs.Answer.{rows-refuse, rows-decide}
 use Rattle.append.specs.declared.Appended.the-variants.{Refused, Done}
 use Rattle.append.specs.Append.{grown, refusalOf, takenOf, Appends}
 
@@ -33,18 +34,19 @@ module _ (c : Capture) (b s : List ℕ) (lv : ℕ → List ℕ) where
   room-of d h = record { room = sound-room (storeOf c) s lv (sampleCount (c .unitsize) b) d h; bytes = whole-bytes (c .unitsize) b }
 
   -- ---- which row refuses
-  pub refused-first : (k : ℕ) → k ≡ storeRefusal (storeOf c) (lentOf s lv) → (k ≡ 0 → ⊥) → k ≡ refusalOf c s lv b
-  unfolding refusalOf
-  refused-first k e z = e ∙ sym (rows-refused (storeOf c) (lentOf s lv) (λ y. z (e ∙ y)) (row-8 c b))
-
-  module _ (f : storeRefusal (storeOf c) (lentOf s lv) ≡ 0) where
-    pub refused-full : c .capacity < c .len + sampleCount (c .unitsize) b → 8 ≡ refusalOf c s lv b
+  -- k is the number of rows 1 and 2
+  module _ {k : ℕ} (e : k ≡ storeRefusal (storeOf c) (lentOf s lv)) where
+    pub refused-first : (k ≡ 0 → ⊥) → k ≡ refusalOf c s lv b
     unfolding refusalOf
-    refused-full h = sym (rows-left (storeOf c) (lentOf s lv) f (row-8 c b) ∙ ap (λ (t : Bool). cond {A = ℕ} t 8 0) (lt-ltb _ _ h))
+    refused-first z = rows-refuse (storeOf c) (lentOf s lv) (row-8 c b) e z
 
-    pub refused-none : c .len + sampleCount (c .unitsize) b ≤ c .capacity → 0 ≡ refusalOf c s lv b
+    pub refused-full : k ≡ 0 → c .capacity < c .len + sampleCount (c .unitsize) b → 8 ≡ refusalOf c s lv b
     unfolding refusalOf
-    refused-none h = sym (rows-left (storeOf c) (lentOf s lv) f (row-8 c b) ∙ ap (λ (t : Bool). cond {A = ℕ} t 8 0) (le-ltb _ _ h))
+    refused-full z h = rows-decide (storeOf c) (lentOf s lv) (row-8 c b) e z 8 (simp (lt-ltb _ _ h))
+
+    pub refused-none : k ≡ 0 → c .len + sampleCount (c .unitsize) b ≤ c .capacity → 0 ≡ refusalOf c s lv b
+    unfolding refusalOf
+    refused-none z h = rows-decide (storeOf c) (lentOf s lv) (row-8 c b) e z 0 (simp (le-ltb _ _ h))
 
   -- ---- the equations
   pub taken-none : (refusalOf c s lv b ≡ 0 → ⊥) → takenOf c s lv b ≡ 0

@@ -26,7 +26,7 @@ pub fn append(
 ) -> Appended
     ensures { λ r. ⌜ Appends c (now (bytes .entry)) (now (samples .entry)) (levelOf (now (l1 .entry)) (now (l2 .entry)) (now (l3 .entry)) (now (l4 .entry))) r (now (samples .exit)) (levelOf (now (l1 .exit)) (now (l2 .exit)) (now (l3 .exit)) (now (l4 .exit))) ⌝ }
 {
-    let wrong = refusal(c, samples.len(), l1.len(), l2.len(), l3.len(), l4.len());
+    let wrong = refusal(c, &samples[..], &l1[..], &l2[..], &l3[..], &l4[..]);
     if wrong != 0 {
         return Appended::Refused(wrong, c);
     }

@@ -3,6 +3,5 @@ pub mod Answers
 pub mod Grown
 pub mod Jumps
 pub mod Pairs
-pub mod Rows
 pub mod Sides
 pub mod Ends

@@ -390,7 +390,7 @@ pub fn burst_at<'a>(
 ) -> Bursts
     ensures { λ r. ⌜ burstAs r ≡ burstOf c (now (samples .entry)) (levelOf (now (l1 .entry)) (now (l2 .entry)) (now (l3 .entry)) (now (l4 .entry))) mask sample «max_gap» tolerance budget ⌝ }
 {
-    let number = capture::refusal(c, samples.len(), l1.len(), l2.len(), l3.len(), l4.len());
+    let number = capture::refusal(c, samples, l1, l2, l3, l4);
     if number != 0 {
         return Bursts::Refused(number);
     }

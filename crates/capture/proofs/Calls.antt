@@ -12,19 +12,21 @@ use lib.Dec.{ltb}
 use borrow.Author.Tests.{eq-eqb, ne-eqb, lt-ltb, le-ltb}
 use Rattle.rules.specs.Answer.{unrefused}
 use Rattle.rules.specs.Reading.{copiedTo, partOf, rawShown}
-use Rattle.rules.specs.Sample.{listFrom}
+use Rattle.rules.specs.Sample.{sampleOf, listFrom}
 use Rattle.rules.specs.Node.{chunk, topLevel, chunkEnd}
-use Rattle.rules.specs.Refusal.{Store, storeWrong, samplesNeed, levelNeed, storeRefusal, fresh, copied}
+use Rattle.rules.specs.Refusal.{Store, storeWrong, samplesNeed, levelNeed, storeRefusal, fresh, copied, samplesRefusal}
 use Rattle.rules.proofs.Refusal.{Sound, Ranged, ranged, none-refused, row-passed}
 use Rattle.lines.specs.Held.{Held}
 use Rattle.node.specs.Memory.{levelOf}
 use Rattle.capture.specs.declared.Sizes.{Sizes}
-use Rattle.capture.specs.Record.{lentNumbers, lentOf, Sized}
-use Rattle.capture.specs.Calls.{needRefusal, memoryNeed, Source, rawOf, RawLies}
+use Rattle.capture.specs.declared.Copied.the-variants.{Refused, Count}
+use Rattle.capture.specs.Record.{sizesAs, lentOf, Sized}
+use Rattle.capture.specs.Calls.{needRefusal, memoryNeed, Copies, Source, rawOf, RawLies}
+use Rattle.capture.proofs.Answer.{refused-is, given-is}
 
 -- ---- needs
-pub memory-is : (st : Store) (r : Sizes) → Sized st r → lentNumbers (r .samples) (r .l1) (r .l2) (r .l3) (r .l4) ≡ memoryNeed st
-memory-is st r h = λ i. lentNumbers (h .samples i) (h .l1 i) (h .l2 i) (h .l3 i) (h .l4 i)
+pub memory-is : (st : Store) (r : Sizes) → Sized st r → sizesAs r ≡ memoryNeed st
+memory-is st r h = λ i. sizesAs (record { samples = h .samples i; l1 = h .l1 i; l2 = h .l2 i; l3 = h .l3 i; l4 = h .l4 i })
 
 -- memory of the lengths that needs says passes rows 1 and 2
 pub needs-enough : (channels capacity : ℕ) → needRefusal (fresh channels capacity) ≡ 0 → storeRefusal (fresh channels capacity) (memoryNeed (fresh channels capacity)) ≡ 0
@@ -87,16 +89,33 @@ unfolding copiedTo
 length-over s p k output h = length-append (listFrom s p k) (drop k output) ∙ omega (arith, length-from s p k, length-drop k output)
 
 -- nothing is copied or drawn where a row refuses
-pub unrefused-none : (r n k : ℕ) → r ≡ n → (n ≡ 0 → ⊥) → unrefused r k ≡ 0
-unrefused-none r zero k e h = absurd (h refl)
-unrefused-none r (suc n) k e h = ap (λ (x : ℕ). unrefused x k) e
+pub unrefused-none : {n r : ℕ} → n ≡ r → (n ≡ 0 → ⊥) → (k : ℕ) → unrefused r k ≡ 0
+unrefused-none {n} {r} e h k = go r (λ z. h (e ∙ z))
+  where
+    go : (x : ℕ) → (x ≡ 0 → ⊥) → unrefused x k ≡ 0
+    go zero z = absurd (z refl)
+    go (suc x) z = refl
 
-module _ (s : ℕ → ℕ) (p k : ℕ) (output : List ℕ) where
-  pub none-copied : (r n : ℕ) → r ≡ n → (n ≡ 0 → ⊥) → output ≡ copiedTo s p (unrefused r k) output
-  none-copied r n e h = over-none s p output ∙ ap (λ (x : ℕ). copiedTo s p x output) (sym (unrefused-none r n k e h))
+pub unrefused-all : {n r : ℕ} → n ≡ r → n ≡ 0 → (k : ℕ) → unrefused r k ≡ k
+unrefused-all e z k = ap (λ (x : ℕ). unrefused x k) (sym e ∙ z)
 
-  pub all-copied : (r : ℕ) → r ≡ 0 → copiedTo s p k output ≡ copiedTo s p (unrefused r k) output
-  all-copied r e = ap (λ (x : ℕ). copiedTo s p (unrefused x k) output) (sym e)
+module _ (s : ℕ → ℕ) (p k : ℕ) (output : List ℕ) {n r : ℕ} (e : n ≡ r) where
+  pub none-copied : (n ≡ 0 → ⊥) → output ≡ copiedTo s p (unrefused r k) output
+  none-copied h = over-none s p output ∙ ap (λ (x : ℕ). copiedTo s p x output) (sym (unrefused-none e h k))
+
+  pub all-copied : n ≡ 0 → copiedTo s p k output ≡ copiedTo s p (unrefused r k) output
+  all-copied z = ap (λ (x : ℕ). copiedTo s p x output) (sym (unrefused-all e z k))
+
+-- what samples promises, by the number n of the first of its rows that holds
+module _ (st : Store) (bytes : List ℕ) (levels : ℕ → List ℕ) (start count : ℕ) (output : List ℕ) {n : ℕ} (e : n ≡ samplesRefusal st (lentOf bytes levels) start count (length output)) where
+  pub copies-refused : (n ≡ 0 → ⊥) → Copies st bytes levels start count output (Refused n) output
+  copies-refused h = record { answer-is = refused-is _ e h; output-is = none-copied (sampleOf (st .unit) bytes) start (copied (st .len) start count) output e h }
+
+  pub copies-done : n ≡ 0 → (k : ℕ) → k ≡ copied (st .len) start count → (output′ : List ℕ) → output′ ≡ copiedTo (sampleOf (st .unit) bytes) start k output → Copies st bytes levels start count output (Count k) output′
+  copies-done z k h output′ d = record {
+    answer-is = given-is _ e z h;
+    output-is = d ∙ ap (λ (x : ℕ). copiedTo (sampleOf (st .unit) bytes) start x output) h ∙ all-copied (sampleOf (st .unit) bytes) start (copied (st .len) start count) output e z;
+  }
 
 -- the place i + p of a source
 pub held-at : (unit p k n output i : ℕ) → Source unit p k n output → i < k → Held unit (p + i) n
@@ -142,8 +161,8 @@ module _ (st : Store) (bytes : List ℕ) (levels : ℕ → List ℕ) (c : ℕ) w
   abbrev part : List ℕ
   part = partOf (st .unit) bytes (c * chunk) (chunkEnd (st .len) c)
 
-  raw-refused : (n : ℕ) → rows ≡ n → (n ≡ 0 → ⊥) → [] ≡ rawOf st bytes levels c
-  raw-refused n e h = sym (ap (λ (b : Bool). cond b part []) (ne-eqb rows 0 (λ z. h (sym e ∙ z))))
+  raw-refused : (rows ≡ 0 → ⊥) → [] ≡ rawOf st bytes levels c
+  raw-refused h = sym (ap (λ (b : Bool). cond b part []) (ne-eqb rows 0 h))
 
   raw-is : rows ≡ 0 → part ≡ rawOf st bytes levels c
   raw-is e = sym (ap (λ (b : Bool). cond b part []) (eq-eqb rows 0 e))
@@ -163,8 +182,8 @@ module _ (st : Store) (bytes : List ℕ) (levels : ℕ → List ℕ) (c : ℕ) w
     lies = record { order = omega arith; inside = omega arith; part-is = e };
   }
 
-  pub lies-refused : (n : ℕ) → rows ≡ n → (n ≡ 0 → ⊥) → RawLies st bytes levels c 0 0
-  lies-refused n e h = nothing (raw-refused n e h) (ap (λ (b : Bool). b && ltb (c * chunk) (st .len)) (ne-eqb rows 0 (λ z. h (sym e ∙ z))))
+  pub lies-refused : (rows ≡ 0 → ⊥) → RawLies st bytes levels c 0 0
+  lies-refused h = nothing (raw-refused h) (ap (λ (b : Bool). b && ltb (c * chunk) (st .len)) (ne-eqb rows 0 h))
 
   pub lies-past : rows ≡ 0 → (st .len + (chunk - 1)) / chunk ≤ c → RawLies st bytes levels c 0 0
   lies-past e h = nothing (raw-past e h) (ap₂ (λ (a b : Bool). a && b) (eq-eqb rows 0 e) (le-ltb (c * chunk) (st .len) (omega arith)))

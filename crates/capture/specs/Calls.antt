@@ -8,7 +8,7 @@ use Rattle.rules.specs.Sample.{sampleOf}
 use Rattle.rules.specs.Answer.{Answer, refused, given}
 use Rattle.rules.specs.Refusal.{Store, Lent, firstOf, storeWrong, samplesNeed, levelNeed}
 use Rattle.rules.specs.Reading.{copiedTo, copyCount, samplesAnswer, rawAnswer, rawFrom, rawTo}
-use Rattle.capture.specs.Record.{storeOf, lentNumbers, lentOf}
+use Rattle.capture.specs.Record.{storeOf, sizesAs, lentOf}
 use Rattle.capture.specs.declared.Needed.{Needed}
 use Rattle.capture.specs.declared.Needed.the-variants as needed
 use Rattle.capture.specs.declared.Started.{Started}
@@ -25,11 +25,11 @@ needRefusal st = firstOf (record { number = 1; holds = storeWrong st } ∷ [])
 
 -- as lengths of lent slices
 abbrev pub memoryNeed : Store → Lent
-memoryNeed st = lentNumbers (samplesNeed st) (levelNeed st 1) (levelNeed st 2) (levelNeed st 3) (levelNeed st 4)
+memoryNeed st = sizesAs (record { samples = samplesNeed st; l1 = levelNeed st 1; l2 = levelNeed st 2; l3 = levelNeed st 3; l4 = levelNeed st 4 })
 
 abbrev pub neededOf : Needed → Answer Lent
 neededOf (needed.Refused n) = refused n
-neededOf (needed.Memory m) = given (lentNumbers (m .samples) (m .l1) (m .l2) (m .l3) (m .l4))
+neededOf (needed.Memory m) = given (sizesAs m)
 
 -- ---- start
 abbrev pub startedOf : Started → Answer Store

@@ -18,8 +18,9 @@ markOf (At k) = some k
 abbrev pub storeOf : Capture → Store
 storeOf c = record { unit = c .unitsize; capacity = c .capacity; len = c .len; mark = markOf (c .trigger) }
 
-abbrev pub lentNumbers : ℕ → ℕ → ℕ → ℕ → ℕ → Lent
-lentNumbers samples n1 n2 n3 n4 = record { samples = samples; level = levelOf n1 n2 n3 n4 }
+-- lengths of slices, as the code gives them
+abbrev pub sizesAs : Sizes → Lent
+sizesAs n = record { samples = n .samples; level = levelOf (n .l1) (n .l2) (n .l3) (n .l4) }
 
 -- the lent slices, levels as a function of the level
 abbrev pub lentOf : List ℕ → (ℕ → List ℕ) → Lent

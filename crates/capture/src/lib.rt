@@ -10,7 +10,7 @@ ghost use Rattle.rules.specs.Sample.{unitOf, sampleOf};
 ghost use Rattle.rules.specs.Answer.{unless};
 ghost use Rattle.rules.specs.Refusal.{unitWrong, markWrong, storeWrong, lentShort, storeRefusal, fresh, copied};
 ghost use Rattle.node.specs.Memory.{levelOf};
-ghost use Rattle.capture.specs.Record.{markOf, storeOf, lentNumbers, lentOf, Small, Sized};
+ghost use Rattle.capture.specs.Record.{markOf, storeOf, lentOf, Small, Sized};
 ghost use Rattle.capture.specs.Calls.{neededOf, needRefusal, memoryNeed, startedOf, gotOf, Source, Copies, RawLies, RawPart};
 
 // 01's mark: the place of the firing sample, once there is one.
@@ -92,34 +92,48 @@ fn sizes_of(c: Capture) -> Sizes
 }
 
 // Row 2: a lent slice is shorter than needed.
-pub fn memory_short(c: Capture, samples: usize, n1: usize, n2: usize, n3: usize, n4: usize) -> bool
+pub fn memory_short<'a>(
+    c: Capture,
+    samples: &[u8],
+    l1: &'a [Mask],
+    l2: &'a [Mask],
+    l3: &'a [Mask],
+    l4: &'a [Mask],
+) -> bool
     requires { ⌜ Small c ⌝ }
-    ensures { λ r. ⌜ r ≡ lentShort (storeOf c) (lentNumbers samples n1 n2 n3 n4) ⌝ }
+    ensures { λ r. ⌜ r ≡ lentShort (storeOf c) (lentOf (now (samples .entry)) (levelOf (now (l1 .entry)) (now (l2 .entry)) (now (l3 .entry)) (now (l4 .entry)))) ⌝ }
 {
     let need = sizes_of(c);
-    if samples < need.samples {
+    if samples.len() < need.samples {
         return true;
     }
-    if n1 < need.l1 {
+    if l1.len() < need.l1 {
         return true;
     }
-    if n2 < need.l2 {
+    if l2.len() < need.l2 {
         return true;
     }
-    if n3 < need.l3 {
+    if l3.len() < need.l3 {
         return true;
     }
-    n4 < need.l4
+    l4.len() < need.l4
 }
 
-// Rows 1 and 2 of every call: the number of the first that holds, or 0.
-pub fn refusal(c: Capture, samples: usize, n1: usize, n2: usize, n3: usize, n4: usize) -> u8
-    ensures { λ r. ⌜ r ≡ storeRefusal (storeOf c) (lentNumbers samples n1 n2 n3 n4) ⌝ }
+// Rows 1 and 2, the check of every call: the number of the first that holds, or 0.
+pub fn refusal<'a>(
+    c: Capture,
+    samples: &[u8],
+    l1: &'a [Mask],
+    l2: &'a [Mask],
+    l3: &'a [Mask],
+    l4: &'a [Mask],
+) -> u8
+    ensures { λ r. ⌜ r ≡ storeRefusal (storeOf c) (lentOf (now (samples .entry)) (levelOf (now (l1 .entry)) (now (l2 .entry)) (now (l3 .entry)) (now (l4 .entry)))) ⌝ }
 {
     if record_wrong(c) {
         return 1;
     }
-    if memory_short(c, samples, n1, n2, n3, n4) {
+    if memory_short(c, samples, l1, l2, l3, l4) {
         return 2;
     }
     0
@@ -182,7 +196,7 @@ pub fn start<'a>(
     ensures { λ r. ⌜ startedOf r ≡ unless (storeRefusal (fresh channels capacity) (lentOf (now (samples .entry)) (levelOf (now (l1 .entry)) (now (l2 .entry)) (now (l3 .entry)) (now (l4 .entry))))) (fresh channels capacity) ⌝ }
 {
     let c = empty(channels, capacity);
-    let n = refusal(c, samples.len(), l1.len(), l2.len(), l3.len(), l4.len());
+    let n = refusal(c, samples, l1, l2, l3, l4);
     if n != 0 {
         return Started::Refused(n);
     }
@@ -206,7 +220,7 @@ pub fn get<'a>(
 ) -> Got
     ensures { λ r. ⌜ gotOf r ≡ getAnswer (storeOf c) (lentOf (now (samples .entry)) (levelOf (now (l1 .entry)) (now (l2 .entry)) (now (l3 .entry)) (now (l4 .entry)))) (sampleOf (c .unitsize) (now (samples .entry))) i ⌝ }
 {
-    let n = refusal(c, samples.len(), l1.len(), l2.len(), l3.len(), l4.len());
+    let n = refusal(c, samples, l1, l2, l3, l4);
     if n != 0 {
         return Got::Refused(n);
     }
@@ -261,7 +275,7 @@ pub fn samples<'a>(
 ) -> Copied
     ensures { λ r. ⌜ Copies (storeOf c) (now (bytes .entry)) (levelOf (now (l1 .entry)) (now (l2 .entry)) (now (l3 .entry)) (now (l4 .entry))) start count (now (output .entry)) r (now (output .exit)) ⌝ }
 {
-    let n = refusal(c, bytes.len(), l1.len(), l2.len(), l3.len(), l4.len());
+    let n = refusal(c, bytes, l1, l2, l3, l4);
     if n != 0 {
         return Copied::Refused(n);
     }
@@ -305,7 +319,7 @@ pub fn raw_part<'a>(
 ) -> Part
     ensures { λ r. ⌜ RawLies (storeOf c) (now (samples .entry)) (levelOf (now (l1 .entry)) (now (l2 .entry)) (now (l3 .entry)) (now (l4 .entry))) chunk (r .from) (r .to) ⌝ }
 {
-    let n = refusal(c, samples.len(), l1.len(), l2.len(), l3.len(), l4.len());
+    let n = refusal(c, samples, l1, l2, l3, l4);
     if n != 0 {
         return Part { from: 0, to: 0 };
     }

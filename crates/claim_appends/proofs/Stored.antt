@@ -149,7 +149,7 @@ module _ (u capacity : ℕ) where
         go (yes h) = subst⁻¹ Done (lt-leb (length xs + sampleCount u bytes) capacity (omega (arith, capacity-is, len-is, count-is))) (kept-now xs (omega (arith, len-is, none)) (omega (arith, before .len-most, none)) old, equations call-of .number-is ∙ sym full)
           where
             full : 8 ≡ number
-            full = refused-full c bytes (m .samples) (levels m) (k .passes) h
+            full = refused-full c bytes (m .samples) (levels m) refl (k .passes) h
 
             none : more ≡ 0
             none = taken-none c bytes (m .samples) (levels m) (λ z. omega (arith, full))
@@ -160,7 +160,7 @@ module _ (u capacity : ℕ) where
             )
           where
             passed : 0 ≡ number
-            passed = refused-none c bytes (m .samples) (levels m) (k .passes) (omega arith)
+            passed = refused-none c bytes (m .samples) (levels m) refl (k .passes) (omega arith)
 
             all : more ≡ n
             all = taken-all c bytes (m .samples) (levels m) (sym passed)

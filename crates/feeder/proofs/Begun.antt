@@ -13,10 +13,10 @@ use Rattle.rules.specs.Sample.{unitOf}
 use Rattle.rules.specs.Pretrigger as rule
 use Rattle.rules.specs.Trigger as trigger
 use Rattle.rules.specs.Selection.{Settings, preOf}
-use Rattle.rules.specs.Refusal.{Store, Lent, Row, firstOf, storeRows, storeRefusal, fresh, ringNeed, lineWrong, wishWrong, numberWrong, startRefusal, startRows, settingsRows, preRow}
+use Rattle.rules.specs.Refusal.{Store, Lent, Row, firstOf, storeRefusal, fresh, ringNeed, lineWrong, wishWrong, numberWrong, startRefusal, startRows, settingsRows, preRow}
 use Rattle.rules.specs.Answer.{Answer, refused, given, unless}
 use Rattle.rules.proofs.Refusal.{neither, Sound, SoundRecorder}
-use Rattle.capture.proofs.Answer.{refused-is, unless-given}
+use Rattle.capture.proofs.Answer.{refused-is, unless-given, stopped, rows-refuse, rows-decide}
 use Rattle.terms.specs.declared.Terms.{Terms}
 use Rattle.terms.specs.declared.TriggerTerm.{TriggerTerm}
 use Rattle.terms.specs.Terms.{noTerms, withTerm, withTerms, termsOf, armedBy}
@@ -26,7 +26,7 @@ use Rattle.feeder.specs.declared.Feeder.{Feeder}
 use Rattle.feeder.specs.declared.Started.the-variants.{Fresh}
 use Rattle.feeder.specs.Record.{wishOf, recorderOf}
 use Rattle.feeder.specs.Start.{freshOf, startedOf, answerOf, startOf, settingsOf, Workable}
-use Rattle.feeder.proofs.Rows.{Numbered, Passed, all-passed, rows-stop, rows-then, store-passed}
+use Rattle.feeder.proofs.Rows.{Numbered, Passed, all-passed, rows-then, store-passed}
 
 -- ---- refusals as answers
 -- where a row holds, the record does not matter
@@ -35,7 +35,7 @@ unless-same zero a b h = ap given (h refl)
 unless-same (suc n) a b h = refl
 
 -- ---- rows 1 to 6; n is the number of the first of rows 1 and 2
-module _ (st : Store) (lent : Lent) (limit : ℕ) (wrong : Bool) (wish : rule.Pretrigger) (rate n : ℕ) (told : n ≡ storeRefusal st lent) where
+module _ (st : Store) (lent : Lent) (limit : ℕ) (wrong : Bool) (wish : rule.Pretrigger) (rate : ℕ) {n : ℕ} (told : n ≡ storeRefusal st lent) where
   abbrev four : List Row
   four =
       record { number = 3; holds = wrong }
@@ -45,13 +45,12 @@ module _ (st : Store) (lent : Lent) (limit : ℕ) (wrong : Bool) (wish : rule.Pr
       ∷ []
 
   pub store-row : (n ≡ 0 → ⊥) → n ≡ firstOf (settingsRows st lent limit wrong wish rate [])
-  store-row h = told ∙ sym (rows-stop (storeRows st lent []) four (λ z. h (told ∙ z)))
+  store-row h = rows-refuse st lent four told h
 
   pub row-by : n ≡ 0 → (c3 c4 c5 c6 : Bool) → wrong ≡ c3 → ltb (st .capacity) limit ≡ c4 → wishWrong wish limit ≡ c5 → numberWrong wish rate ≡ c6
       → cond {A = ℕ} c3 3 (cond c4 4 (cond c5 5 (cond c6 6 0))) ≡ firstOf (settingsRows st lent limit wrong wish rate [])
   row-by h c3 c4 c5 c6 e3 e4 e5 e6 =
-      go wrong (ltb (st .capacity) limit) (wishWrong wish limit) (numberWrong wish rate) e3 e4 e5 e6
-      ∙ sym (rows-then (storeRows st lent []) four (omega arith, (omega arith, tt)) (sym told ∙ h))
+      rows-decide st lent four told h _ (go wrong (ltb (st .capacity) limit) (wishWrong wish limit) (numberWrong wish rate) e3 e4 e5 e6)
     where
       go : (a b c d : Bool) → a ≡ c3 → b ≡ c4 → c ≡ c5 → d ≡ c6 → cond {A = ℕ} c3 3 (cond c4 4 (cond c5 5 (cond c6 6 0))) ≡ cond a 3 (cond b 4 (cond c 5 (cond d 6 0)))
       go a b c d e3 e4 e5 e6 = cc
@@ -73,12 +72,12 @@ module _ (channels capacity limit : ℕ) (terms : Terms) (wish : Pretrigger) (ra
   numbered : Numbered rows
   numbered = (omega arith, (omega arith, (omega arith, (omega arith, (omega arith, (omega arith, tt))))))
 
-  module _ (n : ℕ) (told : n ≡ firstOf rows) where
+  module _ {n : ℕ} (told : n ≡ firstOf rows) where
     -- one of the rows 1 to 6
     pub start-refused : (n ≡ 0 → ⊥) → refused n ≡ startOf channels capacity limit terms wish rate lent ring
     start-refused h =
         let kept = rule.preFor (wishOf wish) limit rate u in
-        refused-is (freshOf u capacity limit (armedBy terms) kept) _ n (rows-stop rows (preRow store (kept .samples) ring ∷ []) (λ z. h (told ∙ z)) ∙ sym told) h
+        refused-is (freshOf u capacity limit (armedBy terms) kept) (told ∙ sym (stopped rows (preRow store (kept .samples) ring ∷ []) (λ z. h (told ∙ z)))) h
         ∙ start-is kept refl
 
     module _ (none-holds : n ≡ 0) where

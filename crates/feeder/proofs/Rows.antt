@@ -26,15 +26,6 @@ all-passed (r ∷ rows) n e =
     let t = row-passed (r .number) (firstOf rows) (r .holds) (n .0) .0 e in
     (t .0, all-passed rows (n .1) (t .1))
 
--- a row that holds decides, whatever rows come after it
-stop-cons : (b : Bool) (n x y : ℕ) → (cond b n y ≡ 0 → ⊥) → ((y ≡ 0 → ⊥) → x ≡ y) → cond b n x ≡ cond b n y
-stop-cons true n x y h f = refl
-stop-cons false n x y h f = f h
-
-pub rows-stop : (rows more : List Row) → (firstOf rows ≡ 0 → ⊥) → firstOf (rows ++ more) ≡ firstOf rows
-rows-stop [] more h = absurd (h refl)
-rows-stop (r ∷ rows) more h = stop-cons (r .holds) (r .number) (firstOf (rows ++ more)) (firstOf rows) h (rows-stop rows more)
-
 -- where none of the first rows holds, the others decide
 pub rows-then : (rows more : List Row) → Numbered rows → firstOf rows ≡ 0 → firstOf (rows ++ more) ≡ firstOf more
 rows-then [] more n e = refl
@@ -93,7 +84,7 @@ past-2 false n e h = refl
 abbrev two : Bool → Bool → Bool → Bool → ℕ
 two w a s g = cond (w || a) 1 (cond (s || g) 2 0)
 
-module _ (r : Recorder) (lent : Lent) (ring n : ℕ) (told : n ≡ storeRefusal (r .store) lent) where
+module _ (r : Recorder) (lent : Lent) (ring : ℕ) {n : ℕ} (told : n ≡ storeRefusal (r .store) lent) where
   abbrev wrong : Bool
   wrong = storeWrong (r .store)
 

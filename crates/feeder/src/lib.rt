@@ -17,7 +17,8 @@ ghost use Rattle.rules.specs.Pretrigger.{preFor};
 ghost use Rattle.rules.specs.Refusal.{firstOf, wishWrong, numberWrong, placeWrong, settingWrong, recorderRefusal, settingsRows};
 ghost use Rattle.terms.specs.Terms.{armedBy};
 ghost use Rattle.float.specs.Samples.{keptAs};
-ghost use Rattle.capture.specs.Record.{storeOf, lentNumbers};
+ghost use Rattle.node.specs.Memory.{levelOf};
+ghost use Rattle.capture.specs.Record.{storeOf, lentOf};
 ghost use Rattle.feeder.specs.Record.{wishOf, armedAs, recorderOf};
 ghost use Rattle.feeder.specs.Start.{Workable, startedOf, startOf, settingsOf};
 
@@ -89,19 +90,19 @@ fn place_wrong(pre: usize, place: usize) -> bool
 }
 
 // Rows 1 and 2 of push: the number of the first that holds, or 0.
-pub fn refusal_of(
+pub fn refusal_of<'a>(
     f: Feeder,
-    samples: usize,
-    n1: usize,
-    n2: usize,
-    n3: usize,
-    n4: usize,
-    ring: usize,
+    samples: &[u8],
+    l1: &'a [Mask],
+    l2: &'a [Mask],
+    l3: &'a [Mask],
+    l4: &'a [Mask],
+    ring: &[u8],
 ) -> u8
-    ensures { λ r. ⌜ r ≡ recorderRefusal (recorderOf f) (lentNumbers samples n1 n2 n3 n4) ring ⌝ }
+    ensures { λ r. ⌜ r ≡ recorderRefusal (recorderOf f) (lentOf (now (samples .entry)) (levelOf (now (l1 .entry)) (now (l2 .entry)) (now (l3 .entry)) (now (l4 .entry)))) (length (now (ring .entry))) ⌝ }
 {
     let capture = f.capture;
-    let first = capture::refusal(capture, samples, n1, n2, n3, n4);
+    let first = capture::refusal(capture, samples, l1, l2, l3, l4);
     if first == 1 {
         return 1;
     }
@@ -111,7 +112,7 @@ pub fn refusal_of(
     if first != 0 {
         return first;
     }
-    if ring < f.pre * capture.unitsize {
+    if ring.len() < f.pre * capture.unitsize {
         return 2;
     }
     0
@@ -164,21 +165,21 @@ fn pretrigger_samples(wish: Pretrigger, limit: usize, rate: usize, unit: usize) 
 }
 
 // Rows 1 to 6: the number of the first that holds, or 0.
-fn settings_refusal(
+fn settings_refusal<'a>(
     fresh: Capture,
     limit: usize,
     wrong: bool,
     wish: Pretrigger,
     rate: usize,
-    samples: usize,
-    n1: usize,
-    n2: usize,
-    n3: usize,
-    n4: usize,
+    samples: &[u8],
+    l1: &'a [Mask],
+    l2: &'a [Mask],
+    l3: &'a [Mask],
+    l4: &'a [Mask],
 ) -> u8
-    ensures { λ r. ⌜ r ≡ firstOf (settingsRows (storeOf fresh) (lentNumbers samples n1 n2 n3 n4) limit wrong (wishOf wish) rate []) ⌝ }
+    ensures { λ r. ⌜ r ≡ firstOf (settingsRows (storeOf fresh) (lentOf (now (samples .entry)) (levelOf (now (l1 .entry)) (now (l2 .entry)) (now (l3 .entry)) (now (l4 .entry)))) limit wrong (wishOf wish) rate []) ⌝ }
 {
-    let first = capture::refusal(fresh, samples, n1, n2, n3, n4);
+    let first = capture::refusal(fresh, samples, l1, l2, l3, l4);
     if first != 0 {
         return first;
     }
@@ -230,7 +231,7 @@ pub fn start<'a>(
     l4: &'a [Mask],
     ring: &[u8],
 ) -> Started
-    ensures { λ r. ⌜ startedOf r ≡ startOf channels capacity limit terms wish rate (lentNumbers (length (now (samples .entry))) (length (now (l1 .entry))) (length (now (l2 .entry))) (length (now (l3 .entry))) (length (now (l4 .entry)))) (length (now (ring .entry))) ⌝ }
+    ensures { λ r. ⌜ startedOf r ≡ startOf channels capacity limit terms wish rate (lentOf (now (samples .entry)) (levelOf (now (l1 .entry)) (now (l2 .entry)) (now (l3 .entry)) (now (l4 .entry)))) (length (now (ring .entry))) ⌝ }
 {
     let unitsize = unit_of(channels);
     let fresh = Capture {
@@ -245,11 +246,11 @@ pub fn start<'a>(
         terms.wrong,
         wish,
         rate,
-        samples.len(),
-        l1.len(),
-        l2.len(),
-        l3.len(),
-        l4.len(),
+        samples,
+        l1,
+        l2,
+        l3,
+        l4,
     );
     if number != 0 {
         return Started::Refused(number);
@@ -289,7 +290,7 @@ pub fn start_one<'a>(
     l4: &'a [Mask],
     ring: &[u8],
 ) -> Started
-    ensures { λ r. ⌜ startedOf r ≡ startRule (settingsOf channels capacity limit (term ∷ []) wish rate) (lentNumbers (length (now (samples .entry))) (length (now (l1 .entry))) (length (now (l2 .entry))) (length (now (l3 .entry))) (length (now (l4 .entry)))) (length (now (ring .entry))) ⌝ }
+    ensures { λ r. ⌜ startedOf r ≡ startRule (settingsOf channels capacity limit (term ∷ []) wish rate) (lentOf (now (samples .entry)) (levelOf (now (l1 .entry)) (now (l2 .entry)) (now (l3 .entry)) (now (l4 .entry)))) (length (now (ring .entry))) ⌝ }
 {
     let terms = Terms::none().with(term);
     start(

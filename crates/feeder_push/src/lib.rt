@@ -49,12 +49,12 @@ pub fn push(
 {
     let number = refusal_of(
         f,
-        samples.len(),
-        l1.len(),
-        l2.len(),
-        l3.len(),
-        l4.len(),
-        ring.len(),
+        &samples[..],
+        &l1[..],
+        &l2[..],
+        &l3[..],
+        &l4[..],
+        &ring[..],
     );
     if number != 0 {
         return Pushed::Refused(number, f);

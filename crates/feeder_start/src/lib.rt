@@ -6,7 +6,8 @@ use terms::TriggerTerm;
 ghost use mathlib.Core.Path.{_≡_};
 ghost use lib.ListN.{length};
 ghost use Rattle.rules.specs.Start.{startRule};
-ghost use Rattle.capture.specs.Record.{lentNumbers};
+ghost use Rattle.node.specs.Memory.{levelOf};
+ghost use Rattle.capture.specs.Record.{lentOf};
 ghost use Rattle.feeder.specs.Start.{startedOf, settingsOf};
 
 // 01's start of a recorder. Its answer is 01's for the settings: feeder/proofs/Begun, start-rule.
@@ -24,7 +25,7 @@ pub fn start_list<'a>(
     l4: &'a [Mask],
     ring: &[u8],
 ) -> Started
-    ensures { λ r. ⌜ startedOf r ≡ startRule (settingsOf channels capacity limit (now (terms .entry)) wish rate) (lentNumbers (length (now (samples .entry))) (length (now (l1 .entry))) (length (now (l2 .entry))) (length (now (l3 .entry))) (length (now (l4 .entry)))) (length (now (ring .entry))) ⌝ }
+    ensures { λ r. ⌜ startedOf r ≡ startRule (settingsOf channels capacity limit (now (terms .entry)) wish rate) (lentOf (now (samples .entry)) (levelOf (now (l1 .entry)) (now (l2 .entry)) (now (l3 .entry)) (now (l4 .entry)))) (length (now (ring .entry))) ⌝ }
 {
     feeder::start(
         channels,

@@ -5,6 +5,7 @@ use capture::memory_short;
 use capture::unit_wrong;
 use feeder_numbers::masks_in;
 use feeder_numbers::previous_in;
+use lines::Mask;
 use lines::get;
 use scan::any_level;
 use scan::fire_few;
@@ -16,7 +17,8 @@ ghost use Prim.Native.Nat.{_+_, _≤_};
 ghost use lib.Dec.{ltb};
 ghost use lib.ListN.{length};
 ghost use lib.Seq.{sets, paste};
-ghost use Rattle.capture.specs.Record.{lentNumbers};
+ghost use Rattle.node.specs.Memory.{levelOf};
+ghost use Rattle.capture.specs.Record.{lentOf};
 ghost use Rattle.scan.specs.Scan.{Holds};
 ghost use Rattle.feeder_wait.specs.Wait.{Waiting, fireOf, Count, CopyRoom, FewRoom, FewAfter, ShortAfter};
 
@@ -24,16 +26,16 @@ const MOST_SAMPLES: usize = 67108864;
 
 // Whether it waits with nothing stored, as start and push leave its numbers, and neither row 1 nor row 2 holds.
 // The order is for speed: tests with no read between them are joined to a longer one, memory after more tests is a call, and numbers read early are kept in registers for the ordinary push.
-fn waits(
+fn waits<'a>(
     numbers: &[usize; 17],
-    samples: usize,
-    n1: usize,
-    n2: usize,
-    n3: usize,
-    n4: usize,
+    samples: &[u8],
+    l1: &'a [Mask],
+    l2: &'a [Mask],
+    l3: &'a [Mask],
+    l4: &'a [Mask],
     ring: usize,
 ) -> bool
-    ensures { λ r. ⌜ (r ≡ true → Waiting (now (numbers .entry)) (lentNumbers samples n1 n2 n3 n4) ring) ⌝ }
+    ensures { λ r. ⌜ (r ≡ true → Waiting (now (numbers .entry)) (lentOf (now (samples .entry)) (levelOf (now (l1 .entry)) (now (l2 .entry)) (now (l3 .entry)) (now (l4 .entry)))) ring) ⌝ }
 {
     if numbers[7] != 1 {
         return false;
@@ -52,7 +54,7 @@ fn waits(
         len: 0,
         trigger: Mark::Absent,
     };
-    if memory_short(capture, samples, n1, n2, n3, n4) {
+    if memory_short(capture, samples, l1, l2, l3, l4) {
         return false;
     }
     if capacity < numbers[5] {
@@ -181,19 +183,19 @@ fn count_in(unitsize: usize, len: usize) -> usize
 const SHORT: usize = 8;
 
 // A push of these bytes, where it is short and its samples go to the ring: true, and what it leaves; else false, and nothing is written.
-pub fn wait_short(
+pub fn wait_short<'a>(
     numbers: &mut [usize; 17],
-    samples: usize,
-    n1: usize,
-    n2: usize,
-    n3: usize,
-    n4: usize,
+    samples: &[u8],
+    l1: &'a [Mask],
+    l2: &'a [Mask],
+    l3: &'a [Mask],
+    l4: &'a [Mask],
     ring: &mut [u8],
     bytes: &[u8],
 ) -> bool
-    ensures { λ r. ⌜ ShortAfter r (now (numbers .entry)) (lentNumbers samples n1 n2 n3 n4) (now (ring .entry)) (now (bytes .entry)) (now (numbers .exit)) (now (ring .exit)) ⌝ }
+    ensures { λ r. ⌜ ShortAfter r (now (numbers .entry)) (lentOf (now (samples .entry)) (levelOf (now (l1 .entry)) (now (l2 .entry)) (now (l3 .entry)) (now (l4 .entry)))) (now (ring .entry)) (now (bytes .entry)) (now (numbers .exit)) (now (ring .exit)) ⌝ }
 {
-    let waiting = waits(&*numbers, samples, n1, n2, n3, n4, ring.len());
+    let waiting = waits(&*numbers, samples, l1, l2, l3, l4, ring.len());
     if !waiting {
         return false;
     }

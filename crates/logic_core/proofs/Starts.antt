@@ -1,5 +1,5 @@
 -- From the answer of a recorder's start to what the boundary says.
-use mathlib.Core.Path.{_≡_, ap, ap₂, _∙_}
+use mathlib.Core.Path.{_≡_, ap₂, _∙_}
 use mathlib.Core.Bool.{Bool}
 use mathlib.Core.List.{List}
 use Prim.Native.Nat.{ℕ}
@@ -7,7 +7,6 @@ use lib.Ieee.{Float}
 use lib.ListN.{length}
 use Rattle.rules.specs.Start.{Begun}
 use Rattle.rules.specs.Answer.{Answer}
-use Rattle.rules.specs.Refusal.{Lent}
 use Rattle.capture.specs.Record.{lentOf}
 use Rattle.terms.specs.declared.Terms.{Terms}
 use Rattle.terms.specs.Terms.{termsOf}
@@ -26,19 +25,18 @@ module _ (channels capacity limit : ℕ) (bytes : List ℕ) (seconds : Bool) (x 
   answer = begunFor channels capacity limit bytes seconds x rate samples levels ring
 
   -- the call over the terms that the bytes come to
-  begun-is : {terms : Terms} {wish : Pretrigger} {lent : Lent} (r : Started)
-      → lent ≡ lentOf samples levels → terms ≡ termsOf (termsIn bytes) → wish ≡ wishIn seconds x
-      → startedOf r ≡ startOf channels capacity limit terms wish rate lent (length ring)
+  begun-is : {terms : Terms} {wish : Pretrigger} (r : Started)
+      → terms ≡ termsOf (termsIn bytes) → wish ≡ wishIn seconds x
+      → startedOf r ≡ startOf channels capacity limit terms wish rate (lentOf samples levels) (length ring)
       → startedOf r ≡ answer
-  begun-is {terms} {wish} r d e f g =
+  begun-is r e f g =
       g
-      ∙ ap (λ (l : Lent). startOf channels capacity limit terms wish rate l (length ring)) d
       ∙ ap₂ (λ (t : Terms) (w : Pretrigger). startOf channels capacity limit t w rate (lentOf samples levels) (length ring)) e f
       ∙ start-rule channels capacity limit (termsIn bytes) (wishIn seconds x) rate (lentOf samples levels) (length ring)
 
-  pub starts-told : {terms : Terms} {wish : Pretrigger} {lent : Lent} (r : Started) (code : ℕ) (numbers numbers′ : List ℕ) (cut cut′ : ℕ)
-      → lent ≡ lentOf samples levels → terms ≡ termsOf (termsIn bytes) → wish ≡ wishIn seconds x
-      → startedOf r ≡ startOf channels capacity limit terms wish rate lent (length ring)
+  pub starts-told : {terms : Terms} {wish : Pretrigger} (r : Started) (code : ℕ) (numbers numbers′ : List ℕ) (cut cut′ : ℕ)
+      → terms ≡ termsOf (termsIn bytes) → wish ≡ wishIn seconds x
+      → startedOf r ≡ startOf channels capacity limit terms wish rate (lentOf samples levels) (length ring)
       → Out begunNumbers (plain (startedOf r)) code numbers numbers′ × Out cutNumber (plain (startedOf r)) code cut cut′
       → Out begunNumbers (plain answer) code numbers numbers′ × Out cutNumber (plain answer) code cut cut′
-  starts-told r code numbers numbers′ cut cut′ d e f g o = (told begunNumbers plain startedOf r code numbers numbers′ (begun-is r d e f g) (o .0), told cutNumber plain startedOf r code cut cut′ (begun-is r d e f g) (o .1))
+  starts-told r code numbers numbers′ cut cut′ e f g o = (told begunNumbers plain startedOf r code numbers numbers′ (begun-is r e f g) (o .0), told cutNumber plain startedOf r code cut cut′ (begun-is r e f g) (o .1))

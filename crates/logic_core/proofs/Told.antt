@@ -4,15 +4,12 @@ use mathlib.Core.Bool.{Bool, true, false}
 use mathlib.Core.List.{List}
 use Prim.Native.Nat.{ℕ, _-_}
 use native.Mathlib.Nat.{sub-self}
-use lib.ListN.{length, getD}
+use lib.ListN.{getD}
 use Rattle.rules.specs.Selection.{going-on}
-use Rattle.rules.specs.Refusal.{Lent}
 use Rattle.rebuild.proofs.Right.{after-none}
 use Rattle.store.specs.Stored.{firstNodes}
 use Rattle.rules.specs.Push.{Left, leftOf}
-use Rattle.node.specs.Memory.{levelOf}
-use Rattle.capture.specs.Record.{lentNumbers, lentOf}
-use Rattle.capture.proofs.Answer.{lent-same}
+use Rattle.capture.specs.Record.{lentOf}
 use Rattle.feeder.specs.declared.Feeder.{Feeder}
 use Rattle.feeder.specs.Record.{recorderOf}
 use Rattle.feeder_push.specs.declared.Pushed.{Pushed}
@@ -56,15 +53,9 @@ short-told numbers bytes samples levels ring numbers′ ring′ d = record {
     same l = sym (after-none (firstNodes (getD numbers 0 0) samples (levels 1) (getD numbers 2 0) (getD numbers 2 0)) levels (getD numbers 2 0) (getD numbers 2 0 - getD numbers 2 0) l (sub-self (getD numbers 2 0)))
 
 -- the two answers of a short push, t
-module _ (bytes samples l1 l2 l3 l4 : List ℕ) (numbers ring numbers₁ ring₁ : List ℕ) (t : Bool) (d : ShortAfter t numbers (lentNumbers (length samples) (length l1) (length l2) (length l3) (length l4)) ring bytes numbers₁ ring₁) where
-  abbrev levels : ℕ → List ℕ
-  levels = levelOf l1 l2 l3 l4
-
+module _ (bytes samples : List ℕ) (levels : ℕ → List ℕ) (numbers ring numbers₁ ring₁ : List ℕ) (t : Bool) (d : ShortAfter t numbers (lentOf samples levels) ring bytes numbers₁ ring₁) where
   pub waited-told : t ≡ true → PushesOut (feederFrom numbers) bytes samples levels ring 0 numbers numbers₁ samples levels ring₁
-  waited-told e =
-      short-told numbers bytes samples levels ring numbers₁ ring₁
-      (subst (λ (x : Lent). ShortWent numbers x ring bytes numbers₁ ring₁) (lent-same samples l1 l2 l3 l4)
-      (subst (λ (x : Bool). ShortAfter x numbers (lentNumbers (length samples) (length l1) (length l2) (length l3) (length l4)) ring bytes numbers₁ ring₁) e d))
+  waited-told e = short-told numbers bytes samples levels ring numbers₁ ring₁ (subst (λ (x : Bool). ShortAfter x numbers (lentOf samples levels) ring bytes numbers₁ ring₁) e d)
 
   -- it left all as it was: what is said of the numbers and the ring after it holds of those before
   pub passed-told : t ≡ false → {code : ℕ} {numbers′ samples′ : List ℕ} {levels′ : ℕ → List ℕ} {ring′ : List ℕ}
@@ -73,4 +64,4 @@ module _ (bytes samples l1 l2 l3 l4 : List ℕ) (numbers ring numbers₁ ring₁
       subst₂ (λ (n g : List ℕ). PushesOut (feederFrom n) bytes samples levels g code n numbers′ samples′ levels′ ring′) (same .numbers-same) (same .ring-same) p
     where
       same : Untouched numbers ring numbers₁ ring₁
-      same = subst (λ (x : Bool). ShortAfter x numbers (lentNumbers (length samples) (length l1) (length l2) (length l3) (length l4)) ring bytes numbers₁ ring₁) e d
+      same = subst (λ (x : Bool). ShortAfter x numbers (lentOf samples levels) ring bytes numbers₁ ring₁) e d

@@ -62,11 +62,11 @@ pub extern "C" fn lc_push(
 {
     let waited = feeder_wait::wait_short(
         numbers,
-        samples.len(),
-        l1.len(),
-        l2.len(),
-        l3.len(),
-        l4.len(),
+        &samples[..],
+        &l1[..],
+        &l2[..],
+        &l3[..],
+        &l4[..],
         ring,
         bytes,
     );

@@ -2,30 +2,18 @@
 use Prim.Native.Nat.{ℕ, zero, suc, _≤_}
 use mathlib.Core.Path.{_≡_, refl, sym, ap, _∙_}
 use mathlib.Core.Bool.{Bool, true, false, cond}
-use mathlib.Core.List.{List, [], _∷_, _++_}
+use mathlib.Core.List.{List, [], _++_}
 use mathlib.Core.Option.{Option, none, some}
 use native.Mathlib.Omega.{arith}
 use lib.IntN.{ℤ}
-use lib.ListN.{length}
 use Rattle.rules.specs.Answer.{refused, given, unless, seen}
 use Rattle.rules.specs.Refusal.{Store, Lent, Row, firstOf, storeRows, mostSamples}
 use Rattle.rules.specs.Mill.{originOf, beforeFirst}
 use Rattle.rules.proofs.Refusal.{Sound, MarkInside, rows-passed, rows-rest}
-use Rattle.node.specs.Memory.{levelOf}
-use Rattle.capture.specs.Record.{lentNumbers, lentOf}
-use Rattle.capture.proofs.Answer.{refused-is, lent-same}
+use Rattle.capture.proofs.Answer.{refused-is, given-is, stopped}
 use Rattle.mill.specs.Reader.{millRows}
 
 -- ---- rows
--- a row that refuses does so whatever comes after it
-stopped : (rows rest : List Row) → (firstOf rows ≡ 0 → ⊥) → firstOf (rows ++ rest) ≡ firstOf rows
-stopped [] rest h = absurd (h refl)
-stopped (r ∷ rows) rest h = go (r .holds) h (stopped rows rest)
-  where
-    go : (t : Bool) → (cond t (r .number) (firstOf rows) ≡ 0 → ⊥) → ((firstOf rows ≡ 0 → ⊥) → firstOf (rows ++ rest) ≡ firstOf rows) → cond t (r .number) (firstOf (rows ++ rest)) ≡ cond t (r .number) (firstOf rows)
-    go true k ih = refl
-    go false k ih = ih k
-
 -- 12, 13 and 13, by whether each holds; `rest` is what comes after them
 abbrev pub three : Bool → Bool → Bool → ℕ → ℕ
 three c d e rest = cond c 12 (cond d 13 (cond e 13 rest))
@@ -52,19 +40,12 @@ seen-unless f a zero = refl
 seen-unless f a (suc n) = refl
 
 -- ---- the mill's number n is that of its own rows
-module _ (st : Store) (samples l1 l2 l3 l4 : List ℕ) (outside : Bool) (p q : ℤ) (n : ℕ)
-    (is : n ≡ firstOf (storeRows st (lentNumbers (length samples) (length l1) (length l2) (length l3) (length l4)) (millRows st outside p q))) where
-  abbrev lent : Lent
-  lent = lentOf samples (levelOf l1 l2 l3 l4)
-
+module _ (st : Store) (lent : Lent) (outside : Bool) (p q : ℤ) {n : ℕ} (is : n ≡ firstOf (storeRows st lent (millRows st outside p q))) where
   abbrev o : ℕ
   o = originOf (st .mark)
 
-  number-is : n ≡ firstOf (storeRows st lent (millRows st outside p q))
-  number-is = is ∙ ap (λ (l : Lent). firstOf (storeRows st l (millRows st outside p q))) (lent-same samples l1 l2 l3 l4)
-
   through : n ≡ 0 → Sound st lent × MarkInside st × (three outside (beforeFirst o p) (beforeFirst o q) 0 ≡ 0)
-  through z = rows-passed st lent (millRows st outside p q) .0 (sym number-is ∙ z)
+  through z = rows-passed st lent (millRows st outside p q) .0 (sym is ∙ z)
 
   pub passed : n ≡ 0 → Passed st lent p q
   passed z =
@@ -82,19 +63,19 @@ module _ (st : Store) (samples l1 l2 l3 l4 : List ℕ) (outside : Bool) (p q : �
         rows-rest st lent (t .0) (t .1) (millRows st outside p q ++ rest) ∙ (λ i. three (b .0 i) (b .1 i) (b .2 i) (firstOf rest)) ∙ sym (rows-rest st lent (t .0) (t .1) rest)
 
     -- and where one of them refuses, it does
-    pub rows-stop : (n ≡ 0 → ⊥) → firstOf (storeRows st lent (millRows st outside p q ++ rest)) ≡ n
-    rows-stop h = stopped (storeRows st lent (millRows st outside p q)) rest (λ z. h (number-is ∙ z)) ∙ sym number-is
+    pub rows-stop : (n ≡ 0 → ⊥) → n ≡ firstOf (storeRows st lent (millRows st outside p q ++ rest))
+    rows-stop h = is ∙ sym (stopped (storeRows st lent (millRows st outside p q)) rest (λ z. h (is ∙ z)))
 
     -- the answers
     pub under-refused : {B : Type 0} (b : B) → (n ≡ 0 → ⊥) → refused n ≡ unless (firstOf (storeRows st lent (millRows st outside p q ++ rest))) b
-    under-refused b h = refused-is b _ n (rows-stop h) h
+    under-refused b h = refused-is b (rows-stop h) h
 
     pub under-given : {A B : Type 0} (show : A → B) (a : A) → n ≡ 0 → seen show (unless (firstOf (storeRows st lent rest)) a) ≡ unless (firstOf (storeRows st lent (millRows st outside p q ++ rest))) (show a)
     under-given show a z = ap (λ (k : ℕ). seen show (unless k a)) (sym (rows-under z)) ∙ seen-unless show a (firstOf (storeRows st lent (millRows st outside p q ++ rest)))
 
   -- what the service answers where rows 1 and 2 are passed
   pub given-under : {A : Type 0} (a : A) → n ≡ 0 → given a ≡ unless (firstOf (storeRows st lent [])) a
-  given-under a z = ap (λ (k : ℕ). unless k a) (sym z ∙ number-is ∙ rows-under [] z)
+  given-under a z = given-is a (is ∙ rows-under [] z) z refl
 
 -- what `place_at` requires, of the origin as the code worked it out
 pub first-placed : {st : Store} {lent : Lent} {p q : ℤ} → Passed st lent p q → (origin : ℕ) → origin ≡ originOf (st .mark) → (origin ≤ mostSamples) × (beforeFirst origin p ≡ false)

@@ -9,7 +9,8 @@ ghost use lib.ListN.{length};
 ghost use lib.Signed.{mag};
 ghost use Rattle.rules.specs.Refusal.{mostSamples, firstOf, storeRows};
 ghost use Rattle.rules.specs.Mill.{millPlace, placeAt, beforeFirst, beyond};
-ghost use Rattle.capture.specs.Record.{storeOf, lentNumbers};
+ghost use Rattle.node.specs.Memory.{levelOf};
+ghost use Rattle.capture.specs.Record.{storeOf, lentOf};
 ghost use Rattle.mill.specs.Reader.{originIn, millRows, cutFirst};
 
 // The place that counts as 0: the mark, or the first sample.
@@ -73,20 +74,20 @@ pub fn beyond(grant: Mask, mask: Mask) -> bool
 
 // Rows 1, 2, 12 and 13 of a mill's call: the number of the first that holds, or 0. A call without a mask is never outside the grant, and one with
 // a single place gives 0 as the second, which is never before the first sample.
-pub fn refusal(
+pub fn refusal<'a>(
     c: Capture,
-    samples: usize,
-    n1: usize,
-    n2: usize,
-    n3: usize,
-    n4: usize,
+    samples: &[u8],
+    l1: &'a [Mask],
+    l2: &'a [Mask],
+    l3: &'a [Mask],
+    l4: &'a [Mask],
     outside: bool,
     p: i64,
     q: i64,
 ) -> u8
-    ensures { λ r. ⌜ r ≡ firstOf (storeRows (storeOf c) (lentNumbers samples n1 n2 n3 n4) (millRows (storeOf c) outside p q)) ⌝ }
+    ensures { λ r. ⌜ r ≡ firstOf (storeRows (storeOf c) (lentOf (now (samples .entry)) (levelOf (now (l1 .entry)) (now (l2 .entry)) (now (l3 .entry)) (now (l4 .entry)))) (millRows (storeOf c) outside p q)) ⌝ }
 {
-    let number = capture::refusal(c, samples, n1, n2, n3, n4);
+    let number = capture::refusal(c, samples, l1, l2, l3, l4);
     if number != 0 {
         return number;
     }

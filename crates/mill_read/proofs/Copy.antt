@@ -15,10 +15,9 @@ use Rattle.rules.specs.Answer.{refused, unless, unrefused}
 use Rattle.rules.specs.Refusal.{Store, Lent, Row, firstOf, storeRows, copied, copyRow, samplesRefusal}
 use Rattle.rules.specs.Mill.{originOf, placeAt, millSamplesRefusal}
 use Rattle.rules.proofs.Refusal.{rows-passed, row-passed}
-use Rattle.node.specs.Memory.{levelOf}
 use Rattle.capture.specs.declared.Copied.{Copied}
 use Rattle.capture.specs.declared.Copied.the-variants.{Refused, Count}
-use Rattle.capture.specs.Record.{lentNumbers, lentOf}
+use Rattle.capture.specs.Record.{lentOf}
 use Rattle.capture.specs.Calls.{copiedOf, Copies}
 use Rattle.capture.proofs.Answer.{unless-given}
 use Rattle.capture.proofs.Calls.{none-copied, all-copied, over-none, length-over}
@@ -33,11 +32,8 @@ refusal-copies zero k m e = let z : _≡_ {A = ℕ} 0 1 = cc in absurd (omega ar
 refusal-copies (suc n) k m e = refl
 
 -- a call at the mill's place p, and the number n of the mill's rows
-module _ (st : Store) (bytes l1 l2 l3 l4 : List ℕ) (grant : ℕ) (p : ℤ) (count : ℕ) (output : List ℕ) (n : ℕ)
-    (is : n ≡ firstOf (storeRows st (lentNumbers (length bytes) (length l1) (length l2) (length l3) (length l4)) (millRows st false p (pos 0)))) where
-  abbrev levels : ℕ → List ℕ
-  levels = levelOf l1 l2 l3 l4
-
+module _ (st : Store) (bytes : List ℕ) (levels : ℕ → List ℕ) (grant : ℕ) (p : ℤ) (count : ℕ) (output : List ℕ) {n : ℕ}
+    (is : n ≡ firstOf (storeRows st (lentOf bytes levels) (millRows st false p (pos 0)))) where
   abbrev lent : Lent
   lent = lentOf bytes levels
 
@@ -56,14 +52,14 @@ module _ (st : Store) (bytes l1 l2 l3 l4 : List ℕ) (grant : ℕ) (p : ℤ) (co
 
   pub copies-refused : (n ≡ 0 → ⊥) → MillCopies st bytes levels grant p count output (Refused n) output
   copies-refused h = record {
-    answer-is = under-refused st bytes l1 l2 l3 l4 false p (pos 0) n is own k h;
-    output-is = none-copied shown i k output _ n (rows-stop st bytes l1 l2 l3 l4 false p (pos 0) n is own h) h;
+    answer-is = under-refused st lent false p (pos 0) is own k h;
+    output-is = none-copied shown i k output (rows-stop st lent false p (pos 0) is own h) h;
   }
 
   -- where the mill's rows pass, what the service answers and leaves
   module _ (z : n ≡ 0) (r : Copied) (output′ : List ℕ) (service : Copies st bytes levels i count output r output′) where
     same : millSamplesRefusal st lent p count (length output) ≡ samplesRefusal st lent i count (length output)
-    same = rows-under st bytes l1 l2 l3 l4 false p (pos 0) n is own z
+    same = rows-under st lent false p (pos 0) is own z
 
     answer : copiedOf r ≡ unless (millSamplesRefusal st lent p count (length output)) k
     answer = service .answer-is ∙ ap (λ (x : ℕ). unless x k) (sym same)
@@ -94,5 +90,5 @@ module _ (st : Store) (bytes l1 l2 l3 l4 : List ℕ) (grant : ℕ) (p : ℤ) (co
       pub copies-count : (cut-to : List ℕ) → cut-to ≡ cutFirst grant m output′ → MillCopies st bytes levels grant p count output (Count m) cut-to
       copies-count cut-to is-cut = record {
         answer-is = sym (ap copiedOf e) ∙ answer;
-        output-is = is-cut ∙ ap (cutFirst grant m) copied-is ∙ cut-over grant (sampleOf (st .unit) bytes) i m output ∙ ap (λ (x : ℕ). copiedTo shown i x output) (sym (passes .1)) ∙ all-copied shown i k output _ (same ∙ passes .0);
+        output-is = is-cut ∙ ap (cutFirst grant m) copied-is ∙ cut-over grant (sampleOf (st .unit) bytes) i m output ∙ ap (λ (x : ℕ). copiedTo shown i x output) (sym (passes .1)) ∙ all-copied shown i k output (sym (same ∙ passes .0)) refl;
       }

@@ -59,7 +59,7 @@ pub fn extent<'a>(
 ) -> Bounded
     ensures { λ r. ⌜ boundedOf r ≡ unless (storeRefusal (storeOf c) (lentOf (now (samples .entry)) (levelOf (now (l1 .entry)) (now (l2 .entry)) (now (l3 .entry)) (now (l4 .entry))))) (extentOf (storeOf c)) ⌝ }
 {
-    let number = capture::refusal(c, samples.len(), l1.len(), l2.len(), l3.len(), l4.len());
+    let number = capture::refusal(c, samples, l1, l2, l3, l4);
     if number != 0 {
         return Bounded::Refused(number);
     }
@@ -95,17 +95,7 @@ pub fn get<'a>(
 ) -> Got
     ensures { λ r. ⌜ gotOf r ≡ unless (millGetRefusal (storeOf c) (lentOf (now (samples .entry)) (levelOf (now (l1 .entry)) (now (l2 .entry)) (now (l3 .entry)) (now (l4 .entry)))) place) (bitAnd (sampleOf (c .unitsize) (now (samples .entry)) (placeAt (originIn c) place)) grant) ⌝ }
 {
-    let number = mill::refusal(
-        c,
-        samples.len(),
-        l1.len(),
-        l2.len(),
-        l3.len(),
-        l4.len(),
-        false,
-        place,
-        0,
-    );
+    let number = mill::refusal(c, samples, l1, l2, l3, l4, false, place, 0);
     if number != 0 {
         return Got::Refused(number);
     }
@@ -128,17 +118,7 @@ pub fn samples<'a>(
 ) -> Copied
     ensures { λ r. ⌜ MillCopies (storeOf c) (now (bytes .entry)) (levelOf (now (l1 .entry)) (now (l2 .entry)) (now (l3 .entry)) (now (l4 .entry))) grant start count (now (output .entry)) r (now (output .exit)) ⌝ }
 {
-    let number = mill::refusal(
-        c,
-        bytes.len(),
-        l1.len(),
-        l2.len(),
-        l3.len(),
-        l4.len(),
-        false,
-        start,
-        0,
-    );
+    let number = mill::refusal(c, bytes, l1, l2, l3, l4, false, start, 0);
     if number != 0 {
         return Copied::Refused(number);
     }
@@ -188,17 +168,7 @@ pub fn summary<'a>(
 ) -> Summed
     ensures { λ r. ⌜ summedOf r ≡ unless (millSummaryRefusal (storeOf c) (lentOf (now (samples .entry)) (levelOf (now (l1 .entry)) (now (l2 .entry)) (now (l3 .entry)) (now (l4 .entry)))) a b) (cutSummary grant (summaryOf (levelOf (now (l1 .entry)) (now (l2 .entry)) (now (l3 .entry)) (now (l4 .entry))) (sampleOf (c .unitsize) (now (samples .entry))) (c .len) (placeAt (originIn c) a) (placeAt (originIn c) b))) ⌝ }
 {
-    let number = mill::refusal(
-        c,
-        samples.len(),
-        l1.len(),
-        l2.len(),
-        l3.len(),
-        l4.len(),
-        false,
-        a,
-        b,
-    );
+    let number = mill::refusal(c, samples, l1, l2, l3, l4, false, a, b);
     if number != 0 {
         return Summed::Refused(number);
     }

@@ -57,7 +57,7 @@ module _ (κs : Lfts 3) (c : Capture) (samples l1 l2 l3 l4 : RefT (List ℕ)) (g
   pub render-refused : Answered → (number ≡ 0 → ⊥) → output′ ≡ now output
   render-refused p h =
       p .output-is
-      ∙ ap (λ (n : ℕ). millDrawn grant (summed levels s) range n (now output)) (unrefused-none number number width refl h)
+      ∙ ap (λ (n : ℕ). millDrawn grant (summed levels s) range n (now output)) (unrefused-none {n = number} refl h width)
       ∙ sym (shown-none grant (summed levels s) range (now output))
 
   -- and what stands past 2 × width stays

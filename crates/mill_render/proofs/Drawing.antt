@@ -13,9 +13,8 @@ use Rattle.rules.specs.Refusal.{Store, Lent, storeRefusal, renderRefusal}
 use Rattle.rules.specs.Mill.{originOf}
 use Rattle.rules.proofs.Refusal.{rows-passed}
 use Rattle.rules.proofs.Row.{Stored, row-length, row-same}
-use Rattle.rules.specs.Answer.{unrefused}
 use Rattle.capture.proofs.Answer.{refused-is, given-is}
-use Rattle.capture.proofs.Calls.{unrefused-none}
+use Rattle.capture.proofs.Calls.{unrefused-none, unrefused-all}
 use Rattle.render.specs.declared.Drawn.the-variants.{Refused, Done}
 use Rattle.render.specs.Render.{drawn}
 use Rattle.render.proofs.Row.{drawn-length}
@@ -49,28 +48,25 @@ unfolding millDrawn
 shown-same grant node node′ range len stored same k output = ap (λ (a : List ℕ). cutPixels grant a ++ drop (2 * k) output) (row-same node node′ range len stored same 0 k)
 
 -- ---- the mark is at most len
-pub origin-stored : (st : Store) (lent : Lent) → storeRefusal st lent ≡ 0 → originOf (st .mark) ≤ st .len
-origin-stored st lent e = origin-inside (st .mark) (st .len) (rows-passed st lent [] .0 e .1)
+pub origin-stored : (st : Store) (lent : Lent) {n : ℕ} → n ≡ storeRefusal st lent → n ≡ 0 → originOf (st .mark) ≤ st .len
+origin-stored st lent e z = origin-inside (st .mark) (st .len) (rows-passed st lent [] .0 (sym e ∙ z) .1)
 
--- ---- the promise, by any summary of ranges
-module _ (node : ℕ → ℕ → Node) (st : Store) (lent : Lent) (grant : ℕ) (v : View) (width : ℕ) (output : List ℕ) where
-  abbrev number : ℕ
-  number = renderRefusal st lent v width (length output)
-
+-- ---- the promise, by any summary of ranges; k is the number of the first row that holds
+module _ (node : ℕ → ℕ → Node) (st : Store) (lent : Lent) (grant : ℕ) (v : View) (width : ℕ) (output : List ℕ) {k : ℕ} (e : k ≡ renderRefusal st lent v width (length output)) where
   abbrev range : ℕ → Option Range
   range = rangeFrom (originOf (st .mark)) v (st .len)
 
   -- nothing is drawn
-  pub draws-refused : (k : ℕ) → number ≡ k → (k ≡ 0 → ⊥) → MillDraws node st lent grant v width output (Refused k) output
-  draws-refused k e h = record { answer-is = refused-is tt number k e h; output-is = shown-none grant node range output ∙ ap (λ (n : ℕ). millDrawn grant node range n output) (sym (unrefused-none number k width e h)) }
+  pub draws-refused : (k ≡ 0 → ⊥) → MillDraws node st lent grant v width output (Refused k) output
+  draws-refused h = record { answer-is = refused-is tt e h; output-is = shown-none grant node range output ∙ ap (λ (n : ℕ). millDrawn grant node range n output) (sym (unrefused-none e h width)) }
 
   -- every pixel is drawn, and then cut down
-  pub draws-done : (origin : ℕ) (drawn′ output′ : List ℕ) → number ≡ 0 → origin ≡ originOf (st .mark) → drawn′ ≡ drawn node (rangeFrom origin v (st .len)) width output → output′ ≡ cutFirst grant (2 * width) drawn′ → MillDraws node st lent grant v width output Done output′
-  draws-done origin drawn′ output′ e m d c = record {
-    answer-is = given-is tt number tt e refl;
+  pub draws-done : k ≡ 0 → (origin : ℕ) (drawn′ output′ : List ℕ) → origin ≡ originOf (st .mark) → drawn′ ≡ drawn node (rangeFrom origin v (st .len)) width output → output′ ≡ cutFirst grant (2 * width) drawn′ → MillDraws node st lent grant v width output Done output′
+  draws-done z origin drawn′ output′ m d c = record {
+    answer-is = given-is tt e z refl;
     output-is =
         c
         ∙ ap (cutFirst grant (2 * width)) (d ∙ ap (λ (o : ℕ). drawn node (rangeFrom o v (st .len)) width output) m)
         ∙ drawn-cut grant node range width output
-        ∙ ap (λ (x : ℕ). millDrawn grant node range (unrefused x width) output) (sym e);
+        ∙ ap (λ (x : ℕ). millDrawn grant node range x output) (sym (unrefused-all e z width));
   }

@@ -6,7 +6,6 @@ use mathlib.Core.List.{List, []}
 use mathlib.Core.Option.{Option, some}
 use native.Mathlib.Omega.{arith}
 use lib.IntN.{ℤ, pos}
-use lib.ListN.{length}
 use mir.Syntax.{w64}
 use mir.Val.{SFits, toZ, ofZ}
 use Rattle.rules.specs.Answer.{Answer, refused, given, unless, seen}
@@ -14,9 +13,9 @@ use Rattle.rules.specs.Burst.{Burst, places, burstedBy}
 use Rattle.rules.specs.Refusal.{Lent, firstOf, storeRows, storeRefusal, mostSamples}
 use Rattle.rules.specs.Mill.{placeAt, beforeFirst, beyond}
 use Rattle.rules.specs.Walk.{Counted, Walked, through, allLevels}
-use Rattle.node.specs.Memory.{levelOf, readerOf}
+use Rattle.node.specs.Memory.{readerOf}
 use Rattle.capture.specs.declared.Capture.{Capture}
-use Rattle.capture.specs.Record.{storeOf, lentNumbers, lentOf}
+use Rattle.capture.specs.Record.{storeOf, lentOf}
 use Rattle.capture.proofs.Answer.{unless-given}
 use Rattle.search.specs.Part.{Stored}
 use Rattle.search.proofs.Asked.{stored-of}
@@ -31,38 +30,35 @@ use Rattle.mill_search.specs.Answer.{asked, sought, Counts, SmallPlace, 
 
 -- ---- the rows
 -- a call for a mask, at a place that the code reads from its bits; the number n of the mill's rows
-module _ (c : Capture) (samples l1 l2 l3 l4 : List ℕ) (grant mask : ℕ) (place : ℤ) (fits : SFits w64 place) (outside : Bool) (is-outside : outside ≡ beyond grant mask) (n : ℕ)
-    (is : n ≡ firstOf (storeRows (storeOf c) (lentNumbers (length samples) (length l1) (length l2) (length l3) (length l4)) (millRows (storeOf c) outside (toZ w64 (ofZ w64 place)) (pos 0)))) where
-  abbrev levels : ℕ → List ℕ
-  levels = levelOf l1 l2 l3 l4
-
+module _ (c : Capture) (samples : List ℕ) (levels : ℕ → List ℕ) (grant mask : ℕ) (place : ℤ) (fits : SFits w64 place) {outside : Bool} (is-outside : outside ≡ beyond grant mask) {n : ℕ}
+    (is : n ≡ firstOf (storeRows (storeOf c) (lentOf samples levels) (millRows (storeOf c) outside (toZ w64 (ofZ w64 place)) (pos 0)))) where
   abbrev lent : Lent
   lent = lentOf samples levels
 
   abbrev p : ℤ
   p = toZ w64 (ofZ w64 place)
 
-  rows-are : n ≡ firstOf (storeRows (storeOf c) (lentNumbers (length samples) (length l1) (length l2) (length l3) (length l4)) (millRows (storeOf c) (beyond grant mask) p (pos 0)))
-  rows-are = is ∙ ap (λ (t : Bool). firstOf (storeRows (storeOf c) (lentNumbers (length samples) (length l1) (length l2) (length l3) (length l4)) (millRows (storeOf c) t p (pos 0)))) is-outside
+  number-is : n ≡ firstOf (storeRows (storeOf c) lent (millRows (storeOf c) (beyond grant mask) p (pos 0)))
+  number-is = is ∙ ap (λ (t : Bool). firstOf (storeRows (storeOf c) lent (millRows (storeOf c) t p (pos 0)))) is-outside
 
   -- an answer at the place as it is read back is one at the place
   at-place : {A : Type 0} (answer : ℤ → A) → asked c samples levels grant mask p (answer p) ≡ asked c samples levels grant mask place (answer place)
   at-place answer = ap (λ (z : ℤ). asked c samples levels grant mask z (answer z)) (read-is place fits)
 
   pub asked-refused : {A : Type 0} (answer : ℤ → A) → (n ≡ 0 → ⊥) → refused n ≡ asked c samples levels grant mask place (answer place)
-  asked-refused answer h = under-refused (storeOf c) samples l1 l2 l3 l4 (beyond grant mask) p (pos 0) n rows-are [] (answer p) h ∙ at-place answer
+  asked-refused answer h = under-refused (storeOf c) lent (beyond grant mask) p (pos 0) number-is [] (answer p) h ∙ at-place answer
 
   -- no row refuses
   module _ (z : n ≡ 0) (origin : ℕ) (origin-is : origin ≡ originIn c) where
     let-pass : Passed (storeOf c) lent p (pos 0)
-    let-pass = passed (storeOf c) samples l1 l2 l3 l4 (beyond grant mask) p (pos 0) n rows-are z
+    let-pass = passed (storeOf c) lent (beyond grant mask) p (pos 0) number-is z
 
     pub asked-stored : Stored (c .unitsize) (c .len) samples levels
     asked-stored = stored-of c samples levels (let-pass .sound)
 
     -- what the service answers, rows 1 and 2 being passed
     pub asked-given : {A : Type 0} (a : A) → given a ≡ unless (storeRefusal (storeOf c) lent) a
-    asked-given a = given-under (storeOf c) samples l1 l2 l3 l4 (beyond grant mask) p (pos 0) n rows-are a z
+    asked-given a = given-under (storeOf c) lent (beyond grant mask) p (pos 0) number-is a z
 
     pub asked-placed : (origin ≤ mostSamples) × (beforeFirst origin p ≡ false)
     asked-placed = first-placed let-pass origin origin-is
@@ -79,7 +75,7 @@ module _ (c : Capture) (samples l1 l2 l3 l4 : List ℕ) (grant mask : ℕ) (plac
       asked-shown {B} show shown e =
           e
           ∙ (λ j. seen (through (show (origin-is j))) (answer-at j))
-          ∙ under-given (storeOf c) samples l1 l2 l3 l4 (beyond grant mask) p (pos 0) n rows-are [] (through (show (originIn c))) (find (placeAt (originIn c) p)) z
+          ∙ under-given (storeOf c) lent (beyond grant mask) p (pos 0) number-is [] (through (show (originIn c))) (find (placeAt (originIn c) p)) z
           ∙ at-place (λ (y : ℤ). through (show (originIn c)) (find (placeAt (originIn c) y)))
         where
           answer-at : answer ≡ unless (storeRefusal (storeOf c) lent) (find (placeAt (originIn c) p))

@@ -66,17 +66,7 @@ fn change<'a>(
     ensures { λ r. ⌜ foundOf r ≡ changeOf backward c (now (samples .entry)) (levelOf (now (l1 .entry)) (now (l2 .entry)) (now (l3 .entry)) (now (l4 .entry))) grant mask from ⌝ }
 {
     let outside = beyond(grant, mask);
-    let number = mill::refusal(
-        c,
-        samples.len(),
-        l1.len(),
-        l2.len(),
-        l3.len(),
-        l4.len(),
-        outside,
-        from,
-        0,
-    );
+    let number = mill::refusal(c, samples, l1, l2, l3, l4, outside, from, 0);
     if number != 0 {
         return Found::Refused(number);
     }
@@ -164,17 +154,7 @@ pub fn burst_at<'a>(
     ensures { λ r. ⌜ burstAs r ≡ burstOf c (now (samples .entry)) (levelOf (now (l1 .entry)) (now (l2 .entry)) (now (l3 .entry)) (now (l4 .entry))) grant mask sample «max_gap» tolerance budget ⌝ }
 {
     let outside = beyond(grant, mask);
-    let number = mill::refusal(
-        c,
-        samples.len(),
-        l1.len(),
-        l2.len(),
-        l3.len(),
-        l4.len(),
-        outside,
-        sample,
-        0,
-    );
+    let number = mill::refusal(c, samples, l1, l2, l3, l4, outside, sample, 0);
     if number != 0 {
         return Bursts::Refused(number);
     }

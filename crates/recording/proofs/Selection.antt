@@ -22,7 +22,7 @@ use Rattle.ring.proofs.Lists.{Recorded, start-goes, all-go, held, start-sound, 
 use Rattle.node.specs.Memory.{Right}
 use Rattle.rebuild.proofs.Right.{right-same}
 use Rattle.capture.specs.Record.{storeOf, lentOf}
-use Rattle.capture.proofs.Answer.{unless-given, lent-same}
+use Rattle.capture.proofs.Answer.{unless-given}
 use Rattle.feeder.specs.Record.{recorderOf, armedAs}
 use Rattle.rules.specs.Push.{Left}
 use Rattle.rules.specs.Start.{freshRecorder, besideIn, begun}
@@ -66,7 +66,7 @@ module _ (r : Recording) where
     recorder-is = start-is .1;
     samples-are = refl;
     ring-is = refl;
-    lengths = λ k p q. sym (ap (λ (x : Lent). x .level k) (lent-same (r .before .store .samples) (r .before .store .l1) (r .before .store .l2) (r .before .store .l3) (r .before .store .l4)));
+    lengths = λ k p q. refl;
     right = λ l p q j h. absurd (omega (arith, ap (λ (c : Recorder). c .store .len) (start-is .1)));
   }
 

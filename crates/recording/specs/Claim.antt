@@ -19,7 +19,7 @@ use Rattle.rules.specs.Selection.{Settings, Rule, ruleOf, accepted, runOf, slot
 use Rattle.rules.specs.Selection as selected
 use Rattle.rules.specs.Refusal.{Lent, startRefusal}
 use Rattle.capture.specs.declared.Capture.{Capture}
-use Rattle.capture.specs.Record.{lentNumbers}
+use Rattle.capture.specs.Record.{lentOf}
 use Rattle.terms.specs.declared.TriggerTerm.{TriggerTerm}
 use Rattle.feeder.specs.declared.Feeder.{Feeder}
 use Rattle.feeder.specs.declared.Pretrigger.{Pretrigger}
@@ -30,7 +30,7 @@ use Rattle.feeder.specs.Start.{startedOf, settingsOf}
 use Rattle.feeder_push.specs.declared.Pushed.{Pushed}
 use Rattle.feeder_push.specs.Push.{replyAs, feederIn}
 use Rattle.feeder_push.proofs.push.Reads as push
-use Rattle.claim_captures.specs.Claim.{Ref, Places, lending, Held, Answers, LookAlike, Same}
+use Rattle.claim_captures.specs.Claim.{levels, Ref, Places, lending, Held, Answers, LookAlike, Same}
 use Rattle.claim_captures.specs.Claim as captures
 
 -- ---- memory
@@ -54,7 +54,7 @@ abbrev pub settings : Given → Settings
 settings g = settingsOf (g .channels) (g .capacity) (g .limit) (g .terms) (g .wish) (g .rate)
 
 abbrev pub lengths : captures.Memory → Lent
-lengths m = lentNumbers (length (m .samples)) (length (m .l1)) (length (m .l2)) (length (m .l3)) (length (m .l4))
+lengths m = lentOf (m .samples) (levels m)
 
 abbrev pub MayStart : Given → Memory → Started → Type 0
 MayStart g m v = startedOf v ≡ startRule (settings g) (lengths (m .store)) (length (m .ring))

@@ -51,7 +51,7 @@ module _ (κs : Lfts 3) (c : Capture) (samples l1 l2 l3 l4 : RefT (List ℕ)) (v
   pub render-refused : Answered → (number ≡ 0 → ⊥) → output′ ≡ now output
   render-refused p h =
       p .output-is
-      ∙ ap (λ (n : ℕ). drawn (summed levels s) (pixelRange (viewAs view) (c .len)) n (now output)) (unrefused-none number number width refl h)
+      ∙ ap (λ (n : ℕ). drawn (summed levels s) (pixelRange (viewAs view) (c .len)) n (now output)) (unrefused-none {n = number} refl h width)
       ∙ sym (drawn-none (summed levels s) (pixelRange (viewAs view) (c .len)) (now output))
 
   -- and what stands past 2 × width stays

@@ -1,5 +1,5 @@
 -- Which row answers a render, and what is drawn then. Assumes nothing.
-use Prim.Native.Nat.{ℕ, zero, suc, _*_, _≤_}
+use Prim.Native.Nat.{ℕ, _*_, _≤_}
 use mathlib.Core.Path.{_≡_, refl, sym, ap, _∙_}
 use mathlib.Core.Bool.{Bool, cond, not, _||_}
 use mathlib.Core.List.{List}
@@ -10,22 +10,21 @@ use lib.Ieee.Scale.{finite}
 use borrow.Author.Tests.{ltb-false}
 use Rattle.rules.specs.Node.{Node}
 use Rattle.rules.specs.Pixel.{View, pixelRange}
-use Rattle.rules.specs.Refusal.{Store, Lent, mostPixels, firstOf, storeRefusal, viewRows, renderRefusal}
-use Rattle.rules.proofs.Refusal.{neither, row-passed, sound}
-use Rattle.rules.specs.Answer.{unrefused}
+use Rattle.rules.specs.Refusal.{Store, Lent, mostPixels, firstOf, viewRows, renderRefusal}
+use Rattle.rules.proofs.Refusal.{neither, row-passed, Sound}
 use Rattle.capture.proofs.Answer.{refused-is, given-is}
-use Rattle.capture.proofs.Calls.{unrefused-none}
+use Rattle.capture.proofs.Calls.{unrefused-none, unrefused-all}
 use Rattle.render.specs.declared.Drawn.the-variants.{Refused, Done}
 use Rattle.render.specs.Render.{drawn, Draws, Drawable}
 use Rattle.render.proofs.Row.{drawn-none}
 
 -- ---- rows 10 and 11
-module _ (st : Store) (lent : Lent) (v : View) (width output : ℕ) (stored : storeRefusal st lent ≡ 0) where
+module _ (st : Store) (lent : Lent) (v : View) (width output : ℕ) (inside : Sound st lent) where
   pub drawable : (origin : ℕ) → origin ≤ st .len → firstOf (viewRows v width output) ≡ 0 → Drawable st lent origin width output
   drawable origin h e =
       let t = row-passed 10 (cond (many || short) 11 0) (not (finite (v .start)) || not (finite (v .spp))) (omega arith) .0 e in
       let f = neither many short .0 (row-passed 11 0 (many || short) (omega arith) .0 (t .1) .0) in
-      record { sound = sound st lent stored; counts = h; most = ltb-false mostPixels width (f .0); room = ltb-false output (2 * width) (f .1) }
+      record { sound = inside; counts = h; most = ltb-false mostPixels width (f .0); room = ltb-false output (2 * width) (f .1) }
     where
       many : Bool
       many = ltb mostPixels width
@@ -33,15 +32,12 @@ module _ (st : Store) (lent : Lent) (v : View) (width output : ℕ) (stored : st
       short : Bool
       short = ltb output (2 * width)
 
--- ---- the promise, by any summary of ranges
-module _ (node : ℕ → ℕ → Node) (st : Store) (lent : Lent) (v : View) (width : ℕ) (output : List ℕ) where
-  abbrev number : ℕ
-  number = renderRefusal st lent v width (length output)
-
+-- ---- the promise, by any summary of ranges; k is the number of the first row that holds
+module _ (node : ℕ → ℕ → Node) (st : Store) (lent : Lent) (v : View) (width : ℕ) (output : List ℕ) {k : ℕ} (e : k ≡ renderRefusal st lent v width (length output)) where
   -- nothing is drawn
-  pub draws-refused : (k : ℕ) → number ≡ k → (k ≡ 0 → ⊥) → Draws node st lent v width output (Refused k) output
-  draws-refused k e h = record { answer-is = refused-is tt number k e h; output-is = drawn-none node (pixelRange v (st .len)) output ∙ ap (λ (n : ℕ). drawn node (pixelRange v (st .len)) n output) (sym (unrefused-none number k width e h)) }
+  pub draws-refused : (k ≡ 0 → ⊥) → Draws node st lent v width output (Refused k) output
+  draws-refused h = record { answer-is = refused-is tt e h; output-is = drawn-none node (pixelRange v (st .len)) output ∙ ap (λ (n : ℕ). drawn node (pixelRange v (st .len)) n output) (sym (unrefused-none e h width)) }
 
   -- every pixel is drawn
-  pub draws-done : (output′ : List ℕ) → number ≡ 0 → output′ ≡ drawn node (pixelRange v (st .len)) width output → Draws node st lent v width output Done output′
-  draws-done output′ e d = record { answer-is = given-is tt number tt e refl; output-is = d ∙ ap (λ (x : ℕ). drawn node (pixelRange v (st .len)) (unrefused x width) output) (sym e) }
+  pub draws-done : k ≡ 0 → (output′ : List ℕ) → output′ ≡ drawn node (pixelRange v (st .len)) width output → Draws node st lent v width output Done output′
+  draws-done z output′ d = record { answer-is = given-is tt e z refl; output-is = d ∙ ap (λ (n : ℕ). drawn node (pixelRange v (st .len)) n output) (sym (unrefused-all e z width)) }

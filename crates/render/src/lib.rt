@@ -112,7 +112,7 @@ pub fn render<'a>(
 ) -> Drawn
     ensures { λ r. ⌜ Draws (summed (levelOf (now (l1 .entry)) (now (l2 .entry)) (now (l3 .entry)) (now (l4 .entry))) (sampleOf (c .unitsize) (now (samples .entry)))) (storeOf c) (lentOf (now (samples .entry)) (levelOf (now (l1 .entry)) (now (l2 .entry)) (now (l3 .entry)) (now (l4 .entry)))) (viewAs view) width (now (output .entry)) r (now (output .exit)) ⌝ }
 {
-    let n = refusal(c, samples.len(), l1.len(), l2.len(), l3.len(), l4.len());
+    let n = refusal(c, samples, l1, l2, l3, l4);
     if n != 0 {
         return Drawn::Refused(n);
     }

@@ -1,24 +1,19 @@
--- Rows 1 and 2 in front of a question: what a call answers where they refuse, and what is known where they do not.
+-- What a search may read where rows 1 and 2 do not refuse; and questions with nothing to search.
 use Prim.Native.Nat.{ℕ, suc, _+_, _-_, _*_, _/_, _≤_, _<_, min}
-use mathlib.Core.Path.{_≡_, refl, sym, ap, _∙_}
+use mathlib.Core.Path.{_≡_, sym, ap, _∙_}
 use mathlib.Core.Bool.{Bool, cond}
 use mathlib.Core.List.{List}
 use native.Mathlib.Nat.{mul-le-mul-right, le-div-iff-mul-le, suc-mul}
 use native.Mathlib.Omega.{arith}
 use borrow.Author.Tests.{le-ltb, eq-eqb, ne-eqb}
-use lib.ListN.{length}
 use Rattle.rules.specs.Node.{Node, span, nodesFor}
-use Rattle.rules.specs.Refusal.{storeRefusal, nodeSize}
-use Rattle.rules.specs.Answer.{refused, given}
-use Rattle.rules.specs.Walk.{Walked, nothing, nextWalk, previousFrom, previousWalk, ahead, chunks, chunksFor}
+use Rattle.rules.specs.Refusal.{nodeSize}
+use Rattle.rules.specs.Walk.{nothing, nextWalk, previousFrom, previousWalk, ahead, chunks, chunksFor}
 use Rattle.rules.proofs.Walk.{span-pos}
 use Rattle.rules.proofs.Refusal.{Sound}
-use Rattle.node.specs.Memory.{levelOf}
 use Rattle.capture.specs.declared.Capture.{Capture}
-use Rattle.capture.specs.Record.{storeOf, lentNumbers, lentOf}
-use Rattle.capture.proofs.Answer.{refused-is, given-is, rows-are, rows-sound}
+use Rattle.capture.specs.Record.{storeOf, lentOf}
 use Rattle.search.specs.Part.{Stored}
-use Rattle.search.specs.Answer.{asked}
 
 -- a node that starts below the capacity has a number below the count
 node-counted : (capacity l j : ℕ) → j * span l < capacity → suc j ≤ nodesFor capacity l
@@ -31,19 +26,6 @@ stored-of c samples levels s = record {
   most = omega (arith, s .len-most, s .capacity-most);
   nodes = record { inside = λ l j k m h. omega (arith, s .level l k m, mul-le-mul-right nodeSize (node-counted (c .capacity) l j (omega (arith, s .len-most))), suc-mul j nodeSize) };
 }
-
-module _ (c : Capture) (samples a b d e : List ℕ) (number : ℕ) (is : number ≡ storeRefusal (storeOf c) (lentNumbers (length samples) (length a) (length b) (length d) (length e))) where
-  refusal-is : storeRefusal (storeOf c) (lentOf samples (levelOf a b d e)) ≡ number
-  refusal-is = rows-are (storeOf c) samples a b d e number is
-
-  pub asked-refused : (walked : Walked) → (number ≡ 0 → ⊥) → refused number ≡ asked c samples (levelOf a b d e) walked
-  asked-refused walked h = refused-is walked _ number refusal-is h
-
-  pub asked-given : (walked : Walked) → number ≡ 0 → given walked ≡ asked c samples (levelOf a b d e) walked
-  asked-given walked z = given-is walked _ walked (refusal-is ∙ z) refl
-
-  pub asked-stored : number ≡ 0 → Stored (c .unitsize) (c .len) samples (levelOf a b d e)
-  asked-stored z = stored-of c samples (levelOf a b d e) (rows-sound (storeOf c) samples a b d e number is z)
 
 -- ---- questions with nothing to search
 module _ (has : ℕ → Bool) (reader : ℕ → ℕ → Node) (len mask from : ℕ) where

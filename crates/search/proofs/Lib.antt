@@ -5,5 +5,4 @@ pub mod Chunks
 pub mod Quiet
 pub mod Near
 pub mod Within
-pub mod Call
 pub mod Change

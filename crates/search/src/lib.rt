@@ -375,7 +375,7 @@ pub fn next_change<'a>(
 ) -> Found
     ensures { λ r. ⌜ foundOf r ≡ nextOf c (now (samples .entry)) (levelOf (now (l1 .entry)) (now (l2 .entry)) (now (l3 .entry)) (now (l4 .entry))) mask from ⌝ }
 {
-    let number = capture::refusal(c, samples.len(), l1.len(), l2.len(), l3.len(), l4.len());
+    let number = capture::refusal(c, samples, l1, l2, l3, l4);
     if number != 0 {
         return Found::Refused(number);
     }
@@ -396,7 +396,7 @@ pub fn prev_change<'a>(
 ) -> Found
     ensures { λ r. ⌜ foundOf r ≡ previousOf c (now (samples .entry)) (levelOf (now (l1 .entry)) (now (l2 .entry)) (now (l3 .entry)) (now (l4 .entry))) mask from ⌝ }
 {
-    let number = capture::refusal(c, samples.len(), l1.len(), l2.len(), l3.len(), l4.len());
+    let number = capture::refusal(c, samples, l1, l2, l3, l4);
     if number != 0 {
         return Found::Refused(number);
     }

@@ -224,7 +224,7 @@ pub fn summary<'a>(
 ) -> Summed
     ensures { λ r. ⌜ summedOf r ≡ unless (storeRefusal (storeOf c) (lentOf (now (samples .entry)) (levelOf (now (l1 .entry)) (now (l2 .entry)) (now (l3 .entry)) (now (l4 .entry))))) (summaryOf (levelOf (now (l1 .entry)) (now (l2 .entry)) (now (l3 .entry)) (now (l4 .entry))) (sampleOf (c .unitsize) (now (samples .entry))) (c .len) a b) ⌝ }
 {
-    let n = refusal(c, samples.len(), l1.len(), l2.len(), l3.len(), l4.len());
+    let n = refusal(c, samples, l1, l2, l3, l4);
     if n != 0 {
         return Summed::Refused(n);
     }

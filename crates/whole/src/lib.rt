@@ -136,7 +136,7 @@ pub fn whole<'a>(
 ) -> Checked
     ensures { λ r. ⌜ checkedOf r ≡ unless (storeRefusal (storeOf c) (lentOf (now (samples .entry)) (levelOf (now (l1 .entry)) (now (l2 .entry)) (now (l3 .entry)) (now (l4 .entry))))) (wholeAnswer (sampleOf (c .unitsize) (now (samples .entry))) (c .len) (heldIn (levelOf (now (l1 .entry)) (now (l2 .entry)) (now (l3 .entry)) (now (l4 .entry))))) ⌝ }
 {
-    let n = refusal(c, samples.len(), l1.len(), l2.len(), l3.len(), l4.len());
+    let n = refusal(c, samples, l1, l2, l3, l4);
     if n != 0 {
         return Checked::Refused(n);
     }

@@ -10,12 +10,12 @@ use Rattle.rules.specs.Burst as rule
 use Rattle.rules.specs.Burst.{Burst, places, ends, burstedBy}
 use Rattle.rules.specs.Walk.{Counted, Walked}
 use Rattle.node.specs.Memory.{levelOf}
+use Rattle.capture.proofs.Answer.{let-in, refused-is, given-is}
 use Rattle.search.specs.Part.{Stored}
-use Rattle.search.proofs.Asked.{asked-stored}
+use Rattle.search.proofs.Asked.{stored-of}
 use Rattle.burst.specs.Answer.{counted, back, fore, endAs, sideAs, pairedBy, burstOf}
 use Rattle.burst.proofs.Bounds.{mostBurst, burst-read}
 use Rattle.burst.proofs.Grown.{grownFrom, grown-none, grown-some, burst-empty, burst-narrow, burst-grown}
-use Rattle.burst.proofs.Rows.{burst-refused, burst-given}
 use Rattle.burst.proofs.burst_at.Statement.{statement}
 use Rattle.burst.proofs.burst_at.Tie as tie
 
@@ -33,16 +33,15 @@ burst-at s = burstedBy (back-at s) (fore-at s) (s .args .c .len) (s .args .sampl
 -- past rows 1 and 2 it is the answer
 told : (k : tie.Else1) (b : Counted Burst) → let s = k .before .before .before .before .before .before .before in b ≡ burst-at s
     → given b ≡ burstOf (s .args .c) (now (s .args .samples)) (levelOf (now (s .args .l1)) (now (s .args .l2)) (now (s .args .l3)) (now (s .args .l4))) (s .args .mask) (s .args .sample) (s .args .max-gap) (s .args .tolerance) (s .args .budget)
-told k b e =
-    let s = k .before .before .before .before .before .before .before in
-    burst-given (s .args .c) (now (s .args .samples)) (now (s .args .l1)) (now (s .args .l2)) (now (s .args .l3)) (now (s .args .l4)) (k .before .refusal .result) (k .before .refusal .ensures) (s .args .mask) (s .args .sample) (s .args .max-gap) (s .args .tolerance) (s .args .budget) (k .if1 .left) b e
+unfolding burstOf
+told k b e = given-is _ (k .before .refusal .ensures) (k .if1 .left) e
 
 -- and the capture lies in memory
 stored : (h : tie.Else2) → let s = h .before .before .before .before .before .before .before .before in Stored (s .args .c .unitsize) (s .args .c .len) (now (s .args .samples)) (levelOf (now (s .args .l1)) (now (s .args .l2)) (now (s .args .l3)) (now (s .args .l4)))
 stored h =
     let k = h .before in
     let s = k .before .before .before .before .before .before .before in
-    asked-stored (s .args .c) (now (s .args .samples)) (now (s .args .l1)) (now (s .args .l2)) (now (s .args .l3)) (now (s .args .l4)) (k .before .refusal .result) (k .before .refusal .ensures) (k .if1 .left)
+    stored-of (s .args .c) (now (s .args .samples)) (levelOf (now (s .args .l1)) (now (s .args .l2)) (now (s .args .l3)) (now (s .args .l4))) (let-in (k .before .refusal .ensures) (k .if1 .left))
 
 -- the pair, by the clamped tolerance
 abbrev start-at : tie.After-pair-of → tie.Start
@@ -85,10 +84,8 @@ refusal-requires : tie.Need-refusal-requires
 refusal-requires c κs = search needs
 
 returns : tie.Need-returns
-returns c =
-    let f = c .before in
-    let s = f .before .before .before .before .before .before in
-    burst-refused (s .args .c) (now (s .args .samples)) (now (s .args .l1)) (now (s .args .l2)) (now (s .args .l3)) (now (s .args .l4)) (f .refusal .result) (f .refusal .ensures) (s .args .mask) (s .args .sample) (s .args .max-gap) (s .args .tolerance) (s .args .budget) (c .if1 .taken)
+unfolding burstOf
+returns c = refused-is _ (c .before .refusal .ensures) (c .if1 .taken)
 
 returns-2 : tie.Need-returns-2
 returns-2 c =

@@ -14,7 +14,7 @@ returns c = simp (sym (c .before .record-wrong .ensures) ∙ c .if1 .taken)
 
 memory-short-requires : tie.Need-memory-short-requires
 memory-short-requires c κs =
-    let r = ranged (storeOf (c .before .before .args .c)) (sym (c .before .record-wrong .ensures) ∙ c .if1 .left) in
+    let r = ranged (storeOf (c .before .before .before .before .before .before .before .args .c)) (sym (c .before .record-wrong .ensures) ∙ c .if1 .left) in
     record { unit = r .unit-most; capacity = r .capacity-most }
 
 returns-2 : tie.Need-returns-2

@@ -3,7 +3,8 @@ use Rattle.feeder.specs.Start.{startedOf}
 use borrow.Author.Needs.{needs}
 use lib.ListN.{length}
 use denote.Ref.{now}
-use Rattle.capture.specs.Record.{lentNumbers}
+use Rattle.node.specs.Memory.{levelOf}
+use Rattle.capture.specs.Record.{lentOf}
 use Rattle.feeder.proofs.Begun.{one-rule}
 use Rattle.feeder.proofs.start_one.Statement.{statement}
 use Rattle.feeder.proofs.start_one.Tie as tie
@@ -21,7 +22,7 @@ returns : tie.Need-returns
 returns c =
     let n = c .before .before in
     let s = n .before .before .before .before .before .before .before .args in
-    let lent = lentNumbers (length (now (s .samples))) (length (now (s .l1))) (length (now (s .l2))) (length (now (s .l3))) (length (now (s .l4))) in
+    let lent = lentOf (now (s .samples)) (levelOf (now (s .l1)) (now (s .l2)) (now (s .l3)) (now (s .l4))) in
     let size = length (now (s .ring)) in
     one-rule (s .channels) (s .capacity) (s .limit) (s .term) (s .wish) (s .rate) lent size (n .none .result) (c .before .with .result) (startedOf (c .start .result)) (n .none .ensures) (c .before .with .ensures) (c .start .ensures)
 

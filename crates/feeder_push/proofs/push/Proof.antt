@@ -1,66 +1,33 @@
 -- `feeder_push::push` meets its contract: each way through it is a case of the definition. Assumes nothing.
-use mathlib.Core.Path.{_≡_, sym, ap, _∙_}
+use Prim.Native.Nat.{ℕ}
+use mathlib.Core.Path.{_≡_, sym, _∙_}
+use mathlib.Core.List.{List}
 use native.Mathlib.Omega.{arith}
 use borrow.Author.Needs.{needs}
 use denote.Ref.{now}
 use lib.ListN.{length}
-use Rattle.rules.specs.Refusal.{Lent, recorderRefusal}
+use Rattle.rules.specs.Refusal.{recorderRefusal}
 use Rattle.node.specs.Memory.{levelOf}
 use Rattle.capture.specs.Record.{lentOf}
-use Rattle.capture.proofs.Answer.{lent-same}
 use Rattle.feeder.specs.Record.{recorderOf}
 use Rattle.feeder_push.proofs.Fires.{taken-fits}
 use Rattle.feeder_push.proofs.Answered.{pushed-refused, room, all-room, scan-room, wait-room, pushed-unarmed, pushed-fired, pushed-waited}
 use Rattle.feeder_push.proofs.push.Statement.{statement}
 use Rattle.feeder_push.proofs.push.Tie as tie
 
-abbrev lent-at : tie.After-refusal-of → Lent
-lent-at c =
-    let a = c .before .before .before .before .before .before .before .before .args in
-    lentOf (now (a .samples)) (levelOf (now (a .l1)) (now (a .l2)) (now (a .l3)) (now (a .l4)))
+module _ (f : tie.After-refusal-of) where
+  abbrev s : tie.Start
+  s = f .before .before .before .before .before .before .before .before .before .before .before .before .before .before
 
--- what refusal_of answers
-checked : (c : tie.After-refusal-of) → c .refusal-of .result ≡ recorderRefusal (recorderOf (c .before .before .before .before .before .before .before .before .args .f)) (lent-at c) (length (now (c .before .before .before .before .before .before .before .before .args .ring)))
-checked c =
-    let a = c .before .before .before .before .before .before .before .before .args in
-    c .refusal-of .ensures ∙ ap (λ (l : Lent). recorderRefusal (recorderOf (a .f)) l (length (now (a .ring)))) (lent-same (now (a .samples)) (now (a .l1)) (now (a .l2)) (now (a .l3)) (now (a .l4)))
+  abbrev levels : ℕ → List ℕ
+  levels = levelOf (now (s .args .l1)) (now (s .args .l2)) (now (s .args .l3)) (now (s .args .l4))
 
 -- past the first test rows 1 and 2 do not hold
-free : (c : tie.Else1) → recorderRefusal (recorderOf (c .before .before .before .before .before .before .before .before .before .args .f)) (lent-at (c .before)) (length (now (c .before .before .before .before .before .before .before .before .before .args .ring))) ≡ 0
-free c = sym (checked (c .before)) ∙ c .if1 .left
+free : (c : tie.Else1) → let f = c .before in recorderRefusal (recorderOf (s f .args .f)) (lentOf (now (s f .args .samples)) (levels f)) (length (now (s f .args .ring))) ≡ 0
+free c = sym (c .before .refusal-of .ensures) ∙ c .if1 .left
 
 refusal-of-requires : tie.Need-refusal-of-requires
 refusal-of-requires c κs = search needs
-
-returns : tie.Need-returns
-returns c =
-    let a = c .before .before .before .before .before .before .before .before .before .args in
-    pushed-refused (a .f) (now (a .samples)) (levelOf (now (a .l1)) (now (a .l2)) (now (a .l3)) (now (a .l4))) (now (a .ring)) (now (a .bytes)) _ (checked (c .before)) (c .if1 .taken)
-
-div-n : tie.Need-div-n
-div-n c =
-    let i = c .before in
-    let a = i .before .before .before .before .before .before .before .before .before .args in
-    omega (arith, room (a .f) (now (a .samples)) (levelOf (now (a .l1)) (now (a .l2)) (now (a .l3)) (now (a .l4))) (now (a .ring)) (now (a .bytes)) (free i) .sound .store .unit-least)
-
-enum-known-masks : tie.Need-enum-known-masks
-enum-known-masks c = search needs
-
-enum-told : tie.Need-enum-told
-enum-told c = search needs
-
-store-run-requires : tie.Need-store-run-requires
-store-run-requires c κs =
-    let i = c .before .before .before .before .before .before .before .before .before in
-    let a = i .before .before .before .before .before .before .before .before .before .args in
-    all-room (a .f) (now (a .samples)) (levelOf (now (a .l1)) (now (a .l2)) (now (a .l3)) (now (a .l4))) (now (a .ring)) (now (a .bytes)) (free i)
-
-answer-requires : tie.Need-answer-requires
-answer-requires c κs =
-    let r = c .before .before .before .before .before .before .before .before .before .before in
-    let i = r .before .before .before .before .before .before .before .before .before .before in
-    let a = i .before .before .before .before .before .before .before .before .before .args in
-    taken-fits (recorderOf (a .f)) (now (a .samples)) (levelOf (now (a .l1)) (now (a .l2)) (now (a .l3)) (now (a .l4))) (length (now (a .ring))) (length (now (a .bytes))) _ (room (a .f) (now (a .samples)) (levelOf (now (a .l1)) (now (a .l2)) (now (a .l3)) (now (a .l4))) (now (a .ring)) (now (a .bytes)) (free i)) (r .store-run .result) (r .store-run .ensures)
 
 same-length : tie.Need-same-length
 same-length c = search needs
@@ -80,26 +47,39 @@ same-length-5 c = search needs
 same-length-6 : tie.Need-same-length-6
 same-length-6 c = search needs
 
-returns-2 : tie.Need-returns-2
-returns-2 c =
-    let r = c .before .before .before .before .before .before .before .before .before .before .before in
-    let t = r .before .before .before .before .before .before .before in
-    let i = t .before .before .before in
-    let a = i .before .before .before .before .before .before .before .before .before .args in
-    pushed-unarmed (a .f) (now (a .samples)) (levelOf (now (a .l1)) (now (a .l2)) (now (a .l3)) (now (a .l4))) (now (a .ring)) (now (a .bytes)) (free i) (t .enum-told .given .1) (r .store-run .result) (c .answer .result) _ _ (r .store-run .ensures) (c .answer .ensures)
+returns : tie.Need-returns
+returns c =
+    let f = c .before in
+    let a = s f .args in
+    pushed-refused (a .f) (now (a .samples)) (levels f) (now (a .ring)) (now (a .bytes)) _ (f .refusal-of .ensures) (c .if1 .taken)
 
-first-fire-requires : tie.Need-first-fire-requires
-first-fire-requires c κs =
-    let i = c .before .before .before .before in
-    let a = i .before .before .before .before .before .before .before .before .before .args in
-    scan-room (a .f) (now (a .samples)) (levelOf (now (a .l1)) (now (a .l2)) (now (a .l3)) (now (a .l4))) (now (a .ring)) (now (a .bytes)) (free i)
+div-n : tie.Need-div-n
+div-n c =
+    let i = c .before in
+    let f = i .before in
+    let a = s f .args in
+    omega (arith, room (a .f) (now (a .samples)) (levels f) (now (a .ring)) (now (a .bytes)) (free i) .sound .store .unit-least)
 
-fire-requires : tie.Need-fire-requires
-fire-requires c κs =
-    let t = c .before .before .before .before .before .before in
-    let i = t .before .before .before .before .before .before in
-    let a = i .before .before .before .before .before .before .before .before .before .args in
-    (room (a .f) (now (a .samples)) (levelOf (now (a .l1)) (now (a .l2)) (now (a .l3)) (now (a .l4))) (now (a .ring)) (now (a .bytes)) (free i), t .if2 .taken)
+enum-known-masks : tie.Need-enum-known-masks
+enum-known-masks c = search needs
+
+enum-told : tie.Need-enum-told
+enum-told c = search needs
+
+store-run-requires : tie.Need-store-run-requires
+store-run-requires c κs =
+    let i = c .before .before .before .before .before .before .before .before .before in
+    let f = i .before in
+    let a = s f .args in
+    all-room (a .f) (now (a .samples)) (levels f) (now (a .ring)) (now (a .bytes)) (free i)
+
+answer-requires : tie.Need-answer-requires
+answer-requires c κs =
+    let r = c .before .before .before .before .before .before .before .before .before .before in
+    let i = r .before .before .before .before .before .before .before .before .before .before in
+    let f = i .before in
+    let a = s f .args in
+    taken-fits (recorderOf (a .f)) (now (a .samples)) (levels f) (length (now (a .ring))) (length (now (a .bytes))) _ (room (a .f) (now (a .samples)) (levels f) (now (a .ring)) (now (a .bytes)) (free i)) (r .store-run .result) (r .store-run .ensures)
 
 same-length-7 : tie.Need-same-length-7
 same-length-7 c = search needs
@@ -119,59 +99,130 @@ same-length-11 c = search needs
 same-length-12 : tie.Need-same-length-12
 same-length-12 c = search needs
 
+returns-2 : tie.Need-returns-2
+returns-2 c =
+    let r = c .before .before .before .before .before .before .before .before .before .before .before in
+    let t = r .before .before .before .before .before .before .before in
+    let i = t .before .before .before in
+    let f = i .before in
+    let a = s f .args in
+    pushed-unarmed (a .f) (now (a .samples)) (levels f) (now (a .ring)) (now (a .bytes)) (free i) (t .enum-told .given .1) (r .store-run .result) (c .answer .result) _ _ (r .store-run .ensures) (c .answer .ensures)
+
+first-fire-requires : tie.Need-first-fire-requires
+first-fire-requires c κs =
+    let i = c .before .before .before .before in
+    let f = i .before in
+    let a = s f .args in
+    scan-room (a .f) (now (a .samples)) (levels f) (now (a .ring)) (now (a .bytes)) (free i)
+
+fire-requires : tie.Need-fire-requires
+fire-requires c κs =
+    let t = c .before .before .before .before .before .before in
+    let i = t .before .before .before .before .before .before in
+    let f = i .before in
+    let a = s f .args in
+    (room (a .f) (now (a .samples)) (levels f) (now (a .ring)) (now (a .bytes)) (free i), t .if2 .taken)
+
+same-length-13 : tie.Need-same-length-13
+same-length-13 c = search needs
+
+same-length-14 : tie.Need-same-length-14
+same-length-14 c = search needs
+
+same-length-15 : tie.Need-same-length-15
+same-length-15 c = search needs
+
+same-length-16 : tie.Need-same-length-16
+same-length-16 c = search needs
+
+same-length-17 : tie.Need-same-length-17
+same-length-17 c = search needs
+
+same-length-18 : tie.Need-same-length-18
+same-length-18 c = search needs
+
 returns-3 : tie.Need-returns-3
 returns-3 c =
     let r = c .before .before .before .before .before .before .before .before .before .before in
     let t = r .before .before .before .before .before .before .before in
     let m = t .before .before .before in
     let i = m .before .before .before in
-    let a = i .before .before .before .before .before .before .before .before .before .args in
-    pushed-fired (a .f) (now (a .samples)) (levelOf (now (a .l1)) (now (a .l2)) (now (a .l3)) (now (a .l4))) (now (a .ring)) (now (a .bytes)) (free i) (m .masks .given .0 .0) (m .masks .given .1) (t .before .first-fire .result) (t .before .first-fire .ensures) (t .if2 .taken) (r .fire .result) _ _ (r .fire .ensures)
+    let f = i .before in
+    let a = s f .args in
+    pushed-fired (a .f) (now (a .samples)) (levels f) (now (a .ring)) (now (a .bytes)) (free i) (m .masks .given .0 .0) (m .masks .given .1) (t .before .first-fire .result) (t .before .first-fire .ensures) (t .if2 .taken) (r .fire .result) _ _ (r .fire .ensures)
 
 wait-requires : tie.Need-wait-requires
 wait-requires c κs =
     let i = c .before .before .before .before .before .before .before in
-    let a = i .before .before .before .before .before .before .before .before .before .args in
-    wait-room (a .f) (now (a .samples)) (levelOf (now (a .l1)) (now (a .l2)) (now (a .l3)) (now (a .l4))) (now (a .ring)) (now (a .bytes)) (free i)
+    let f = i .before in
+    let a = s f .args in
+    wait-room (a .f) (now (a .samples)) (levels f) (now (a .ring)) (now (a .bytes)) (free i)
 
-same-length-13 : tie.Need-same-length-13
-same-length-13 c = search needs
+same-length-19 : tie.Need-same-length-19
+same-length-19 c = search needs
+
+same-length-20 : tie.Need-same-length-20
+same-length-20 c = search needs
+
+same-length-21 : tie.Need-same-length-21
+same-length-21 c = search needs
+
+same-length-22 : tie.Need-same-length-22
+same-length-22 c = search needs
+
+same-length-23 : tie.Need-same-length-23
+same-length-23 c = search needs
+
+same-length-24 : tie.Need-same-length-24
+same-length-24 c = search needs
 
 returns-4 : tie.Need-returns-4
 returns-4 c =
     let t = c .before .before .before .before in
     let m = t .before .before .before in
     let i = m .before .before .before in
-    let a = i .before .before .before .before .before .before .before .before .before .args in
-    pushed-waited (a .f) (now (a .samples)) (levelOf (now (a .l1)) (now (a .l2)) (now (a .l3)) (now (a .l4))) (now (a .ring)) (now (a .bytes)) (free i) (m .masks .given .0 .0) (m .masks .given .1) (t .before .first-fire .result) (t .before .first-fire .ensures) (t .if2 .left) (c .before .before .wait .result) _ (c .before .before .wait .ensures)
+    let f = i .before in
+    let a = s f .args in
+    pushed-waited (a .f) (now (a .samples)) (levels f) (now (a .ring)) (now (a .bytes)) (free i) (m .masks .given .0 .0) (m .masks .given .1) (t .before .first-fire .result) (t .before .first-fire .ensures) (t .if2 .left) (c .before .before .wait .result) _ (c .before .before .wait .ensures)
 
 pub push-spec : {M : Type 1} → statement M
 push-spec =
     tie.close
     (tie.spec
     refusal-of-requires
-    returns
-    div-n
-    enum-known-masks
-    enum-told
-    store-run-requires
-    answer-requires
     same-length
     same-length-2
     same-length-3
     same-length-4
     same-length-5
     same-length-6
-    returns-2
-    first-fire-requires
-    fire-requires
+    returns
+    div-n
+    enum-known-masks
+    enum-told
+    store-run-requires
+    answer-requires
     same-length-7
     same-length-8
     same-length-9
     same-length-10
     same-length-11
     same-length-12
+    returns-2
+    first-fire-requires
+    fire-requires
+    same-length-13
+    same-length-14
+    same-length-15
+    same-length-16
+    same-length-17
+    same-length-18
     returns-3
     wait-requires
-    same-length-13
+    same-length-19
+    same-length-20
+    same-length-21
+    same-length-22
+    same-length-23
+    same-length-24
     returns-4)

@@ -41,7 +41,8 @@ use denote.Exit.{yes}
 use denote.Triple.Clauses.{ensured, lasts}
 use Rattle.rules.specs.Start.{startRule}
 use Rattle.rules.specs.Refusal.{Lent}
-use Rattle.capture.specs.Record.{lentNumbers}
+use Rattle.node.specs.Memory.{levelOf}
+use Rattle.capture.specs.Record.{lentOf}
 use Rattle.terms.specs.Terms.{termsOf}
 use Rattle.terms.specs.declared.Terms.{Terms}
 use Rattle.terms.specs.declared.TriggerTerm.{TriggerTerm}
@@ -121,7 +122,7 @@ module _ {M : Type 1} (𝓤 : URA M) (H : Heap 𝓤) (A : Atoms 𝓤) (W : Given
   Own16 s = ShrSlice (named 2) κ₂ u16 .own s (val s ∷ [])
 
   abbrev lent : Lent
-  lent = lentNumbers (length (samples .now)) (length (l1 .now)) (length (l2 .now)) (length (l3 .now)) (length (l4 .now))
+  lent = lentOf (samples .now) (levelOf (l1 .now) (l2 .now) (l3 .now) (l4 .now))
 
   abbrev size : ℕ
   size = length (ring .now)

@@ -59,7 +59,7 @@ returns-6 : tie.Need-returns-6
 returns-6 c =
     let k = c .before .before .before .before .before in
     let t = k .before .before .before .before .before .before .before .before in
-    let a = t .before .before .before .before .before .args in
+    let a = t .before .before .before .before .before .before .before .before .before .before .args in
     let w = t .before .waits .ensures (not-false _ (t .if1 .left)) in
     let n = k .count-in .ensures in
     short-is (now (a .numbers)) _ (now (a .ring)) (now (a .bytes)) w (omega arith) _ _ refl (n .is) (omega (arith, n .least)) (omega (arith, n .most)) _ _ (c .before .before .wait-few .result) (c .before .before .wait-few .ensures)

@@ -5,7 +5,8 @@ use native.Mathlib.Omega.{arith}
 use borrow.Author.Needs.{needs}
 use borrow.Author.Tests.{eqb-true}
 use denote.Ref.{now}
-use Rattle.capture.specs.Record.{lentNumbers}
+use Rattle.node.specs.Memory.{levelOf}
+use Rattle.capture.specs.Record.{lentOf}
 use Rattle.feeder_wait.proofs.Bounds.{unit-two, slots-fit, waiting-is}
 use Rattle.feeder_wait.proofs.waits.Statement.{statement}
 use Rattle.feeder_wait.proofs.waits.Tie as tie
@@ -58,7 +59,7 @@ returns-7 c e = absurd (let z : _≡_ {A = ℕ} 0 1 = cc in omega arith)
 mul-if8 : tie.Need-mul-if8
 mul-if8 c =
     let k = c .before .before .before .before .before .before .before .before .before .before in
-    record { fits = slots-fit (now (c .before .before .before .before .before .before .before .before .before .before .before .before .before .before .before .args .numbers)) (sym (k .before .unit-wrong .ensures) ∙ k .if2 .left) (c .before .before .before .before .before .before .before .before .if3 .left) (c .before .before .if6 .left) }
+    record { fits = slots-fit (now (c .before .before .before .before .before .before .before .before .before .before .before .before .before .before .before .before .before .before .before .before .args .numbers)) (sym (k .before .unit-wrong .ensures) ∙ k .if2 .left) (c .before .before .before .before .before .before .before .before .if3 .left) (c .before .before .if6 .left) }
 
 returns-8 : tie.Need-returns-8
 returns-8 c e = absurd (let z : _≡_ {A = ℕ} 0 1 = cc in omega arith)
@@ -77,8 +78,8 @@ returns-9 c e =
     let l = c .before .before .before in
     let m = l .before .before .before .before .before .before .before in
     let k = m .before .before .before .before in
-    let a = c .before .before .before .before .before .before .before .before .before .before .before .before .before .before .before .before .before .before .before .args in
-    waiting-is (now (a .numbers)) (sym (k .before .unit-wrong .ensures) ∙ k .if2 .left) (m .before .before .if3 .left) (l .before .before .before .if6 .left) (lentNumbers (a .samples) (a .n1) (a .n2) (a .n3) (a .n4)) (a .ring)
+    let a = c .before .before .before .before .before .before .before .before .before .before .before .before .before .before .before .before .before .before .before .before .before .before .before .before .args in
+    waiting-is (now (a .numbers)) (sym (k .before .unit-wrong .ensures) ∙ k .if2 .left) (m .before .before .if3 .left) (l .before .before .before .if6 .left) (lentOf (now (a .samples)) (levelOf (now (a .l1)) (now (a .l2)) (now (a .l3)) (now (a .l4)))) (a .ring)
     (k .before .before .before .if1 .left) (eqb-true _ 0 e) (l .before .before .before .before .before .if5 .left) (l .before .if7 .left) (sym (m .before .memory-short .ensures) ∙ m .if4 .left) (l .if8 .left)
 
 pub waits-spec : {M : Type 1} → statement M

@@ -12,11 +12,10 @@ use Rattle.rules.specs.Refusal.{Store, Lent, mostSamples}
 use Rattle.rules.specs.Mill.{millPlace}
 use Rattle.node.specs.Memory.{levelOf}
 use Rattle.capture.specs.Record.{storeOf, lentOf}
-use Rattle.capture.proofs.Answer.{refused-is, given-is, rows-are}
+use Rattle.capture.proofs.Answer.{refused-is, given-is}
 use Rattle.mill.specs.Reader.{originIn}
 use Rattle.mill.proofs.Places.{counted-back}
 use Rattle.mill.proofs.Under.{Passed, passed}
-use Rattle.mill_read.specs.Read.{extentOf}
 use Rattle.mill_read.proofs.extent.Statement.{statement}
 use Rattle.mill_read.proofs.extent.Tie as tie
 
@@ -31,7 +30,7 @@ module _ (f : tie.After-refusal) where
   lent = lentOf (now (s .args .samples)) (levelOf (now (s .args .l1)) (now (s .args .l2)) (now (s .args .l3)) (now (s .args .l4)))
 
   let-pass : f .refusal .result ≡ 0 → Passed st lent (pos 0) (pos 0)
-  let-pass z = passed st (now (s .args .samples)) (now (s .args .l1)) (now (s .args .l2)) (now (s .args .l3)) (now (s .args .l4)) false (pos 0) (pos 0) (f .refusal .result) (f .refusal .ensures) z
+  let-pass z = passed st lent false (pos 0) (pos 0) (f .refusal .ensures) z
 
 -- the origin and len are small
 small : (o : tie.After-origin) → (o .origin .result ≤ mostSamples) × (s (o .before .before) .args .c .len ≤ mostSamples)
@@ -45,10 +44,7 @@ refusal-requires : tie.Need-refusal-requires
 refusal-requires c κs = search needs
 
 returns : tie.Need-returns
-returns c =
-    let f = c .before in
-    let a = f .before .before .before .before .before .before .args in
-    refused-is (extentOf (st f)) _ (f .refusal .result) (rows-are (st f) (now (a .samples)) (now (a .l1)) (now (a .l2)) (now (a .l3)) (now (a .l4)) (f .refusal .result) (f .refusal .ensures)) (c .if1 .taken)
+returns c = refused-is _ (c .before .refusal .ensures) (c .if1 .taken)
 
 origin-requires : tie.Need-origin-requires
 origin-requires c κs = search needs
@@ -66,11 +62,9 @@ returns-2 : tie.Need-returns-2
 returns-2 c =
     let o = c .before .before .before in
     let f = o .before .before in
-    let a = f .before .before .before .before .before .before .args in
     let first = counts o 0 (omega arith) (c .before .before .counted-from .result) (c .before .before .counted-from .ensures) in
-    let end = counts o (a .c .len) (omega arith) (c .before .counted-from2 .result) (c .before .counted-from2 .ensures) in
-    given-is (extentOf (st f)) _ _ (rows-are (st f) (now (a .samples)) (now (a .l1)) (now (a .l2)) (now (a .l3)) (now (a .l4)) (f .refusal .result) (f .refusal .ensures) ∙ o .before .if1 .left)
-    (λ i. record { first = first i; end = end i; marked = c .has-mark .ensures i })
+    let end = counts o (s f .args .c .len) (omega arith) (c .before .counted-from2 .result) (c .before .counted-from2 .ensures) in
+    given-is _ (f .refusal .ensures) (o .before .if1 .left) (λ i. record { first = first i; end = end i; marked = c .has-mark .ensures i })
 
 pub extent-spec : {M : Type 1} → statement M
 extent-spec =

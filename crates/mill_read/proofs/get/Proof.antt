@@ -44,7 +44,7 @@ module _ (f : tie.After-refusal) where
   own = getRow (st .len) (placeAt (originIn (s .args .c)) p) ∷ []
 
   let-pass : f .refusal .result ≡ 0 → Passed st lent p (pos 0)
-  let-pass z = passed st (now (s .args .samples)) (now (s .args .l1)) (now (s .args .l2)) (now (s .args .l3)) (now (s .args .l4)) false p (pos 0) (f .refusal .result) (f .refusal .ensures) z
+  let-pass z = passed st lent false p (pos 0) (f .refusal .ensures) z
 
   -- what is shown at the place as it is read back is shown at the place
   answered : (r : Answer ℕ) → r ≡ answer p → r ≡ answer (s .args .place)
@@ -56,8 +56,7 @@ refusal-requires c κs = search needs
 returns : tie.Need-returns
 returns c =
     let f = c .before in
-    let a = f .before .before .before .before .before .before .args in
-    answered f _ (under-refused (st f) (now (a .samples)) (now (a .l1)) (now (a .l2)) (now (a .l3)) (now (a .l4)) false (p f) (pos 0) (f .refusal .result) (f .refusal .ensures) (own f) _ (c .if1 .taken))
+    answered f _ (under-refused (st f) (lent f) false (p f) (pos 0) (f .refusal .ensures) (own f) _ (c .if1 .taken))
 
 origin-requires : tie.Need-origin-requires
 origin-requires c κs = search needs
@@ -80,7 +79,7 @@ returns-2 c =
     answered f _
     (c .granted .ensures
     ∙ ap (seen grant) (c .before .get .ensures ∙ ap (λ (i : ℕ). unless (getRefusal (st f) (lent f) i) (sampleOf (a .c .unitsize) (now (a .samples)) i)) i-is)
-    ∙ under-given (st f) (now (a .samples)) (now (a .l1)) (now (a .l2)) (now (a .l3)) (now (a .l4)) false (p f) (pos 0) (f .refusal .result) (f .refusal .ensures) (own f) grant (sampleOf (a .c .unitsize) (now (a .samples)) (placeAt (originIn (a .c)) (p f))) (c .before .before .before .before .if1 .left))
+    ∙ under-given (st f) (lent f) false (p f) (pos 0) (f .refusal .ensures) (own f) grant (sampleOf (a .c .unitsize) (now (a .samples)) (placeAt (originIn (a .c)) (p f))) (c .before .before .before .before .if1 .left))
 
 pub get-spec : {M : Type 1} → statement M
 get-spec =

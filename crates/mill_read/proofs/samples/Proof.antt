@@ -42,7 +42,7 @@ module _ (f : tie.After-refusal) where
   Copied-at z r output′ = MillCopies st (now (s .args .bytes)) levels (s .args .grant) z (s .args .count) (now (s .args .output)) r output′
 
   let-pass : f .refusal .result ≡ 0 → Passed st (lentOf (now (s .args .bytes)) levels) p (pos 0)
-  let-pass z = passed st (now (s .args .bytes)) (now (s .args .l1)) (now (s .args .l2)) (now (s .args .l3)) (now (s .args .l4)) false p (pos 0) (f .refusal .result) (f .refusal .ensures) z
+  let-pass z = passed st (lentOf (now (s .args .bytes)) levels) false p (pos 0) (f .refusal .ensures) z
 
   -- what holds at the place as it is read back holds at the place
   answered : (r : Copied) (output′ : List ℕ) → Copied-at p r output′ → Copied-at (s .args .start) r output′
@@ -72,7 +72,7 @@ returns : tie.Need-returns
 returns c =
     let f = c .before in
     let a = f .before .before .before .before .before .before .before .args in
-    answered f _ _ (copies-refused (st f) (now (a .bytes)) (now (a .l1)) (now (a .l2)) (now (a .l3)) (now (a .l4)) (a .grant) (p f) (a .count) (now (a .output)) (f .refusal .result) (f .refusal .ensures) (c .if1 .taken))
+    answered f _ _ (copies-refused (st f) (now (a .bytes)) (levels f) (a .grant) (p f) (a .count) (now (a .output)) (f .refusal .ensures) (c .if1 .taken))
 
 origin-requires : tie.Need-origin-requires
 origin-requires c κs = search needs
@@ -97,14 +97,14 @@ returns-2 c =
     let g = c .before .before .before .before in
     let f = called g in
     let a = f .before .before .before .before .before .before .before .args in
-    answered f _ _ (copies-none (st f) (now (a .bytes)) (now (a .l1)) (now (a .l2)) (now (a .l3)) (now (a .l4)) (a .grant) (p f) (a .count) (now (a .output)) (f .refusal .result) (f .refusal .ensures) (g .before .before .before .before .if1 .left) (g .samples .result) (left g) (service g) _ (c .enum-told .given .1))
+    answered f _ _ (copies-none (st f) (now (a .bytes)) (levels f) (a .grant) (p f) (a .count) (now (a .output)) (f .refusal .ensures) (g .before .before .before .before .if1 .left) (g .samples .result) (left g) (service g) _ (c .enum-told .given .1))
 
 cut-down-requires : tie.Need-cut-down-requires
 cut-down-requires c κs =
     let g = c .before .before .before .before .before .before in
     let f = called g in
     let a = f .before .before .before .before .before .before .before .args in
-    omega (arith, copies-room (st f) (now (a .bytes)) (now (a .l1)) (now (a .l2)) (now (a .l3)) (now (a .l4)) (a .grant) (p f) (a .count) (now (a .output)) (f .refusal .result) (f .refusal .ensures) (g .before .before .before .before .if1 .left) (g .samples .result) (left g) (service g) _ (c .before .before .copied .given .1))
+    omega (arith, copies-room (st f) (now (a .bytes)) (levels f) (a .grant) (p f) (a .count) (now (a .output)) (f .refusal .ensures) (g .before .before .before .before .if1 .left) (g .samples .result) (left g) (service g) _ (c .before .before .copied .given .1))
 
 same-length-2 : tie.Need-same-length-2
 same-length-2 c = search needs
@@ -114,7 +114,7 @@ returns-3 c =
     let g = c .before .before .before .before .before .before .before .before .before in
     let f = called g in
     let a = f .before .before .before .before .before .before .before .args in
-    answered f _ _ (copies-count (st f) (now (a .bytes)) (now (a .l1)) (now (a .l2)) (now (a .l3)) (now (a .l4)) (a .grant) (p f) (a .count) (now (a .output)) (f .refusal .result) (f .refusal .ensures) (g .before .before .before .before .if1 .left) (g .samples .result) (left g) (service g) _ (c .before .before .before .before .before .copied .given .1) _ (c .before .before .cut-down .ensures))
+    answered f _ _ (copies-count (st f) (now (a .bytes)) (levels f) (a .grant) (p f) (a .count) (now (a .output)) (f .refusal .ensures) (g .before .before .before .before .if1 .left) (g .samples .result) (left g) (service g) _ (c .before .before .before .before .before .copied .given .1) _ (c .before .before .cut-down .ensures))
 
 pub samples-spec : {M : Type 1} → statement M
 samples-spec =

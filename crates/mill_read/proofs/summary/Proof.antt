@@ -52,7 +52,7 @@ module _ (f : tie.After-refusal) where
   answer y z = unless (millSummaryRefusal st lent y z) (cutSummary (s .args .grant) (summed-at (placeAt (originIn (s .args .c)) y) (placeAt (originIn (s .args .c)) z)))
 
   let-pass : f .refusal .result ≡ 0 → Passed st lent p q
-  let-pass z = passed st (now (s .args .samples)) (now (s .args .l1)) (now (s .args .l2)) (now (s .args .l3)) (now (s .args .l4)) false p q (f .refusal .result) (f .refusal .ensures) z
+  let-pass z = passed st lent false p q (f .refusal .ensures) z
 
   -- what is shown at the places as they are read back is shown at the places
   answered : (r : Answer (Option Node)) → r ≡ answer p q → r ≡ answer (s .args .a) (s .args .b)
@@ -64,8 +64,7 @@ refusal-requires c κs = search needs
 returns : tie.Need-returns
 returns c =
     let f = c .before in
-    let a = f .before .before .before .before .before .before .args in
-    answered f _ (under-refused (st f) (now (a .samples)) (now (a .l1)) (now (a .l2)) (now (a .l3)) (now (a .l4)) false (p f) (q f) (f .refusal .result) (f .refusal .ensures) [] _ (c .if1 .taken))
+    answered f _ (under-refused (st f) (lent f) false (p f) (q f) (f .refusal .ensures) [] _ (c .if1 .taken))
 
 origin-requires : tie.Need-origin-requires
 origin-requires c κs = search needs
@@ -91,8 +90,8 @@ returns-2 c =
     let j-is = c .before .before .place-at2 .ensures ∙ ap (λ (x : ℕ). placeAt x (q f)) (o .origin .ensures) in
     answered f _
     (c .cut-summed .ensures
-    ∙ ap (seen (cutSummary (a .grant))) (c .before .summed-in .ensures ∙ ap₂ (λ (i j : ℕ). given (summed-at f i j)) i-is j-is ∙ given-under (st f) (now (a .samples)) (now (a .l1)) (now (a .l2)) (now (a .l3)) (now (a .l4)) false (p f) (q f) (f .refusal .result) (f .refusal .ensures) (summed-at f (placeAt (originIn (a .c)) (p f)) (placeAt (originIn (a .c)) (q f))) (o .before .if1 .left))
-    ∙ under-given (st f) (now (a .samples)) (now (a .l1)) (now (a .l2)) (now (a .l3)) (now (a .l4)) false (p f) (q f) (f .refusal .result) (f .refusal .ensures) [] (cutSummary (a .grant)) (summed-at f (placeAt (originIn (a .c)) (p f)) (placeAt (originIn (a .c)) (q f))) (o .before .if1 .left))
+    ∙ ap (seen (cutSummary (a .grant))) (c .before .summed-in .ensures ∙ ap₂ (λ (i j : ℕ). given (summed-at f i j)) i-is j-is ∙ given-under (st f) (lent f) false (p f) (q f) (f .refusal .ensures) (summed-at f (placeAt (originIn (a .c)) (p f)) (placeAt (originIn (a .c)) (q f))) (o .before .if1 .left))
+    ∙ under-given (st f) (lent f) false (p f) (q f) (f .refusal .ensures) [] (cutSummary (a .grant)) (summed-at f (placeAt (originIn (a .c)) (p f)) (placeAt (originIn (a .c)) (q f))) (o .before .if1 .left))
 
 pub summary-spec : {M : Type 1} → statement M
 summary-spec =

@@ -1,5 +1,6 @@
 -- `mill_render::render` meets its contract: the first row that holds, or the pixels drawn and cut down. Assumes nothing.
 use mathlib.Core.Path.{_≡_, sym, _∙_}
+use mathlib.Core.List.{List}
 use Prim.Native.Nat.{ℕ}
 use native.Mathlib.Omega.{arith}
 use lib.ListN.{length}
@@ -8,11 +9,10 @@ use borrow.Author.Needs.{needs}
 use Rattle.rules.specs.Sample.{sampleOf}
 use Rattle.rules.specs.Node.{Node}
 use Rattle.rules.specs.Pixel.{rangeFrom}
-use Rattle.rules.specs.Refusal.{Lent, storeRefusal, viewRows}
-use Rattle.rules.proofs.Refusal.{rows-left}
+use Rattle.rules.specs.Refusal.{Store, Lent, Row, firstOf, storeRows, viewRows}
 use Rattle.node.specs.Memory.{levelOf}
 use Rattle.capture.specs.Record.{storeOf, lentOf}
-use Rattle.capture.proofs.Answer.{rows-are, rows-refuse}
+use Rattle.capture.proofs.Answer.{let-in, rows-refuse, rows-decide}
 use Rattle.pixel.specs.Ranges.{viewAs}
 use Rattle.summary.specs.Summary.{summed}
 use Rattle.render.specs.Render.{Drawable}
@@ -21,52 +21,56 @@ use Rattle.mill_render.proofs.Drawing.{drawn-room, origin-stored, draws
 use Rattle.mill_render.proofs.render.Statement.{statement}
 use Rattle.mill_render.proofs.render.Tie as tie
 
--- the nodes that memory holds, and its lengths
-abbrev node-at : tie.After-refusal → ℕ → ℕ → Node
-node-at c =
-    let a = c .before .before .before .before .before .before .before .args in
-    summed (levelOf (now (a .l1)) (now (a .l2)) (now (a .l3)) (now (a .l4))) (sampleOf (a .c .unitsize) (now (a .samples)))
+-- the nodes that memory holds, its lengths, and the call's own rows
+module _ (f : tie.After-refusal) where
+  abbrev s : tie.Start
+  s = f .before .before .before .before .before .before .before
 
-abbrev lent-at : tie.After-refusal → Lent
-lent-at c =
-    let a = c .before .before .before .before .before .before .before .args in
-    lentOf (now (a .samples)) (levelOf (now (a .l1)) (now (a .l2)) (now (a .l3)) (now (a .l4)))
+  abbrev levels : ℕ → List ℕ
+  levels = levelOf (now (s .args .l1)) (now (s .args .l2)) (now (s .args .l3)) (now (s .args .l4))
 
--- past the first test rows 1 and 2 do not hold
-stored : (c : tie.Else1) → storeRefusal (storeOf (c .before .before .before .before .before .before .before .before .args .c)) (lent-at (c .before)) ≡ 0
-stored c =
-    let a = c .before .before .before .before .before .before .before .before .args in
-    rows-are (storeOf (a .c)) (now (a .samples)) (now (a .l1)) (now (a .l2)) (now (a .l3)) (now (a .l4)) (c .before .refusal .result) (c .before .refusal .ensures) ∙ c .if1 .left
+  abbrev node-at : ℕ → ℕ → Node
+  node-at = summed levels (sampleOf (s .args .c .unitsize) (now (s .args .samples)))
 
--- past the second the view can be drawn
-ready : (c : tie.After-origin) → let a = c .before .before .before .before .before .before .before .before .before .before .before .args in Drawable (storeOf (a .c)) (lent-at (c .before .before .before .before)) (c .origin .result) (a .width) (length (now (a .output)))
+  abbrev st : Store
+  st = storeOf (s .args .c)
+
+  abbrev lent : Lent
+  lent = lentOf (now (s .args .samples)) levels
+
+  abbrev own : List Row
+  own = viewRows (viewAs (s .args .view)) (s .args .width) (length (now (s .args .output)))
+
+-- the number that view_refusal gave is the call's
+number-is : (v : tie.After-view-refusal) → let f = v .before .before in v .view-refusal .result ≡ firstOf (storeRows (st f) (lent f) (own f))
+number-is v = let f = v .before .before in rows-decide (st f) (lent f) (own f) (f .refusal .ensures) (v .before .if1 .left) _ (v .view-refusal .ensures)
+
+-- past it the view can be drawn
+ready : (c : tie.After-origin) → let f = c .before .before .before .before in Drawable (st f) (lent f) (c .origin .result) (s f .args .width) (length (now (s f .args .output)))
 ready c =
-    let e = c .before .before .before in
-    let a = e .before .before .before .before .before .before .before .before .args in
-    drawable (storeOf (a .c)) (lent-at (e .before)) (viewAs (a .view)) (a .width) (length (now (a .output))) (stored e) (c .origin .result)
-    (omega (arith, c .origin .ensures, origin-stored (storeOf (a .c)) (lent-at (e .before)) (stored e))) (sym (c .before .before .view-refusal .ensures) ∙ c .before .if2 .left)
+    let v = c .before .before in
+    let f = v .before .before in
+    let a = s f .args in
+    drawable (st f) (lent f) (viewAs (a .view)) (a .width) (length (now (a .output))) (let-in (f .refusal .ensures) (v .before .if1 .left)) (c .origin .result)
+    (omega (arith, c .origin .ensures, origin-stored (st f) (lent f) (f .refusal .ensures) (v .before .if1 .left))) (sym (v .view-refusal .ensures) ∙ c .before .if2 .left)
 
 refusal-requires : tie.Need-refusal-requires
 refusal-requires c κs = search needs
 
 returns : tie.Need-returns
 returns c =
-    let n = c .before .refusal in
-    let a = c .before .before .before .before .before .before .before .before .args in
-    let v = viewAs (a .view) in
-    draws-refused (node-at (c .before)) (storeOf (a .c)) (lent-at (c .before)) (a .grant) v (a .width) (now (a .output)) (n .result)
-    (rows-refuse (storeOf (a .c)) (now (a .samples)) (now (a .l1)) (now (a .l2)) (now (a .l3)) (now (a .l4)) (n .result) (n .ensures) (viewRows v (a .width) (length (now (a .output)))) (c .if1 .taken)) (c .if1 .taken)
+    let f = c .before in
+    let a = s f .args in
+    draws-refused (node-at f) (st f) (lent f) (a .grant) (viewAs (a .view)) (a .width) (now (a .output)) (rows-refuse (st f) (lent f) (own f) (f .refusal .ensures) (c .if1 .taken)) (c .if1 .taken)
 
 view-refusal-requires : tie.Need-view-refusal-requires
 view-refusal-requires c κs = search needs
 
 returns-2 : tie.Need-returns-2
 returns-2 c =
-    let e = c .before .before in
-    let a = e .before .before .before .before .before .before .before .before .args in
-    let v = viewAs (a .view) in
-    draws-refused (node-at (e .before)) (storeOf (a .c)) (lent-at (e .before)) (a .grant) v (a .width) (now (a .output)) (c .before .view-refusal .result)
-    (rows-left (storeOf (a .c)) (lent-at (e .before)) (stored e) (viewRows v (a .width) (length (now (a .output)))) ∙ sym (c .before .view-refusal .ensures)) (c .if2 .taken)
+    let f = c .before .before .before in
+    let a = s f .args in
+    draws-refused (node-at f) (st f) (lent f) (a .grant) (viewAs (a .view)) (a .width) (now (a .output)) (number-is (c .before)) (c .if2 .taken)
 
 origin-requires : tie.Need-origin-requires
 origin-requires c κs = search needs
@@ -81,9 +85,9 @@ cut-down-requires : tie.Need-cut-down-requires
 cut-down-requires c κs =
     let d = c .before .before .before in
     let o = d .before .before in
-    let e = o .before .before .before in
-    let a = e .before .before .before .before .before .before .before .before .args in
-    drawn-room (a .grant) (node-at (e .before)) (rangeFrom (o .origin .result) (viewAs (a .view)) (a .c .len)) (a .width) (now (a .output)) _ (ready o .room) (d .draw .ensures)
+    let f = o .before .before .before .before in
+    let a = s f .args in
+    drawn-room (a .grant) (node-at f) (rangeFrom (o .origin .result) (viewAs (a .view)) (a .c .len)) (a .width) (now (a .output)) _ (ready o .room) (d .draw .ensures)
 
 same-length : tie.Need-same-length
 same-length c = search needs
@@ -92,12 +96,9 @@ returns-3 : tie.Need-returns-3
 returns-3 c =
     let d = c .before .before .before .before .before .before in
     let o = d .before .before in
-    let e = o .before .before .before in
-    let a = e .before .before .before .before .before .before .before .before .args in
-    let v = viewAs (a .view) in
-    draws-done (node-at (e .before)) (storeOf (a .c)) (lent-at (e .before)) (a .grant) v (a .width) (now (a .output)) (o .origin .result) _ _
-    (rows-left (storeOf (a .c)) (lent-at (e .before)) (stored e) (viewRows v (a .width) (length (now (a .output)))) ∙ sym (o .before .before .view-refusal .ensures) ∙ o .before .if2 .left)
-    (o .origin .ensures) (d .draw .ensures) (c .before .before .cut-down .ensures)
+    let f = o .before .before .before .before in
+    let a = s f .args in
+    draws-done (node-at f) (st f) (lent f) (a .grant) (viewAs (a .view)) (a .width) (now (a .output)) (number-is (o .before .before)) (o .before .if2 .left) (o .origin .result) _ _ (o .origin .ensures) (d .draw .ensures) (c .before .before .cut-down .ensures)
 
 pub render-spec : {M : Type 1} → statement M
 render-spec = tie.close (tie.spec refusal-requires returns view-refusal-requires returns-2 origin-requires draw-requires mul-cut-down cut-down-requires same-length returns-3)

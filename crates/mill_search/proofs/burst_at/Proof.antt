@@ -40,7 +40,7 @@ unfolding burstOf
 returns c =
     let f = c .before in
     let t = s f in
-    asked-refused (t .args .c) (now (t .args .samples)) (now (t .args .l1)) (now (t .args .l2)) (now (t .args .l3)) (now (t .args .l4)) (t .args .grant) (t .args .mask) (t .args .sample) (t .fits .sample) (f .before .beyond .result) (f .before .beyond .ensures) (f .refusal .result) (f .refusal .ensures)
+    asked-refused (t .args .c) (now (t .args .samples)) (levels f) (t .args .grant) (t .args .mask) (t .args .sample) (t .fits .sample) (f .before .beyond .ensures) (f .refusal .ensures)
     (λ (y : ℤ). through (shownBurst (originIn (t .args .c))) (find f (placeAt (originIn (t .args .c)) y)))
     (c .if1 .taken)
 
@@ -51,7 +51,7 @@ place-at-requires : tie.Need-place-at-requires
 place-at-requires c κs =
     let f = c .before .before in
     let t = s f in
-    asked-placed (t .args .c) (now (t .args .samples)) (now (t .args .l1)) (now (t .args .l2)) (now (t .args .l3)) (now (t .args .l4)) (t .args .grant) (t .args .mask) (t .args .sample) (t .fits .sample) (f .before .beyond .result) (f .before .beyond .ensures) (f .refusal .result) (f .refusal .ensures)
+    asked-placed (t .args .c) (now (t .args .samples)) (levels f) (t .args .grant) (t .args .mask) (t .args .sample) (t .fits .sample) (f .before .beyond .ensures) (f .refusal .ensures)
     (c .before .if1 .left) (c .origin .result) (c .origin .ensures)
 
 burst-at-requires : tie.Need-burst-at-requires
@@ -62,7 +62,7 @@ burst-from-requires c κs =
     let o = c .before .before in
     let f = o .before .before in
     let t = s f in
-    asked-counts (t .args .c) (now (t .args .samples)) (now (t .args .l1)) (now (t .args .l2)) (now (t .args .l3)) (now (t .args .l4)) (t .args .grant) (t .args .mask) (t .args .sample) (t .fits .sample) (f .before .beyond .result) (f .before .beyond .ensures) (f .refusal .result) (f .refusal .ensures)
+    asked-counts (t .args .c) (now (t .args .samples)) (levels f) (t .args .grant) (t .args .mask) (t .args .sample) (t .fits .sample) (f .before .beyond .ensures) (f .refusal .ensures)
     (o .before .if1 .left) (o .origin .result) (o .origin .ensures)
     (find f) (c .before .place-at .result) (c .before .place-at .ensures) (service.burstAs (c .burst-at .result)) (c .burst-at .ensures ∙ burst-asked (t .args .c) (now (t .args .samples)) (levels f) (t .args .mask) (t .args .max-gap) (t .args .tolerance) (t .args .budget) (c .before .place-at .result))
     SmallBurst (burst-small (t .args .c) (now (t .args .samples)) (levels f) (t .args .mask) (t .args .max-gap) (t .args .tolerance) (t .args .budget))
@@ -74,7 +74,7 @@ returns-2 c =
     let o = g .before .before in
     let f = o .before .before in
     let t = s f in
-    asked-shown (t .args .c) (now (t .args .samples)) (now (t .args .l1)) (now (t .args .l2)) (now (t .args .l3)) (now (t .args .l4)) (t .args .grant) (t .args .mask) (t .args .sample) (t .fits .sample) (f .before .beyond .result) (f .before .beyond .ensures) (f .refusal .result) (f .refusal .ensures)
+    asked-shown (t .args .c) (now (t .args .samples)) (levels f) (t .args .grant) (t .args .mask) (t .args .sample) (t .fits .sample) (f .before .beyond .ensures) (f .refusal .ensures)
     (o .before .if1 .left) (o .origin .result) (o .origin .ensures)
     (find f) (g .before .place-at .result) (g .before .place-at .ensures) (service.burstAs (g .burst-at .result)) (g .burst-at .ensures ∙ burst-asked (t .args .c) (now (t .args .samples)) (levels f) (t .args .mask) (t .args .max-gap) (t .args .tolerance) (t .args .budget) (g .before .place-at .result))
     shownBurst _ (c .burst-from .ensures)

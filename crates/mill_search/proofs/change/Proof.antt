@@ -43,7 +43,7 @@ unfolding changeOf
 returns c =
     let f = c .before in
     let t = s f in
-    asked-refused (t .args .c) (now (t .args .samples)) (now (t .args .l1)) (now (t .args .l2)) (now (t .args .l3)) (now (t .args .l4)) (t .args .grant) (t .args .mask) (t .args .from) (t .fits .from) (f .before .beyond .result) (f .before .beyond .ensures) (f .refusal .result) (f .refusal .ensures)
+    asked-refused (t .args .c) (now (t .args .samples)) (levels f) (t .args .grant) (t .args .mask) (t .args .from) (t .fits .from) (f .before .beyond .ensures) (f .refusal .ensures)
     (λ (y : ℤ). through (shownPlace (originIn (t .args .c))) (find f (t .args .backward) (placeAt (originIn (t .args .c)) y)))
     (c .if1 .taken)
 
@@ -54,7 +54,7 @@ place-at-requires : tie.Need-place-at-requires
 place-at-requires c κs =
     let f = c .before .before in
     let t = s f in
-    asked-placed (t .args .c) (now (t .args .samples)) (now (t .args .l1)) (now (t .args .l2)) (now (t .args .l3)) (now (t .args .l4)) (t .args .grant) (t .args .mask) (t .args .from) (t .fits .from) (f .before .beyond .result) (f .before .beyond .ensures) (f .refusal .result) (f .refusal .ensures) (c .before .if1 .left) (c .origin .result) (c .origin .ensures)
+    asked-placed (t .args .c) (now (t .args .samples)) (levels f) (t .args .grant) (t .args .mask) (t .args .from) (t .fits .from) (f .before .beyond .ensures) (f .refusal .ensures) (c .before .if1 .left) (c .origin .result) (c .origin .ensures)
 
 -- ---- the place is known: what either search answers
 module _ (a : tie.After-place-at) where
@@ -68,18 +68,18 @@ module _ (a : tie.After-place-at) where
   t = s f
 
   stored : Stored (t .args .c .unitsize) (t .args .c .len) (now (t .args .samples)) (levels f)
-  stored = asked-stored (t .args .c) (now (t .args .samples)) (now (t .args .l1)) (now (t .args .l2)) (now (t .args .l3)) (now (t .args .l4)) (t .args .grant) (t .args .mask) (t .args .from) (t .fits .from) (f .before .beyond .result) (f .before .beyond .ensures) (f .refusal .result) (f .refusal .ensures) (o .before .if1 .left) (o .origin .result) (o .origin .ensures)
+  stored = asked-stored (t .args .c) (now (t .args .samples)) (levels f) (t .args .grant) (t .args .mask) (t .args .from) (t .fits .from) (f .before .beyond .ensures) (f .refusal .ensures) (o .before .if1 .left) (o .origin .result) (o .origin .ensures)
 
   -- a search in the direction asked
   module _ (backward : Bool) (same : t .args .backward ≡ backward) (place : Place) (answer : placeOf place ≡ find f backward (a .place-at .result)) where
     answered : given (placeOf place) ≡ unless (storeRefusal (storeOf (t .args .c)) (lentOf (now (t .args .samples)) (levels f))) (find f (t .args .backward) (a .place-at .result))
     answered =
         ap given (answer ∙ ap (λ (b : Bool). find f b (a .place-at .result)) (sym same))
-        ∙ asked-given (t .args .c) (now (t .args .samples)) (now (t .args .l1)) (now (t .args .l2)) (now (t .args .l3)) (now (t .args .l4)) (t .args .grant) (t .args .mask) (t .args .from) (t .fits .from) (f .before .beyond .result) (f .before .beyond .ensures) (f .refusal .result) (f .refusal .ensures) (o .before .if1 .left) (o .origin .result) (o .origin .ensures) (find f (t .args .backward) (a .place-at .result))
+        ∙ asked-given (t .args .c) (now (t .args .samples)) (levels f) (t .args .grant) (t .args .mask) (t .args .from) (t .fits .from) (f .before .beyond .ensures) (f .refusal .ensures) (o .before .if1 .left) (o .origin .result) (o .origin .ensures) (find f (t .args .backward) (a .place-at .result))
 
     counts : Counts SmallPlace (o .origin .result) (given (placeOf place))
     counts =
-        asked-counts (t .args .c) (now (t .args .samples)) (now (t .args .l1)) (now (t .args .l2)) (now (t .args .l3)) (now (t .args .l4)) (t .args .grant) (t .args .mask) (t .args .from) (t .fits .from) (f .before .beyond .result) (f .before .beyond .ensures) (f .refusal .result) (f .refusal .ensures) (o .before .if1 .left) (o .origin .result) (o .origin .ensures)
+        asked-counts (t .args .c) (now (t .args .samples)) (levels f) (t .args .grant) (t .args .mask) (t .args .from) (t .fits .from) (f .before .beyond .ensures) (f .refusal .ensures) (o .before .if1 .left) (o .origin .result) (o .origin .ensures)
         (find f (t .args .backward)) (a .place-at .result) (a .place-at .ensures) (given (placeOf place)) answered
         SmallPlace (change-small (t .args .c) (now (t .args .samples)) (levels f) (t .args .mask) (t .args .backward))
 
@@ -87,7 +87,7 @@ module _ (a : tie.After-place-at) where
         → shown ≡ changeOf (t .args .backward) (t .args .c) (now (t .args .samples)) (levels f) (t .args .grant) (t .args .mask) (t .args .from)
     unfolding changeOf
     shows shown e =
-        asked-shown (t .args .c) (now (t .args .samples)) (now (t .args .l1)) (now (t .args .l2)) (now (t .args .l3)) (now (t .args .l4)) (t .args .grant) (t .args .mask) (t .args .from) (t .fits .from) (f .before .beyond .result) (f .before .beyond .ensures) (f .refusal .result) (f .refusal .ensures) (o .before .if1 .left) (o .origin .result) (o .origin .ensures)
+        asked-shown (t .args .c) (now (t .args .samples)) (levels f) (t .args .grant) (t .args .mask) (t .args .from) (t .fits .from) (f .before .beyond .ensures) (f .refusal .ensures) (o .before .if1 .left) (o .origin .result) (o .origin .ensures)
         (find f (t .args .backward)) (a .place-at .result) (a .place-at .ensures) (given (placeOf place)) answered
         shownPlace shown e
 

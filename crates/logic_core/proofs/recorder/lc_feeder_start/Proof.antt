@@ -2,7 +2,6 @@
 use borrow.Author.Needs.{needs}
 use denote.Ref.{now}
 use Rattle.node.specs.Memory.{levelOf}
-use Rattle.capture.proofs.Answer.{lent-same}
 use Rattle.logic_core.proofs.Starts.{starts-told}
 use Rattle.logic_core.proofs.recorder.lc_feeder_start.Statement.{statement}
 use Rattle.logic_core.proofs.recorder.lc_feeder_start.Tie as tie
@@ -22,7 +21,7 @@ begun-code-requires c κs = search needs
 returns : tie.Need-returns
 returns c =
     let a = c .before .before .before .before .before .before .before .before .before .before .before .before .before .args in
-    starts-told (a .channels) (a .capacity) (a .limit) (now (a .terms)) (a .seconds) (a .wish) (a .rate) (now (a .samples)) (levelOf (now (a .l1)) (now (a .l2)) (now (a .l3)) (now (a .l4))) (now (a .ring)) (c .before .before .before .start .result) _ _ _ _ _ (lent-same (now (a .samples)) (now (a .l1)) (now (a .l2)) (now (a .l3)) (now (a .l4))) (c .before .before .before .before .before .terms-in .ensures) (c .before .before .before .before .wish-in .ensures) (c .before .before .before .start .ensures) (c .begun-code .ensures)
+    starts-told (a .channels) (a .capacity) (a .limit) (now (a .terms)) (a .seconds) (a .wish) (a .rate) (now (a .samples)) (levelOf (now (a .l1)) (now (a .l2)) (now (a .l3)) (now (a .l4))) (now (a .ring)) (c .before .before .before .start .result) _ _ _ _ _ (c .before .before .before .before .before .terms-in .ensures) (c .before .before .before .before .wish-in .ensures) (c .before .before .before .start .ensures) (c .begun-code .ensures)
 
 pub lc-feeder-start-spec : {M : Type 1} → statement M
 lc-feeder-start-spec =
