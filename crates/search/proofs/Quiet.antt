@@ -6,14 +6,13 @@ use mathlib.Core.List.{List}
 use mathlib.Core.Option.{none}
 use native.Mathlib.Omega.{arith}
 use borrow.Author.Tests.{eq-eqb, le-leb}
-use lib.Dec.{leb, eqb}
 use Rattle.rules.specs.Sample.{sampleOf}
 use Rattle.rules.specs.Node.{Node, mirror, quiet, span, topLevel, chunk}
 use Rattle.rules.specs.Walk.{Walked, Way, Course, ahead, behind, walkFrom, allLevels}
 use Rattle.rules.proofs.Walk.{counted, best-top, walk-past, walk-ended}
 use Rattle.node.specs.Memory.{nodeIn, readerOf}
 use Rattle.node.proofs.Memory.{reads-sample, reads-node}
-use Rattle.find.specs.Run.{nodeAt, nthNode}
+use Rattle.find.specs.Run.{nodeAt}
 use Rattle.find.specs.Way.{moved}
 use Rattle.find.proofs.Going.{told}
 use Rattle.find.proofs.Node.{at-node}

@@ -25,7 +25,7 @@ pub record QuietChunks (unit : ℕ) (samples l4 : List ℕ) (back : Bool) (mask 
   pub each : (j : ℕ) → j < k → quietNth unit samples l4 back mask b j ≡ true
   pub stops : k < n → quietNth unit samples l4 back mask b k ≡ false
 
--- what n of them ask of memory
+-- what the chunk after k others asks of memory, and what n of them ask
 pub record ChunkHeld (unit : ℕ) (samples l4 : List ℕ) (back : Bool) (b k : ℕ) : Type 0 where
   pub node : NthHeld unit samples l4 topLevel back b k
   pub place : moved back b k * chunk < 18446744073709551616

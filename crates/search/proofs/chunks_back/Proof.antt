@@ -9,7 +9,7 @@ use native.Mathlib.Omega.{arith}
 use denote.Ref.{now}
 use borrow.Author.Needs.{needs}
 use Rattle.rules.specs.Node.{Node, chunk}
-use Rattle.rules.specs.Walk.{Walked, behind, walkFrom, previousFrom, allLevels}
+use Rattle.rules.specs.Walk.{behind, walkFrom, previousFrom, allLevels}
 use Rattle.node.specs.Memory.{levelOf, readerOf}
 use Rattle.find.specs.declared.Place.{Place}
 use Rattle.find.specs.Way.{placeOf}

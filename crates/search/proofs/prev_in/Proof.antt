@@ -1,6 +1,5 @@
 -- `search::prev_in` meets its contract: nothing to search, or the walk over chunks. Assumes nothing.
 use mathlib.Core.Path.{_∙_}
-use native.Mathlib.Omega.{arith}
 use denote.Ref.{now}
 use borrow.Author.Needs.{needs}
 use Rattle.rules.specs.Walk.{allLevels}
