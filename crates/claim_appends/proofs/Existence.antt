@@ -14,7 +14,7 @@ use Rattle.capture.specs.declared.Capture.{Capture}
 use Rattle.append.specs.declared.Appended.{Appended}
 use Rattle.append.specs.declared.Appended.the-variants.{Refused, Done}
 use Rattle.append.specs.Append.{numberOf, recordOf, grown, refusalOf, takenOf}
-use Rattle.claim_captures.specs.Claim.{Memory, levels}
+use Rattle.claim_captures.specs.Words.{Memory, levels}
 use Rattle.claim_captures.proofs.Answers.{anywhere, somewhere, four-levels}
 use Rattle.claim_appends.specs.Claim.{MayAppend, Appending, Existence}
 use Rattle.claim_appends.specs.Claim.Appending.{stop, step}

@@ -25,7 +25,8 @@ use Rattle.append.specs.Append.{numberOf, recordOf, grown, refusalOf, takenOf}
 use Rattle.append.proofs.Answer.{refused-full, refused-none, taken-none, taken-all}
 use Rattle.append.proofs.Theorems.{Called, equations, right-stays, old-stay, new-follow, lengths-stay}
 use Rattle.append.proofs.Theorems as call
-use Rattle.claim_captures.specs.Claim.{Memory, levels, at, Held}
+use Rattle.claim_captures.specs.Words.{Memory, levels, at}
+use Rattle.claim_captures.specs.Claim.{Held}
 use Rattle.claim_captures.proofs.Alike.{captures-alike}
 use Rattle.claim_appends.specs.Claim.{MayAppend, Appending, Filling, fits, taken, storedFrom, numbersFrom, unit, stored, Stores, AppendsStore}
 use Rattle.claim_appends.specs.Claim.Appending.{stop, step}

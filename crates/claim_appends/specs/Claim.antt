@@ -21,7 +21,8 @@ use Rattle.capture.proofs.start.Reads as start
 use Rattle.append.specs.declared.Appended.{Appended}
 use Rattle.append.specs.Append.{numberOf, recordOf}
 use Rattle.append.proofs.append.Reads as append
-use Rattle.claim_captures.specs.Claim.{Memory, levels, Ref, Places, lending, Held, Answers, LookAlike, Same}
+use Rattle.claim_captures.specs.Words.{Memory, levels, Ref, Places, lending, Same}
+use Rattle.claim_captures.specs.Claim.{Held, Answers, LookAlike}
 
 -- ---- what start and append may answer, by their contracts
 abbrev pub MayStart : ℕ → ℕ → Memory → Started → Type 0

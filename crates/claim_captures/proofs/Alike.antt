@@ -15,7 +15,8 @@ use Rattle.alike.proofs.Alike.{same-alike, alike-same}
 use Rattle.capture.specs.declared.Capture.{Capture}
 use Rattle.capture.specs.Record.{storeOf, lentOf}
 use Rattle.pixel.specs.Ranges.{viewAs}
-use Rattle.claim_captures.specs.Claim.{Memory, levels, at, Held, Answered, Answers, Usize, Agree, LookAlike, Same, CapturesAlike}
+use Rattle.claim_captures.specs.Words.{Memory, levels, at, Answered, Usize, Agree, Same}
+use Rattle.claim_captures.specs.Claim.{Held, Answers, LookAlike, CapturesAlike}
 use Rattle.claim_captures.proofs.Answers.{answers}
 
 -- ---- two calls that answer x and y agree exactly when these are seen as the same

@@ -53,7 +53,8 @@ use Rattle.render.specs.declared.Drawn.{Drawn}
 use Rattle.render.specs.declared.Drawn.the-variants as drawn-as
 use Rattle.render.specs.Render.{drawnOf, drawn}
 use Rattle.render.proofs.Answers.{render-row}
-use Rattle.claim_captures.specs.Claim.{Memory, levels, Ref, Places, MayGet, MaySummary, MayNext, MayPrevious, MayBurst, MaySamples, MayRender, samplesOf, samplesIn, pixelsOf, pixelsIn, at, Held, Answered, Answers}
+use Rattle.claim_captures.specs.Words.{Memory, levels, Ref, Places, at, Answered}
+use Rattle.claim_captures.specs.Claim.{MayGet, MaySummary, MayNext, MayPrevious, MayBurst, MaySamples, MayRender, samplesOf, samplesIn, pixelsOf, pixelsIn, Held, Answers}
 
 -- ---- an answer for each value
 pub got-for : (x : Answer ℕ) → (v : Got) × (gotOf v ≡ x)

@@ -3,15 +3,13 @@
 -- says of the arguments, the answer, and the memory after the call.
 -- No range is asked of record, memory and the viewer's lines. In `LookAlike` a question's arguments range over what its parameters' types hold: nothing else can be asked.
 use mathlib.Core.Path.{_≡_}
-use mathlib.Core.Bool.{true}
 use mathlib.Core.List.{List, [], _∷_}
 use mathlib.Core.Logic.{_↔_}
 use mathlib.Core.Option.{Option}
-use Prim.Native.Nat.{ℕ, _*_, _^_, _<_}
-use lib.Ieee.{Float, binary64, fits}
-use lib.ListN.{length, take, getD}
+use Prim.Native.Nat.{ℕ, _*_, _<_}
+use lib.ListN.{length, take}
 use contract.Lifetimes.{Lfts}
-use denote.Ref.{RefT, at-last}
+use denote.Ref.{at-last}
 use Rattle.rules.specs.Sample.{Word, sampleOf, listFrom, Within}
 use Rattle.rules.specs.Search.{summary, cutSummary}
 use Rattle.rules.specs.Walk.{nextSearch, previousSearch}
@@ -19,8 +17,7 @@ use Rattle.rules.specs.Burst.{burstSearch}
 use Rattle.rules.specs.Pixel.{render, cutPixels}
 use Rattle.rules.specs.Refusal.{firstOf, storeRefusal, getRow, copied, copyRow, viewRows}
 use Rattle.rules.specs.Answer.{Answer, refused, given, unless, seen}
-use Rattle.alike.specs.Alike as alike
-use Rattle.node.specs.Memory.{levelOf, Right}
+use Rattle.node.specs.Memory.{Right}
 use Rattle.capture.specs.declared.Capture.{Capture}
 use Rattle.capture.specs.declared.Got.{Got}
 use Rattle.capture.specs.declared.Copied.{Copied}
@@ -44,33 +41,7 @@ use Rattle.pixel.specs.Ranges.{viewAs}
 use Rattle.render.specs.declared.Drawn.{Drawn}
 use Rattle.render.specs.declared.Drawn.the-variants as drawn
 use Rattle.render.proofs.render.Reads as render-call
-
--- ---- memory
--- what is lent to a question
-pub record Memory : Type 0 where
-  pub samples : List ℕ
-  pub l1 : List ℕ
-  pub l2 : List ℕ
-  pub l3 : List ℕ
-  pub l4 : List ℕ
-
-abbrev pub levels : Memory → ℕ → List ℕ
-levels m = levelOf (m .l1) (m .l2) (m .l3) (m .l4)
-
--- the references by which a caller lends it, to wherever they point
-abbrev pub Ref : Type 0
-Ref = RefT (List ℕ)
-
-pub record Places : Type 0 where
-  pub samples : Ref
-  pub l1 : Ref
-  pub l2 : Ref
-  pub l3 : Ref
-  pub l4 : Ref
-
--- arguments of a call: its record, the samples and levels as they are lent, and the others
-abbrev pub lending : {A B : Type 0} → A → Places → Memory → B → A × (Ref × (Ref × (Ref × (Ref × (Ref × B)))))
-lending c p m others = (c, (at-last (p .samples) (m .samples), (at-last (p .l1) (m .l1), (at-last (p .l2) (m .l2), (at-last (p .l3) (m .l3), (at-last (p .l4) (m .l4), others))))))
+use Rattle.claim_captures.specs.Words.{Memory, levels, Ref, Places, lending, at, Same, Answered, Usize, F64, Agree}
 
 -- ---- what each call may answer, by its contract; a question leaves what it was lent
 abbrev pub MayGet : Capture → Memory → ℕ → Got → Type 0
@@ -127,10 +98,6 @@ abbrev pub pixelsIn : ℕ → Drawing → Answer (List ℕ)
 pixelsIn width v = pixelsOf width (v .output) (v .answer)
 
 -- ---- captures
--- "In their rules s and len are the run's."
-abbrev pub at : List ℕ → ℕ → ℕ
-at run i = getD run i 0
-
 -- a record and memory that hold a run and its mark, with right levels: rows 1 and 2 let them pass
 pub record Held (run : List ℕ) (mark : Option ℕ) (c : Capture) (m : Memory) : Type 0 where
   pub passes : storeRefusal (storeOf c) (lentOf (m .samples) (levels m)) ≡ 0
@@ -140,12 +107,6 @@ pub record Held (run : List ℕ) (mark : Option ℕ) (c : Capture) (m : Memory) 
   pub levels-right : Right (at run) (length run) (levels m)
 
 -- ---- answers
--- whatever a call may answer comes to x, and there is something that it may answer
-pub record Answered {X A : Type 0} (may : X → Type 0) (told : X → A) (x : A) : Type 0 where
-  pub is : (v : X) → may v → told v ≡ x
-  pub answer : X
-  pub allowed : may answer
-
 -- each answer is 01's for the run. A search's count of nodes read is the steps of 01's walk over it (02, CR 3). Rows 1 and 2 refuse no question; 9 refuses get, 10 and 11, `viewRows`, render, and 11 samples
 pub record Answers (run : List ℕ) (c : Capture) (m : Memory) : Type 0 where
   pub get-is : (i : ℕ) → Answered (MayGet c m i) gotOf (unless (firstOf (getRow (length run) i ∷ [])) (at run i))
@@ -162,17 +123,6 @@ pub record Answers (run : List ℕ) (c : Capture) (m : Memory) : Type 0 where
       (unless (firstOf (viewRows (viewAs view) width (length output))) (render (at run) (length run) (viewAs view) width))
 
 -- ---- looking alike
--- the ranges of usize and of f64; a mask's is Word
-abbrev pub Usize : ℕ → Type 0
-Usize n = n < 2 ^ 64
-
-abbrev pub F64 : Float → Type 0
-F64 x = fits binary64 x ≡ true
-
--- whatever two calls may answer, they are told the same
-abbrev pub Agree : {X A : Type 0} → (X → Type 0) → (X → Type 0) → (X → A) → Type 0
-Agree {X} may₁ may₂ told = (x y : X) → may₁ x → may₂ y → told x ≡ told y
-
 -- "the two recordings look alike to a viewer of chosen lines", v
 pub record LookAlike (v : ℕ) (c₁ : Capture) (m₁ : Memory) (c₂ : Capture) (m₂ : Memory) : Type 0 where
   -- "the same length, the same mark,"
@@ -189,11 +139,6 @@ pub record LookAlike (v : ℕ) (c₁ : Capture) (m₁ : Memory) (c₂ : Capture)
   pub previouses : (mask from : ℕ) → Word mask → Within mask v → Usize from → Agree (MayPrevious c₁ m₁ mask from) (MayPrevious c₂ m₂ mask from) foundOf
   pub bursts : (mask sample gap tolerance budget : ℕ) → Word mask → Within mask v → Usize sample → Usize gap → Usize tolerance → Usize budget
       → Agree (MayBurst c₁ m₁ mask sample gap tolerance budget) (MayBurst c₂ m₂ mask sample gap tolerance budget) burstAs
-
--- "their runs have the same length, the same mark and the same chosen lines at every sample"
-pub record Same (v : ℕ) (run₁ : List ℕ) (mark₁ : Option ℕ) (run₂ : List ℕ) (mark₂ : Option ℕ) : Type 0 where
-  pub marks : mark₁ ≡ mark₂
-  pub runs : alike.Same v (at run₁) (length run₁) (at run₂) (length run₂)
 
 -- ---- the claim
 -- two captures that hold a run each: "Each of these answers .. is 01's for its run", and they look alike exactly when the runs are the same to the viewer

@@ -27,7 +27,8 @@ use Rattle.alike.proofs.Alike.{same-alike, row-alike}
 use Rattle.capture.specs.declared.Capture.{Capture}
 use Rattle.mill_read.specs.Read.{extentFor}
 use Rattle.pixel.specs.Ranges.{viewAs}
-use Rattle.claim_captures.specs.Claim.{Memory, at, Held, Same}
+use Rattle.claim_captures.specs.Words.{Memory, at, Same}
+use Rattle.claim_captures.specs.Claim.{Held}
 use Rattle.claim_captures.proofs.Answers.{unless-same, copied-inside}
 use Rattle.claim_captures.proofs.Alike.{agreed}
 use Rattle.recording.specs.Claim.{store, run, mark}

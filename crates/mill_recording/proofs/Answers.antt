@@ -49,7 +49,8 @@ use Rattle.mill_search.specs.Answer.{foundOf, burstAs}
 use Rattle.mill_search.proofs.Answers.{next-right, previous-right, burst-right}
 use Rattle.mill_render.specs.Render.{millDrawn}
 use Rattle.mill_render.proofs.Answers.{render-row}
-use Rattle.claim_captures.specs.Claim.{Memory, levels, Ref, samplesIn, pixelsIn, at, Held, Answered}
+use Rattle.claim_captures.specs.Words.{Memory, levels, Ref, at, Answered}
+use Rattle.claim_captures.specs.Claim.{samplesIn, pixelsIn, Held}
 use Rattle.claim_captures.proofs.Answers.{got-for, copied-for, summed-for, counted-for, drawn-for, seen-as, copy-seen, copied-list, copied-inside, anywhere, somewhere, allowing, agree, right, asked-run}
 use Rattle.mill_recording.specs.Claim.{MayExtent, MayGet, MaySamples, MaySummary, MayNext, MayPrevious, MayBurst, MayRender, place, MillAnswers}
 

@@ -39,7 +39,8 @@ use Rattle.mill_search.proofs.next_change.Reads as next-change
 use Rattle.mill_search.proofs.prev_change.Reads as prev-change
 use Rattle.mill_search.proofs.burst_at.Reads as burst-at
 use Rattle.mill_render.proofs.render.Reads as render-call
-use Rattle.claim_captures.specs.Claim.{Memory, Ref, Places, lending, Copying, samplesIn, Drawing, pixelsIn, at, Held, Same, Answered, Agree}
+use Rattle.claim_captures.specs.Words.{Memory, Ref, Places, lending, at, Same, Answered, Agree}
+use Rattle.claim_captures.specs.Claim.{Copying, samplesIn, Drawing, pixelsIn, Held}
 use Rattle.recording.specs.Claim.{Recording, store, run, mark}
 
 -- ---- what each call may answer, by its contract; a question leaves what it was lent

@@ -17,7 +17,7 @@ use Rattle.feeder.specs.declared.Started.{Started}
 use Rattle.feeder_start.proofs.start_list as start-list
 use Rattle.feeder_start.proofs.start_list.Met as start-met
 use Rattle.feeder_start.proofs.start_list.Statement as start-stated
-use Rattle.claim_captures.specs.Claim.{Ref, Places}
+use Rattle.claim_captures.specs.Words.{Ref, Places}
 use Rattle.recording.specs.Claim.{Memory, Given, MayStart}
 
 -- what start is given, with the references by which terms and memory are lent

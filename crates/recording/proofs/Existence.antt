@@ -25,7 +25,7 @@ use Rattle.feeder.specs.Record.{armedAs, recorderOf}
 use Rattle.feeder_push.specs.declared.Pushed.{Pushed}
 use Rattle.feeder_push.specs.declared.Pushed.the-variants as pushed
 use Rattle.feeder_push.specs.Push.{replyAs, feederIn}
-use Rattle.claim_captures.specs.Claim.{levels}
+use Rattle.claim_captures.specs.Words.{levels}
 use Rattle.claim_captures.proofs.Answers.{anywhere, somewhere, four-levels}
 use Rattle.recording.specs.Claim.{Memory, settings, MayPush, Pushing, Existence}
 use Rattle.recording.specs.Claim.Pushing.{stop, step}

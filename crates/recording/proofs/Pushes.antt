@@ -18,7 +18,7 @@ use Rattle.feeder.specs.Record.{recorderOf}
 use Rattle.feeder_push.specs.declared.Pushed.{Pushed}
 use Rattle.feeder_push.specs.Push.{replyAs, feederIn, Pushes}
 use Rattle.feeder_push.proofs.Written.{one-push, level-lengths, right-stays}
-use Rattle.claim_captures.specs.Claim.{levels}
+use Rattle.claim_captures.specs.Words.{levels}
 use Rattle.recording.specs.Claim.{Memory, MayPush, Pushing}
 use Rattle.recording.specs.Claim.Pushing.{stop, step}
 

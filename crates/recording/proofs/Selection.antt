@@ -26,7 +26,7 @@ use Rattle.capture.proofs.Answer.{unless-given}
 use Rattle.feeder.specs.Record.{recorderOf, armedAs}
 use Rattle.rules.specs.Push.{Left}
 use Rattle.rules.specs.Start.{freshRecorder, besideIn, begun}
-use Rattle.claim_captures.specs.Claim.{levels, at}
+use Rattle.claim_captures.specs.Words.{levels, at}
 use Rattle.recording.specs.Claim.{settings, lengths, Recording, store, ruled, all, run, Selects}
 use Rattle.recording.proofs.Pushes.{Going, Kept, kept-sound, all-kept}
 

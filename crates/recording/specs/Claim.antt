@@ -30,8 +30,9 @@ use Rattle.feeder.specs.Start.{startedOf, settingsOf}
 use Rattle.feeder_push.specs.declared.Pushed.{Pushed}
 use Rattle.feeder_push.specs.Push.{replyAs, feederIn}
 use Rattle.feeder_push.proofs.push.Reads as push
-use Rattle.claim_captures.specs.Claim.{levels, Ref, Places, lending, Held, Answers, LookAlike, Same}
-use Rattle.claim_captures.specs.Claim as captures
+use Rattle.claim_captures.specs.Words.{levels, Ref, Places, lending, Same}
+use Rattle.claim_captures.specs.Claim.{Held, Answers, LookAlike}
+use Rattle.claim_captures.specs.Words as captures
 
 -- ---- memory
 -- "the memory lent to it, whatever that holds"
