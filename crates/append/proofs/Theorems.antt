@@ -135,18 +135,19 @@ module _ {c : Capture} {m : Memory} {bytes : List ℕ} {v : Appended} {m′ : Me
     pub takes-all : taken ≡ sampleCount (c .unitsize) bytes
     takes-all = taken-all c bytes (m .samples) (levels m) not-refused
 
--- ---- what the written nodes of level 1 depend on
+-- ---- what the written nodes depend on
 -- 02, CR 2: "over any lent memory the first-level nodes that append or push writes depend on len, that node and the samples it now stores, and on none stored before".
--- Two calls on any two captures and memories, of the same len, whose unfinished nodes and new samples are the same: each node of level 1 that covers a new sample is the same after them.
+-- It holds of every level. Two calls on any two captures and memories, of the same len, whose unfinished nodes of a level and new samples are the same: each node of that level that covers
+-- a new sample is the same after them.
 module _ {c : Capture} {m : Memory} {a : List ℕ} {v : Appended} {m′ : Memory} {d : Capture} {k : Memory} {b : List ℕ} {w : Appended} {k′ : Memory}
-    (one : Called c m a v m′) (two : Called d k b w k′) (same-len : c .len ≡ d .len) (same-count : taken one ≡ taken two)
-    (same : SameNew (c .len) (taken one) (levels m 1) (levels k 1) (sampleOf (c .unitsize) (m′ .samples)) (sampleOf (d .unitsize) (k′ .samples))) where
-  pub new-alone : (j : ℕ) → c .len / span 1 ≤ j → j * span 1 < c .len + taken one → nodeIn (levels m′ 1) j ≡ nodeIn (levels k′ 1) j
+    (one : Called c m a v m′) (two : Called d k b w k′) (same-len : c .len ≡ d .len) (same-count : taken one ≡ taken two) (l : ℕ) (low : 1 ≤ l) (high : l ≤ topLevel)
+    (same : SameNew (c .len) (taken one) l (levels m l) (levels k l) (sampleOf (c .unitsize) (m′ .samples)) (sampleOf (d .unitsize) (k′ .samples))) where
+  pub new-alone : (j : ℕ) → c .len / span l ≤ j → j * span l < c .len + taken one → nodeIn (levels m′ l) j ≡ nodeIn (levels k′ l) j
   new-alone =
-      written-alike (c .unitsize) (d .unitsize) (c .len) (taken one) (m′ .samples) (k′ .samples) (levels m) (levels k) same
-      (has-room (c .unitsize) (c .len) (taken one) (m .samples) (levels m) a (roomed one))
-      (λ z l j p q h. has-room (d .unitsize) (d .len) (taken two) (k .samples) (levels k) b (roomed two) (λ e. z (same-count ∙ e)) l j p q (omega (arith, same-len, same-count)))
-      (d .len) (taken two) same-len same-count (levels m′ 1) (levels k′ 1) (equations one .memory .levels-are 1 (omega arith) (omega arith)) (equations two .memory .levels-are 1 (omega arith) (omega arith))
+      written-alike (c .len) (taken one) l (sampleOf (c .unitsize) (m′ .samples)) (sampleOf (d .unitsize) (k′ .samples)) (levels m l) (levels k l) same
+      (λ z j h. has-room (c .unitsize) (c .len) (taken one) (m .samples) (levels m) a (roomed one) z l j low high h)
+      (λ z j h. has-room (d .unitsize) (d .len) (taken two) (k .samples) (levels k) b (roomed two) (λ e. z (same-count ∙ e)) l j low high (omega (arith, same-len, same-count)))
+      (d .len) (taken two) same-len same-count (levels m′ l) (levels k′ l) (equations one .memory .levels-are l low high) (equations two .memory .levels-are l low high)
 
 -- ---- two calls
 -- the whole samples of two runs of bytes, of which the first has no leftover

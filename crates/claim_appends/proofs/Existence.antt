@@ -4,11 +4,10 @@ use mathlib.Core.List.{List, [], _∷_}
 use mathlib.Core.Option.{none}
 use Prim.Native.Nat.{ℕ, zero, suc, _+_, _*_}
 use lib.Seq.{paste}
-use Rattle.rules.specs.Sample.{unitOf}
+use Rattle.rules.specs.Sample.{unitOf, sampleOf}
 use Rattle.rules.specs.Refusal.{fresh}
 use Rattle.rules.specs.Answer.{unless, given}
 use Rattle.rebuild.specs.Rebuild.{levelAfter}
-use Rattle.store.specs.Stored.{firstNodes}
 use Rattle.capture.specs.declared.Mark.the-variants.{Absent}
 use Rattle.capture.specs.declared.Capture.{Capture}
 use Rattle.append.specs.declared.Appended.{Appended}
@@ -35,7 +34,7 @@ module _ (c : Capture) (m : Memory) (bytes : List ℕ) where
   samples = paste (m .samples) (c .len * c .unitsize) bytes (n * c .unitsize)
 
   abbrev level : ℕ → List ℕ
-  level l = levelAfter (firstNodes (c .unitsize) samples (levels m 1) (c .len) (c .len + n)) (levels m) (c .len) n l
+  level l = levelAfter (sampleOf (c .unitsize) samples) (levels m l) (c .len) n l
 
   abbrev after : Memory
   after = record { samples = samples; l1 = level 1; l2 = level 2; l3 = level 3; l4 = level 4 }

@@ -1,5 +1,5 @@
 -- Each way through a push is a case of the contract: rows 1 and 2, an unarmed recorder, one that fires, one that waits.
-use mathlib.Core.Path.{_≡_, refl, sym, ap, _∙_, subst₂}
+use mathlib.Core.Path.{_≡_, refl, sym, ap, _∙_, subst, subst₂}
 use mathlib.Core.List.{List, _++_}
 use Prim.Native.Nat.{ℕ, _+_, _-_, _*_, _≤_, _<_}
 use native.Mathlib.Nat.{zero-mul, zero-min, sub-self, zero-sub, div-mul-le-self}
@@ -12,9 +12,8 @@ use Rattle.rules.specs.Sample.{sampleOf, sampleCount}
 use Rattle.rules.specs.Trigger.{firstFire}
 use Rattle.rules.specs.Selection.{refused, going-on}
 use Rattle.rules.specs.Refusal.{Recorder, Lent, recorderRefusal}
-use Rattle.rebuild.specs.Rebuild.{levelAfter}
-use Rattle.rebuild.proofs.Right.{after-none}
-use Rattle.store.specs.Stored.{firstNodes}
+use Rattle.store.specs.Stored.{LevelsAfter}
+use Rattle.store.proofs.Levels.{levels-none}
 use Rattle.terms.specs.declared.Masks.{Masks}
 use Rattle.terms.specs.Terms.{asMasks, previousOf}
 use Rattle.scan.specs.Scan.{Holds}
@@ -54,8 +53,8 @@ module _ (f : Feeder) (s : List ℕ) (lv : ℕ → List ℕ) (g b : List ℕ) wh
   n = sampleCount u b
 
   -- no sample went to the store: no level changed
-  levels-stay : (s′ : List ℕ) (l : ℕ) → lv l ≡ levelAfter (firstNodes u s′ (lv 1) (f .capture .len) (f .capture .len)) lv (f .capture .len) (f .capture .len - f .capture .len) l
-  levels-stay s′ l = sym (after-none (firstNodes u s′ (lv 1) (f .capture .len) (f .capture .len)) lv (f .capture .len) (f .capture .len - f .capture .len) l (sub-self (f .capture .len)))
+  levels-stay : LevelsAfter u (f .capture .len) (f .capture .len - f .capture .len) s lv lv
+  levels-stay = levels-none u (f .capture .len) (f .capture .len - f .capture .len) s lv (sub-self (f .capture .len))
 
   -- rows 1 and 2
   by-rows : (k : ℕ) → k ≡ recorderRefusal c lent (length g) → (k ≡ 0 → ⊥) → record { reply = refused k; recorder = c; samples = s; ring = g } ≡ leftBy c lent s g b
@@ -65,7 +64,7 @@ module _ (f : Feeder) (s : List ℕ) (lv : ℕ → List ℕ) (g b : List ℕ) wh
   pub pushed-refused : (k : ℕ) → k ≡ recorderRefusal c lent (length g) → (k ≡ 0 → ⊥) → Pushes f b s lv g (Refused k f) s lv g
   pushed-refused k e z = record {
     left-is = by-rows k e z ∙ sym (left-is c lent s g b);
-    levels-are = λ l p q. levels-stay s l;
+    levels-are = levels-stay;
   }
 
   -- past rows 1 and 2
@@ -132,5 +131,5 @@ module _ (f : Feeder) (s : List ℕ) (lv : ℕ → List ℕ) (g b : List ℕ) wh
       pub pushed-waited : n ≤ i → (w : Feeder) (g′ : List ℕ) → Waits c n b g w g′ → Pushes f b s lv g (GoingOn w) s lv g′
       pushed-waited h w g′ d = record {
         left-is = (λ j. record { reply = going-on; recorder = d .recorder-is j; samples = s; ring = d .ring-is j }) ∙ sym (pushed-is ∙ armed-is ∙ rw (le-ltb i n h));
-        levels-are = λ l p q. levels-stay s l ∙ ap (λ (k : ℕ). levelAfter (firstNodes u s (lv 1) (f .capture .len) k) lv (f .capture .len) (k - f .capture .len) l) (sym (ap (λ (x : Recorder). x .store .len) (d .recorder-is)));
+        levels-are = subst (λ (k : ℕ). LevelsAfter u (f .capture .len) (k - f .capture .len) s lv lv) (sym (ap (λ (x : Recorder). x .store .len) (d .recorder-is))) levels-stay;
       }

@@ -1,5 +1,5 @@
 -- What is left once samples went to the store, or had no room there.
-use mathlib.Core.Path.{_≡_, refl, sym, ap, ap₂, _∙_, subst⁻¹}
+use mathlib.Core.Path.{_≡_, refl, sym, ap, _∙_, subst, subst⁻¹}
 use mathlib.Core.Bool.{Bool, true, false, cond}
 use mathlib.Core.Option.{none, some}
 use mathlib.Core.List.{List, _++_, append-assoc}
@@ -12,9 +12,8 @@ use lib.ListN.{length, take, drop}
 use lib.Seq.{paste, drop-drop, length-take-le}
 use Rattle.rules.specs.Trigger.{Armed, unarmed}
 use Rattle.rules.specs.Refusal.{Recorder}
-use Rattle.rebuild.specs.Rebuild.{levelAfter}
-use Rattle.rebuild.proofs.Right.{after-none}
-use Rattle.store.specs.Stored.{firstNodes}
+use Rattle.store.specs.Stored.{LevelsAfter}
+use Rattle.store.proofs.Levels.{levels-none}
 use Rattle.store.proofs.Stored.{none-samples, none-levels}
 use Rattle.run_write.specs.declared.Taken.{Taken}
 use Rattle.run_write.specs.declared.Taken.the-variants.{Full, Count}
@@ -67,7 +66,7 @@ module _ (back c : Recorder) (n : ℕ) (x s : List ℕ) (lv : ℕ → List ℕ) 
   unfolding storeBytes
   stores-none d a = record {
     left-is = λ g. rw (not-some (leb (c .store .len + storable c n) (c .store .capacity)) (storable c n) (d .taken-is)) (λ i. record { reply = a .reply-is i; recorder = a .recorder-is i; samples = none-samples (d .memory) refl i; ring = g });
-    levels-are = λ l p q. none-levels (d .memory) refl l p q ∙ sym (after-none (firstNodes (c .store .unit) s′ (lv 1) (c .store .len) (feederIn r .capture .len)) lv (c .store .len) (feederIn r .capture .len - c .store .len) l none-more);
+    levels-are = λ l p q. none-levels (d .memory) refl l p q ∙ levels-none (c .store .unit) (c .store .len) (feederIn r .capture .len - c .store .len) s′ lv none-more l p q;
   }
     where
       len-left : feederIn r .capture .len ≡ c .store .len
@@ -80,7 +79,7 @@ module _ (back c : Recorder) (n : ℕ) (x s : List ℕ) (lv : ℕ → List ℕ) 
   unfolding storeBytes
   stores-some k d a = record {
     left-is = λ g. rw (which .0, which .1) (λ i. record { reply = reply-left i; recorder = a .recorder-is i; samples = samples-left i; ring = g });
-    levels-are = λ l p q. d .memory .levels-are l p q ∙ ap₂ (λ (end m : ℕ). levelAfter (firstNodes (c .store .unit) s′ (lv 1) (c .store .len) end) lv (c .store .len) m l) (sym len-left) more;
+    levels-are = subst (λ (m : ℕ). LevelsAfter (c .store .unit) (c .store .len) m s′ lv lv′) more (d .memory .levels-are);
   }
     where
       which : (leb (c .store .len + storable c n) (c .store .capacity) ≡ true) × (storable c n ≡ k)

@@ -1,4 +1,4 @@
--- What a push leaves in the store, over its contract's equations: what it was, with new samples behind it, and what the nodes of level 1 that are written depend on.
+-- What a push leaves in the store, over its contract's equations: what it was, with new samples behind it, and what the nodes that are written depend on.
 use Prim.Native.Nat.{ℕ, _+_, _-_, _*_, _/_, _≤_, _<_}
 use mathlib.Core.Path.{_≡_, refl, sym, ap, _∙_, subst, subst⁻¹}
 use mathlib.Core.Bool.{Bool, cond}
@@ -21,7 +21,6 @@ use Rattle.node.specs.Memory.{nodeIn, Right, RightAt}
 use Rattle.rebuild.specs.Rebuild.{levelAfter}
 use Rattle.rebuild.specs.Room.{Roomy}
 use Rattle.rebuild.proofs.Right.{length-after, after-right}
-use Rattle.store.specs.Stored.{firstNodes, LevelsAfter}
 use Rattle.store.proofs.Fits.{sound-room}
 use Rattle.store.proofs.Written.{SameNew, written-alike}
 use Rattle.capture.specs.Record.{storeOf, lentOf}
@@ -83,34 +82,31 @@ module _ {f : Feeder} {b s : List ℕ} {lv : ℕ → List ℕ} {g : List ℕ} {v
       pick (yes e) = nodes-room (accepted e)
       pick (no e) = absurd (some (omega (arith, same-len e)))
 
-  -- each level, by the count of samples that join
-  pub levels-made : LevelsAfter (f .capture .unitsize) (f .capture .len) joined s′ lv lv′
-  levels-made l p q = fit .levels-are l p q ∙ ap (λ (k : ℕ). levelAfter (firstNodes (f .capture .unitsize) s′ (lv 1) (f .capture .len) k) lv (f .capture .len) joined l) (sym end-of)
-
   pub level-lengths : (l : ℕ) → 1 ≤ l → l ≤ topLevel → length (lv′ l) ≡ length (lv l)
-  level-lengths l p q = ap length (levels-made l p q) ∙ length-after (firstNodes (f .capture .unitsize) s′ (lv 1) (f .capture .len) (f .capture .len + joined)) lv (f .capture .len) joined l
+  level-lengths l p q = ap length (fit .levels-are l p q) ∙ length-after (sampleOf (f .capture .unitsize) s′) (lv l) (f .capture .len) joined l
 
   -- right levels stay right
   pub right-stays : SoundRecorder (recorderOf f) (lentOf s lv) (length g) → Right (sampleOf (f .capture .unitsize) s) (f .capture .len) lv
       → Right (sampleOf (feederIn v .capture .unitsize) s′) (feederIn v .capture .len) lv′
   right-stays sound right l p q =
-      subst⁻¹ (λ (x : List ℕ). RightAt (sampleOf (feederIn v .capture .unitsize) s′) (feederIn v .capture .len) (λ _. x) l) (levels-made l p q)
+      subst⁻¹ (λ (x : List ℕ). RightAt (sampleOf (feederIn v .capture .unitsize) s′) (feederIn v .capture .len) (λ _. x) l) (fit .levels-are l p q)
       (subst⁻¹ (λ (u : ℕ). RightAt (sampleOf u s′) (feederIn v .capture .len) made l) (grows sound .unit)
       (subst (λ (k : ℕ). RightAt (sampleOf (f .capture .unitsize) s′) k made l) end-of
       (after-right (sampleOf (f .capture .unitsize) s) (sampleOf (f .capture .unitsize) s′) lv (f .capture .len) joined (λ _. nodes-room sound) (λ i h. sym (grows sound .old i h)) right l p q)))
     where
       made : ℕ → List ℕ
-      made = levelAfter (firstNodes (f .capture .unitsize) s′ (lv 1) (f .capture .len) (f .capture .len + joined)) lv (f .capture .len) joined
+      made k = levelAfter (sampleOf (f .capture .unitsize) s′) (lv k) (f .capture .len) joined k
 
--- ---- what the written nodes of level 1 depend on
+-- ---- what the written nodes depend on
 -- 02, CR 2: "over any lent memory the first-level nodes that append or push writes depend on len, that node and the samples it now stores, and on none stored before".
--- Two pushes on any two recorders and memories, of the same len, whose unfinished nodes and new samples are the same: each node of level 1 that covers a new sample is the same after them.
+-- It holds of every level. Two pushes on any two recorders and memories, of the same len, whose unfinished nodes of a level and new samples are the same: each node of that level that covers
+-- a new sample is the same after them.
 module _ {f : Feeder} {b s : List ℕ} {lv : ℕ → List ℕ} {g : List ℕ} {v : Pushed} {s′ : List ℕ} {lv′ : ℕ → List ℕ} {g′ : List ℕ} (one : Pushes f b s lv g v s′ lv′ g′)
     {h : Feeder} {c t : List ℕ} {kv : ℕ → List ℕ} {r : List ℕ} {w : Pushed} {t′ : List ℕ} {kv′ : ℕ → List ℕ} {r′ : List ℕ} (two : Pushes h c t kv r w t′ kv′ r′)
-    (same-start : f .capture .len ≡ h .capture .len) (same-count : joined one ≡ joined two)
-    (same : SameNew (f .capture .len) (joined one) (lv 1) (kv 1) (sampleOf (f .capture .unitsize) s′) (sampleOf (h .capture .unitsize) t′)) where
-  pub new-alone : (j : ℕ) → f .capture .len / span 1 ≤ j → j * span 1 < f .capture .len + joined one → nodeIn (lv′ 1) j ≡ nodeIn (kv′ 1) j
+    (same-start : f .capture .len ≡ h .capture .len) (same-count : joined one ≡ joined two) (l : ℕ) (low : 1 ≤ l) (high : l ≤ topLevel)
+    (same : SameNew (f .capture .len) (joined one) l (lv l) (kv l) (sampleOf (f .capture .unitsize) s′) (sampleOf (h .capture .unitsize) t′)) where
+  pub new-alone : (j : ℕ) → f .capture .len / span l ≤ j → j * span l < f .capture .len + joined one → nodeIn (lv′ l) j ≡ nodeIn (kv′ l) j
   new-alone =
-      written-alike (f .capture .unitsize) (h .capture .unitsize) (f .capture .len) (joined one) s′ t′ lv kv same (has-room one)
-      (λ z l j p q k. has-room two (λ e. z (same-count ∙ e)) l j p q (omega (arith, same-start, same-count)))
-      (h .capture .len) (joined two) same-start same-count (lv′ 1) (kv′ 1) (levels-made one 1 (omega arith) (omega arith)) (levels-made two 1 (omega arith) (omega arith))
+      written-alike (f .capture .len) (joined one) l (sampleOf (f .capture .unitsize) s′) (sampleOf (h .capture .unitsize) t′) (lv l) (kv l) same (λ z j k. has-room one z l j low high k)
+      (λ z j k. has-room two (λ e. z (same-count ∙ e)) l j low high (omega (arith, same-start, same-count)))
+      (h .capture .len) (joined two) same-start same-count (lv′ l) (kv′ l) (one .levels-are l low high) (two .levels-are l low high)

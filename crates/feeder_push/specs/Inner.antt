@@ -2,7 +2,6 @@
 use mathlib.Core.Path.{_≡_}
 use mathlib.Core.List.{List}
 use Prim.Native.Nat.{ℕ, _+_, _-_, _*_, _≤_, _<_, max}
-use Rattle.rules.specs.Node.{topLevel}
 use Rattle.rules.specs.Trigger.{unarmed}
 use Rattle.rules.specs.Selection.{Reply, refused, replyOf}
 use Rattle.rules.specs.Refusal.{Recorder}
@@ -11,8 +10,7 @@ use Rattle.rules.specs.Ring.{ringBytes}
 use Rattle.rules.specs.Push.{Left, withLen, waitedFor}
 use Rattle.ring.specs.Bytes.{units}
 use Rattle.ring.specs.Push.{storeBytes}
-use Rattle.rebuild.specs.Rebuild.{levelAfter}
-use Rattle.store.specs.Stored.{firstNodes}
+use Rattle.store.specs.Stored.{LevelsAfter}
 use Rattle.run_write.specs.declared.Taken.{Taken}
 use Rattle.run_write.specs.declared.Taken.the-variants.{Full, Count}
 use Rattle.capture.specs.Record.{lentOf}
@@ -42,10 +40,7 @@ pub record Answers (back c : Recorder) (taken : Taken) (answer : Pushed) : Type 
 -- n samples, x their bytes, went to the store of c as far as the limit has room, or had no room and `back` is left; whatever the ring holds
 pub record Stores (back c : Recorder) (n : ℕ) (x samples : List ℕ) (levels : ℕ → List ℕ) (answer : Pushed) (samples′ : List ℕ) (levels′ : ℕ → List ℕ) : Type 0 where
   pub left-is : (ring : List ℕ) → leftIn answer samples′ ring ≡ storeBytes back c samples ring n x
-  pub levels-are :
-      (l : ℕ) → 1 ≤ l → l ≤ topLevel →
-      levels′ l
-      ≡ levelAfter (firstNodes (c .store .unit) samples′ (levels 1) (c .store .len) (feederIn answer .capture .len)) levels (c .store .len) (feederIn answer .capture .len - c .store .len) l
+  pub levels-are : LevelsAfter (c .store .unit) (c .store .len) (feederIn answer .capture .len - c .store .len) samples′ levels levels′
 
 -- ---- a push
 -- no row refuses the recorder and its memory, and n samples are in the bytes

@@ -1,12 +1,10 @@
 -- What a push answers and what it leaves, whatever it is given. 01: Selection and recorder; Where each number is checked, 1, 2 and 8.
 use mathlib.Core.Path.{_≡_}
 use mathlib.Core.List.{List}
-use Prim.Native.Nat.{ℕ, _-_, _≤_}
-use Rattle.rules.specs.Node.{topLevel}
+use Prim.Native.Nat.{ℕ, _-_}
 use Rattle.rules.specs.Selection.{Reply, refused, going-on, complete}
 use Rattle.rules.specs.Push.{leftOf}
-use Rattle.rebuild.specs.Rebuild.{levelAfter}
-use Rattle.store.specs.Stored.{firstNodes}
+use Rattle.store.specs.Stored.{LevelsAfter}
 use Rattle.capture.specs.Record.{lentOf}
 use Rattle.feeder.specs.declared.Feeder.{Feeder}
 use Rattle.feeder.specs.Record.{recorderOf}
@@ -30,7 +28,4 @@ pub record Pushes (f : Feeder) (bytes samples : List ℕ) (levels : ℕ → List
   pub left-is :
       record { reply = replyAs answer; recorder = recorderOf (feederIn answer); samples = samples′; ring = ring′ }
       ≡ leftOf (recorderOf f) (lentOf samples levels) samples ring bytes
-  pub levels-are :
-      (l : ℕ) → 1 ≤ l → l ≤ topLevel →
-      levels′ l
-      ≡ levelAfter (firstNodes (f .capture .unitsize) samples′ (levels 1) (f .capture .len) (feederIn answer .capture .len)) levels (f .capture .len) (feederIn answer .capture .len - f .capture .len) l
+  pub levels-are : LevelsAfter (f .capture .unitsize) (f .capture .len) (feederIn answer .capture .len - f .capture .len) samples′ levels levels′

@@ -6,8 +6,8 @@ use Prim.Native.Nat.{ℕ, _-_}
 use native.Mathlib.Nat.{sub-self}
 use lib.ListN.{getD}
 use Rattle.rules.specs.Selection.{going-on}
-use Rattle.rebuild.proofs.Right.{after-none}
-use Rattle.store.specs.Stored.{firstNodes}
+use Rattle.store.specs.Stored.{LevelsAfter}
+use Rattle.store.proofs.Levels.{levels-none}
 use Rattle.rules.specs.Push.{Left, leftOf}
 use Rattle.capture.specs.Record.{lentOf}
 use Rattle.feeder.specs.declared.Feeder.{Feeder}
@@ -17,7 +17,7 @@ use Rattle.feeder_numbers.specs.Numbers.{feederFrom}
 use Rattle.feeder_push.specs.Push.{replyAs, feederIn, Pushes}
 use Rattle.feeder_wait.specs.Wait.{Untouched, waitedOf, ShortWent, ShortAfter}
 use Rattle.feeder_codes.specs.Recorder.{replyCode, numbersAfter}
-use Rattle.logic_core.specs.Recorder.{levelFor, PushesOut}
+use Rattle.logic_core.specs.Recorder.{PushesOut}
 
 module _ (bytes samples : List ℕ) (levels : ℕ → List ℕ) (ring samples′ : List ℕ) (levels′ : ℕ → List ℕ) (ring′ : List ℕ) where
   pub pushes-told : {f f′ : Feeder} (r : Pushed) (code : ℕ) (numbers numbers′ : List ℕ)
@@ -29,7 +29,7 @@ module _ (bytes samples : List ℕ) (levels : ℕ → List ℕ) (ring samples′
     numbers-are = h .1 ∙ ap (λ (x : Left). numbersAfter (x .reply) (x .recorder) numbers) (done .left-is);
     samples-are = ap (λ (x : Left). x .samples) (done .left-is);
     ring-is = ap (λ (x : Left). x .ring) (done .left-is);
-    levels-are = λ l a b. done .levels-are l a b ∙ ap (λ (x : Left). levelFor (f′ .capture .unitsize) samples′ levels (f′ .capture .len) (x .recorder .store .len) l) (done .left-is);
+    levels-are = subst (λ (x : Left). LevelsAfter (f′ .capture .unitsize) (f′ .capture .len) (x .recorder .store .len - f′ .capture .len) samples′ levels levels′) (done .left-is) (done .levels-are);
   }
     where
       done : Pushes f′ bytes samples levels ring r samples′ levels′ ring′
@@ -43,14 +43,12 @@ short-told numbers bytes samples levels ring numbers′ ring′ d = record {
   numbers-are = d .numbers-are ∙ ap (λ (x : Left). numbersAfter (x .reply) (x .recorder) numbers) left;
   samples-are = ap (λ (x : Left). x .samples) left;
   ring-is = ap (λ (x : Left). x .ring) left;
-  levels-are = λ l a b. same l ∙ ap (λ (x : Left). levelFor (getD numbers 0 0) samples levels (getD numbers 2 0) (x .recorder .store .len) l) left;
+  levels-are = subst (λ (x : Left). LevelsAfter (getD numbers 0 0) (getD numbers 2 0) (x .recorder .store .len - getD numbers 2 0) samples levels levels) left
+      (levels-none (getD numbers 0 0) (getD numbers 2 0) (getD numbers 2 0 - getD numbers 2 0) samples levels (sub-self (getD numbers 2 0)));
 }
   where
     left : record { reply = going-on; recorder = waitedOf numbers bytes; samples = samples; ring = ring′ } ≡ leftOf (recorderOf (feederFrom numbers)) (lentOf samples levels) samples ring bytes
     left = sym (d .left-is samples)
-
-    same : (l : ℕ) → levels l ≡ levelFor (getD numbers 0 0) samples levels (getD numbers 2 0) (getD numbers 2 0) l
-    same l = sym (after-none (firstNodes (getD numbers 0 0) samples (levels 1) (getD numbers 2 0) (getD numbers 2 0)) levels (getD numbers 2 0) (getD numbers 2 0 - getD numbers 2 0) l (sub-self (getD numbers 2 0)))
 
 -- the two answers of a short push, t
 module _ (bytes samples : List ℕ) (levels : ℕ → List ℕ) (numbers ring numbers₁ ring₁ : List ℕ) (t : Bool) (d : ShortAfter t numbers (lentOf samples levels) ring bytes numbers₁ ring₁) where

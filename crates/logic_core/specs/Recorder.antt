@@ -2,15 +2,13 @@
 use mathlib.Core.Path.{_≡_}
 use mathlib.Core.Bool.{Bool}
 use mathlib.Core.List.{List}
-use Prim.Native.Nat.{ℕ, _-_, _≤_}
+use Prim.Native.Nat.{ℕ, _-_}
 use lib.Ieee.{Float}
 use lib.ListN.{length}
-use Rattle.rules.specs.Node.{topLevel}
 use Rattle.rules.specs.Answer.{Answer}
 use Rattle.rules.specs.Push.{Left, leftOf}
 use Rattle.rules.specs.Start.{Begun, startRule}
-use Rattle.rebuild.specs.Rebuild.{levelAfter}
-use Rattle.store.specs.Stored.{firstNodes}
+use Rattle.store.specs.Stored.{LevelsAfter}
 use Rattle.capture.specs.Record.{lentOf}
 use Rattle.feeder.specs.declared.Feeder.{Feeder}
 use Rattle.feeder.specs.Record.{recorderOf}
@@ -23,10 +21,6 @@ begunFor channels capacity limit terms seconds wish rate samples levels ring =
     startRule (settingsOf channels capacity limit (termsIn terms) (wishIn seconds wish) rate) (lentOf samples levels) (length ring)
 
 -- ---- push
--- level l once the samples are those from len up to end
-abbrev pub levelFor : ℕ → List ℕ → (ℕ → List ℕ) → ℕ → ℕ → ℕ → List ℕ
-levelFor unit samples levels len end l = levelAfter (firstNodes unit samples (levels 1) len end) levels len (end - len) l
-
 -- what push leaves
 abbrev pub leftFor : Feeder → List ℕ → List ℕ → (ℕ → List ℕ) → List ℕ → Left
 leftFor f bytes samples levels ring = leftOf (recorderOf f) (lentOf samples levels) samples ring bytes
@@ -37,6 +31,4 @@ pub record PushesOut (f : Feeder) (bytes samples : List ℕ) (levels : ℕ → L
   pub numbers-are : numbers′ ≡ numbersAfter (leftFor f bytes samples levels ring .reply) (leftFor f bytes samples levels ring .recorder) numbers
   pub samples-are : samples′ ≡ leftFor f bytes samples levels ring .samples
   pub ring-is : ring′ ≡ leftFor f bytes samples levels ring .ring
-  pub levels-are :
-      (l : ℕ) → 1 ≤ l → l ≤ topLevel →
-      levels′ l ≡ levelFor (f .capture .unitsize) samples′ levels (f .capture .len) (leftFor f bytes samples levels ring .recorder .store .len) l
+  pub levels-are : LevelsAfter (f .capture .unitsize) (f .capture .len) (leftFor f bytes samples levels ring .recorder .store .len - f .capture .len) samples′ levels levels′

@@ -25,7 +25,7 @@ on-add nodes (suc j) k n i =
     at = omega arith
 
 -- joining on from the first node is joining all
-over-on : (nodes : ℕ → Node) (a n : ℕ) → joinOn (nodes a) nodes (a + 1) n ≡ joinOver nodes a n
+pub over-on : (nodes : ℕ → Node) (a n : ℕ) → joinOn (nodes a) nodes (a + 1) n ≡ joinOver nodes a n
 unfolding joinOn joinOver
 over-on nodes a zero = refl
 over-on nodes a (suc n) = last (over-on nodes a n)
@@ -76,8 +76,9 @@ pub join-next : (n : Node) (nodes : ℕ → Node) (i k : ℕ) (r m r′ : Node) 
 unfolding joinOn
 join-next n nodes i k r m r′ er em e = e ∙ ap₂ join er em ∙ on-add nodes k 1 n i
 
-pub joined-all : (nodes : ℕ → Node) (a b : ℕ) (n acc r : Node) (i : ℕ) → a < b → n ≡ nodes a → Joining nodes n (a + 1) b acc i → r ≡ joinOn acc nodes i (b - i) → r ≡ joinOver nodes a (b - 1 - a)
-joined-all nodes a b n acc r i h en p e = e ∙ p .same ∙ ap₂ (λ (x : Node) (k : ℕ). joinOn x nodes (a + 1) k) en count ∙ over-on nodes a (b - 1 - a)
+-- the nodes that follow the first one join it
+pub joined-all : (nodes : ℕ → Node) (a b : ℕ) (n r : Node) → a < b → n ≡ nodes a → r ≡ joinOn n nodes (a + 1) (b - (a + 1)) → r ≡ joinOver nodes a (b - 1 - a)
+joined-all nodes a b n r h en e = e ∙ ap₂ (λ (x : Node) (k : ℕ). joinOn x nodes (a + 1) k) en count ∙ over-on nodes a (b - 1 - a)
   where
     count : b - (a + 1) ≡ b - 1 - a
     count = omega arith

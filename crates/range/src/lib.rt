@@ -88,13 +88,21 @@ fn raw_two(part: &[u8], a: usize, b: usize) -> Node
     }
 }
 
-// The nodes a to b, b not among them, of a level joined: four a turn, which is what short pushes spend their time on.
+// The nodes a to b, b not among them, of a level joined.
 pub fn join_nodes(below: &[Mask], a: usize, b: usize) -> Node
     requires { ⌜ (a < b) × (b * nodeSize ≤ length (now below)) ⌝ }
     ensures { λ r. ⌜ asNode r ≡ joinOver (nodeIn (now (below .entry))) a (b - 1 - a) ⌝ }
 {
-    let mut acc = node_in(below, a);
-    let mut i = a + 1;
+    join_on(node_in(below, a), below, a + 1, b)
+}
+
+// The nodes from number from on, up to b, join n: four a turn.
+pub fn join_on(n: Node, below: &[Mask], from: usize, b: usize) -> Node
+    requires { ⌜ (from ≤ b) × (b * nodeSize ≤ length (now below)) ⌝ }
+    ensures { λ r. ⌜ asNode r ≡ joinOn (asNode n) (nodeIn (now (below .entry))) from (b - from) ⌝ }
+{
+    let mut acc = n;
+    let mut i = from;
     while i + 3 < b {
         acc = join_four(acc, below, i);
         i += 4;
@@ -113,7 +121,7 @@ fn join_four(n: Node, below: &[Mask], i: usize) -> Node
     n3.join(node_in(below, i + 3))
 }
 
-// The nodes from number from on, up to b, join n.
+// The same, one a turn.
 fn join_rest(n: Node, below: &[Mask], from: usize, b: usize) -> Node
     requires { ⌜ (from ≤ b) × (b * nodeSize ≤ length (now below)) ⌝ }
     ensures { λ r. ⌜ asNode r ≡ joinOn (asNode n) (nodeIn (now (below .entry))) from (b - from) ⌝ }

@@ -1,19 +1,17 @@
 -- Laws of runs of nodes that are put into a level, and the invariant of the loops that put them.
-use Prim.Native.Nat.{ℕ, zero, suc, _+_, _-_, _*_, _/_, _≤_, _<_}
-use mathlib.Core.Path.{_≡_, refl, sym, ap, ap₂, _∙_, subst⁻¹}
+use Prim.Native.Nat.{ℕ, zero, suc, _+_, _-_, _*_, _≤_, _<_}
+use mathlib.Core.Path.{_≡_, refl, sym, ap, ap₂, _∙_}
 use mathlib.Core.Logic.{_⊎_, inl, inr}
 use mathlib.Core.List.{List}
-use native.Mathlib.Nat.{suc-add, le-refl, pow-suc, div-div-eq-div-mul}
+use native.Mathlib.Nat.{suc-add, le-refl}
 use native.Mathlib.Decide.{ℕ-discrete}
 use native.Mathlib.Omega.{arith}
 use lib.ListN.{length, getD}
-use Rattle.rules.specs.Node.{Node, span}
+use Rattle.rules.specs.Node.{Node}
 use Rattle.rules.specs.Refusal.{nodeSize}
 use Rattle.node.specs.Memory.{nodeIn, putNode}
 use Rattle.node.proofs.Memory.{length-put, put-same, put-rest, node-at}
-use Rattle.range.specs.Join.{madeOver}
-use Rattle.rebuild.specs.Rebuild.{putNodes, raised}
-use Rattle.rebuild.specs.Room.{LevelRoom, RaiseRoom}
+use Rattle.rebuild.specs.Rebuild.{putNodes}
 
 -- ---- a run of nodes
 module _ (f : ℕ → Node) where
@@ -105,17 +103,16 @@ module _ (f : ℕ → Node) (l₀ : List ℕ) (first last : ℕ) where
         none : last + 1 - j ≡ 0
         none = omega arith
 
--- ---- one level up, by the divisions of the code: p and q are the spans of the levels l + 1 and l
-pub span-next : (top l : ℕ) → top / span l / 32 ≡ top / span (suc l)
-span-next top l = div-div-eq-div-mul top (span l) 32 ∙ ap (λ (w : ℕ). top / w) (sym (pow-suc 32 l))
-
-pub raise-room : (l top q below level : ℕ) → RaiseRoom l top below level → q ≡ span l → LevelRoom (top / q) below level
-raise-room l top q below level r e = subst⁻¹ (λ (w : ℕ). LevelRoom (top / w) below level) e
-    (record { nodes-below = r .nodes-below; nodes = omega (arith, r .nodes, span-next top l) })
-
-pub raised-is : (below level level′ : List ℕ) (l len top p q : ℕ) → p ≡ span (suc l) → q ≡ span l
-    → level′ ≡ putNodes (madeOver (nodeIn below) (top / q)) level (len / p) (top / q / 32 + 1 - len / p) → level′ ≡ raised below level l len top
-raised-is below level level′ l len top p q ep eq e =
-    e
-    ∙ ap₂ (λ (x y : ℕ). putNodes (madeOver (nodeIn below) (top / y)) level (len / x) (top / y / 32 + 1 - len / x)) ep eq
-    ∙ ap (λ (x : ℕ). putNodes (madeOver (nodeIn below) (top / span l)) level (len / span (suc l)) (x + 1 - len / span (suc l))) (span-next top l)
+-- ---- one node, and a run behind it
+pub put-then : (f g : ℕ → Node) (l l₁ l′ : List ℕ) (j last : ℕ) → j ≤ last → l₁ ≡ putNode l j (f j) → l′ ≡ putNodes g l₁ (j + 1) (last + 1 - (j + 1))
+    → ((i : ℕ) → j < i → i ≤ last → g i ≡ f i) → l′ ≡ putNodes f l j (last + 1 - j)
+unfolding putNodes
+put-then f g l l₁ l′ j last h e e′ same =
+    e′
+    ∙ puts-same g f (last + 1 - (j + 1)) l₁ (j + 1) (λ i a b. same i (omega arith) (omega arith))
+    ∙ ap (λ (x : List ℕ). putNodes f x (j + 1) (last + 1 - (j + 1))) e
+    ∙ puts-add f 1 (last + 1 - (j + 1)) l j
+    ∙ ap (putNodes f l j) all
+  where
+    all : 1 + (last + 1 - (j + 1)) ≡ last + 1 - j
+    all = omega arith

@@ -1,55 +1,41 @@
--- Nodes made above the samples that an append stores: total definitions, over any memory.
+-- Nodes put into the memory of a level once samples have joined the stored ones: total definitions, over any memory.
 use mathlib.Core.Path.{_≡_}
 use mathlib.Core.Bool.{cond}
 use mathlib.Core.List.{List}
-use Prim.Native.Nat.{ℕ, zero, suc, _+_, _-_, _*_, _/_, _≤_}
+use Prim.Native.Nat.{ℕ, zero, suc, _+_, _-_, _/_}
 use lib.Dec.{eqb, ltb}
 use Rattle.rules.specs.Node.{Node, join, nodeOf, span, nodeStart, nodeEnd, levelNode}
+use Rattle.rules.specs.Touched.{touched, runningNode}
 use Rattle.node.specs.Memory.{nodeIn, putNode}
-use Rattle.range.specs.Join.{madeOver}
-use Rattle.range.specs.Part.{partSample}
 
 -- the level with n nodes from number j on as f has them
 unfoldable pub putNodes : (ℕ → Node) → List ℕ → ℕ → ℕ → List ℕ
 putNodes f level j zero = level
 putNodes f level j (suc n) = putNodes f (putNode level j (f j)) (j + 1) n
 
--- level 1 with its nodes from number j on up to place top made from a part that starts at place base
-abbrev pub firstRaised : ℕ → List ℕ → ℕ → ℕ → List ℕ → ℕ → List ℕ
-firstRaised unit part base top level j = putNodes (levelNode (partSample unit part base) (top + 1) 1) level j (top / 32 + 1 - j)
+-- level l once n samples have joined len, by what it held and the samples alone: each touched node runs on. No samples touch no node
+abbrev pub levelAfter : (ℕ → ℕ) → List ℕ → ℕ → ℕ → ℕ → List ℕ
+levelAfter s level len n l = cond (eqb n 0) level (putNodes (runningNode s (nodeIn level) len (len + n) l) level (len / span l) (touched len (len + n - 1) l))
 
--- the nodes of level 1 once samples stand at the places len to end, end not among them; level is what it held before.
--- A node that begins before len is unfinished: "Keep that node as the running value and join the new samples to it" (02, CR 2).
--- Any other is the node of its range
-unfoldable pub runningNodes : (ℕ → ℕ) → List ℕ → ℕ → ℕ → ℕ → Node
-runningNodes s level len end j = cond (ltb (nodeStart 1 j) len) (join (nodeIn level j) (nodeOf s len (nodeEnd end 1 j))) (levelNode s end 1 j)
+-- ---- what the functions of this crate leave
+-- level l with the node of place len once n is the node of the samples in its range from place len on: they join what it was, if it was unfinished
+abbrev pub putRunning : List ℕ → ℕ → ℕ → Node → List ℕ
+putRunning level l len n = putNode level (len / span l) (cond (ltb (nodeStart l (len / span l)) len) (join (nodeIn level (len / span l)) n) n)
 
--- level 1 once samples stand at the places len to top, by a part that starts at place base
-abbrev pub firstJoined : ℕ → List ℕ → ℕ → ℕ → ℕ → List ℕ → List ℕ
-firstJoined unit part base len top level = putNodes (runningNodes (partSample unit part base) level len (top + 1)) level (len / 32) (top / 32 + 1 - len / 32)
+-- level l with its nodes from number j on, up to the one of place top, made of their samples
+abbrev pub newNodes : (ℕ → ℕ) → List ℕ → ℕ → ℕ → ℕ → List ℕ
+newNodes s level j top l = putNodes (levelNode s (top + 1) l) level j (top / span l + 1 - j)
 
--- the unfinished node is put, if there is one, and r is the number of the next
-pub record Joined (nodes : ℕ → Node) (len : ℕ) (level level′ : List ℕ) (r : ℕ) : Type 0 where
-  pub low : len / 32 ≤ r
-  pub high : r ≤ len / 32 + 1
-  pub whole : len ≤ r * 32
-  pub level-is : level′ ≡ putNodes nodes level (len / 32) (r - len / 32)
+-- samples stand at the places len to top, and n is the node of those of them that lie in the node of place len of level l: of level l, which was `level`, that node is made
+pub record NodeJoined (s : ℕ → ℕ) (len top l : ℕ) (level level′ : List ℕ) (n : Node) : Type 0 where
+  pub node-is : n ≡ nodeOf s len (nodeEnd (top + 1) l (len / span l))
+  pub level-is : level′ ≡ putRunning level l len n
 
--- how many nodes of level l cover one of the places len to top; the first of them is len / span l
-abbrev pub touched : ℕ → ℕ → ℕ → ℕ
-touched len top l = top / span l + 1 - len / span l
+-- and all of level l is
+pub record Joined (s : ℕ → ℕ) (len top l : ℕ) (level level′ : List ℕ) (n : Node) : Type 0 where
+  pub node-is : n ≡ nodeOf s len (nodeEnd (top + 1) l (len / span l))
+  pub level-is : level′ ≡ putNodes (runningNode s (nodeIn level) len (top + 1) l) level (len / span l) (touched len top l)
 
--- level l + 1 from level l, once samples stand at the places len to top
-abbrev pub raised : List ℕ → List ℕ → ℕ → ℕ → ℕ → List ℕ
-raised below level l len top = putNodes (madeOver (nodeIn below) (top / span l)) level (len / span (suc l)) (touched len top (suc l))
-
--- the levels once samples stand at the places len to top (01, Store: "Each node touched is made anew from the level below").
--- `first` makes the nodes of level 1: which ones is for the caller to say
-unfoldable pub built : (ℕ → Node) → (ℕ → List ℕ) → ℕ → ℕ → ℕ → List ℕ
-built first levels len top zero = levels 0
-built first levels len top (suc zero) = putNodes first (levels 1) (len / span 1) (touched len top 1)
-built first levels len top (suc (suc l)) = raised (built first levels len top (suc l)) (levels (suc (suc l))) (suc l) len top
-
--- level l once n samples have joined len: no samples touch no node
-abbrev pub levelAfter : (ℕ → Node) → (ℕ → List ℕ) → ℕ → ℕ → ℕ → List ℕ
-levelAfter first levels len n l = cond (eqb n 0) (levels l) (built first levels len (len + n - 1) l)
+-- one level up: whatever samples have joined level l, and whatever that was before, they have joined the next level
+abbrev pub JoinedAbove : ℕ → ℕ → ℕ → List ℕ → Node → List ℕ → List ℕ → Node → Type 0
+JoinedAbove len top l below n level level′ n′ = (s : ℕ → ℕ) (was : List ℕ) → Joined s len top l was below n → Joined s len top (suc l) level level′ n′

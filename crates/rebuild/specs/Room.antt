@@ -5,6 +5,11 @@ use lib.ListN.{length}
 use Rattle.rules.specs.Node.{span, topLevel}
 use Rattle.rules.specs.Refusal.{mostSamples, nodeSize}
 
+-- level l has the node of place len
+pub record NodeRoom (l len level : ℕ) : Type 0 where
+  pub high : l ≤ topLevel
+  pub node : len / span l * nodeSize + nodeSize ≤ level
+
 -- a part that starts at place base has the samples from node `first` on up to place top, and level 1 has their nodes
 pub record FirstRoom (unit base first top part level : ℕ) : Type 0 where
   pub low : 1 ≤ unit
@@ -29,10 +34,11 @@ pub record LevelRoom (top below level : ℕ) : Type 0 where
   pub nodes-below : top * nodeSize + nodeSize ≤ below
   pub nodes : top / 32 * nodeSize + nodeSize ≤ level
 
--- the same for the levels l and l + 1 and the places up to top
-pub record RaiseRoom (l top below level : ℕ) : Type 0 where
+-- the same for the levels l and l + 1 where the samples from place len on, up to top, are new
+pub record RaiseRoom (l len top below level : ℕ) : Type 0 where
   pub low : 1 ≤ l
   pub high : l < topLevel
+  pub some : len ≤ top
   pub nodes-below : top / span l * nodeSize + nodeSize ≤ below
   pub nodes : top / span (suc l) * nodeSize + nodeSize ≤ level
 

@@ -1,23 +1,26 @@
-// Nodes made: level 1 from the samples of a chunk's part, the unfinished one from what it is and the new samples alone;
-// each higher level anew from the one below.
+// Nodes put into a level once samples stand at the places len to top. The node that place len lies in runs on: the new samples in its range join what it was,
+// and those before are not read. The node of these samples is carried from level to level. The nodes behind it cover new samples alone: they are made from
+// the samples of a chunk's part, and above level 1 from the level below.
 use level::span;
 use lines::Mask;
+use node::Node;
 use node::node_in;
 use node::put_node;
 use range::join_nodes;
+use range::join_on;
 use range::raw_node;
 use range::raw_whole;
 ghost use mathlib.Core.Path.{_≡_};
 ghost use Prim.Native.Nat.{_+_, _-_, _/_, _^_, _≤_, _<_, min};
 ghost use lib.ListN.{length};
-ghost use Rattle.node.specs.Memory.{nodeIn};
+ghost use Rattle.node.specs.Memory.{asNode, nodeIn};
 ghost use Rattle.range.specs.Join.{madeOver};
 ghost use Rattle.range.specs.Part.{partSample};
-ghost use Rattle.rebuild.specs.Rebuild.{putNodes, firstRaised, firstJoined, runningNodes, raised, Joined};
-ghost use Rattle.rebuild.specs.Room.{FirstRoom, JoinRoom, LevelRoom, RaiseRoom};
+ghost use Rattle.rebuild.specs.Rebuild.{putNodes, putRunning, newNodes, NodeJoined, JoinedAbove};
+ghost use Rattle.rebuild.specs.Room.{NodeRoom, FirstRoom, JoinRoom, LevelRoom, RaiseRoom};
 
 // Nodes of a level that make one of the next.
-const FAN: usize = 32;
+pub const FAN: usize = 32;
 
 // The end of the 32 places from a on, of which top is the last that counts.
 fn end_of(a: usize, top: usize) -> usize
@@ -27,20 +30,53 @@ fn end_of(a: usize, top: usize) -> usize
     if top - a < FAN { top + 1 } else { a + FAN }
 }
 
-// The nodes of level 1 that cover one of the places len to top, from the samples of a part that starts at place base.
-// In unit 1 whole nodes are made by a loop of their own, which is what long pushes spend their time on.
-pub fn rebuild_first(
+// The node of level l that place len lies in, once n is the node of the samples in its range from place len on: they join what it was, if it was unfinished.
+pub fn put_running(level: &mut [Mask], l: usize, len: usize, n: Node)
+    requires { ⌜ NodeRoom l len (length (now level)) ⌝ }
+    ensures { λ _. ⌜ now (level .exit) ≡ putRunning (now (level .entry)) l len (asNode n) ⌝ }
+{
+    let w = span(l);
+    let j = len / w;
+    if j * w < len {
+        let kept = node_in(&level[..], j);
+        put_node(level, j, kept.join(n));
+    } else {
+        put_node(level, j, n);
+    }
+}
+
+// The node of level 1 that place len lies in, from the samples of a part that starts at place base. The answer is the node of the new ones in its range.
+pub fn join_first(
     part: &[u8],
     level: &mut [Mask],
     unitsize: usize,
     base: usize,
     len: usize,
     top: usize,
-)
+) -> Node
     requires { ⌜ JoinRoom unitsize base len top (length (now part)) (length (now level)) ⌝ }
-    ensures { λ _. ⌜ now (level .exit) ≡ firstJoined unitsize (now (part .entry)) base len top (now (level .entry)) ⌝ }
+    ensures { λ r. ⌜ NodeJoined (partSample unitsize (now (part .entry)) base) len top 1 (now (level .entry)) (now (level .exit)) (asNode r) ⌝ }
 {
-    let first = join_unfinished(part, level, unitsize, base, len, top);
+    let a = len / FAN * FAN;
+    let b = end_of(a, top);
+    let n = raw_node(part, unitsize, len - base, b - base);
+    put_running(level, 1, len, n);
+    n
+}
+
+// The nodes of level 1 from number first on, up to the one of place top, from the samples of a part that starts at place base.
+// In unit 1 whole nodes are made by a loop of their own, which is what long pushes spend their time on.
+pub fn rebuild_new(
+    part: &[u8],
+    level: &mut [Mask],
+    unitsize: usize,
+    base: usize,
+    first: usize,
+    top: usize,
+)
+    requires { ⌜ FirstRoom unitsize base first top (length (now part)) (length (now level)) ⌝ }
+    ensures { λ _. ⌜ now (level .exit) ≡ newNodes (partSample unitsize (now (part .entry)) base) (now (level .entry)) first top 1 ⌝ }
+{
     if unitsize == 1 {
         let rest = rebuild_whole(part, level, base, first, top);
         rebuild_each(part, level, 1, base, rest, top);
@@ -49,35 +85,10 @@ pub fn rebuild_first(
     }
 }
 
-// The node of level 1 that the samples before len left unfinished, if there is one: the new samples join it, and those before are not read.
-// The answer is the number of the first node that starts with a new sample.
-fn join_unfinished(
-    part: &[u8],
-    level: &mut [Mask],
-    unitsize: usize,
-    base: usize,
-    len: usize,
-    top: usize,
-) -> usize
-    requires { ⌜ JoinRoom unitsize base len top (length (now part)) (length (now level)) ⌝ }
-    ensures { λ r. ⌜ Joined (runningNodes (partSample unitsize (now (part .entry)) base) (now (level .entry)) len (top + 1)) len (now (level .entry)) (now (level .exit)) r ⌝ }
-{
-    let j = len / FAN;
-    let a = j * FAN;
-    if a == len {
-        return j;
-    }
-    let b = end_of(a, top);
-    let kept = node_in(&level[..], j);
-    let new = raw_node(part, unitsize, len - base, b - base);
-    put_node(level, j, kept.join(new));
-    j + 1
-}
-
 // The whole ones of these nodes, in unit 1. The others are left to make, from the number answered on.
 fn rebuild_whole(part: &[u8], level: &mut [Mask], base: usize, first: usize, top: usize) -> usize
     requires { ⌜ FirstRoom 1 base first top (length (now part)) (length (now level)) ⌝ }
-    ensures { λ r. ⌜ (first ≤ r) × (firstRaised 1 (now (part .entry)) base top (now (level .exit)) r ≡ firstRaised 1 (now (part .entry)) base top (now (level .entry)) first) ⌝ }
+    ensures { λ r. ⌜ (first ≤ r) × (newNodes (partSample 1 (now (part .entry)) base) (now (level .exit)) r top 1 ≡ newNodes (partSample 1 (now (part .entry)) base) (now (level .entry)) first top 1) ⌝ }
 {
     let end = (top + 1) / FAN;
     let mut j = first;
@@ -98,7 +109,7 @@ fn rebuild_each(
     top: usize,
 )
     requires { ⌜ FirstRoom unitsize base first top (length (now part)) (length (now level)) ⌝ }
-    ensures { λ _. ⌜ now (level .exit) ≡ firstRaised unitsize (now (part .entry)) base top (now (level .entry)) first ⌝ }
+    ensures { λ _. ⌜ now (level .exit) ≡ newNodes (partSample unitsize (now (part .entry)) base) (now (level .entry)) first top 1 ⌝ }
 {
     let last = top / FAN;
     let mut j = first;
@@ -125,10 +136,24 @@ fn rebuild_level(below: &[Mask], level: &mut [Mask], first: usize, top: usize)
     }
 }
 
-// The nodes of level l + 1 that cover one of the places len to top, from level l.
-pub fn rebuild_above(below: &[Mask], level: &mut [Mask], l: usize, len: usize, top: usize)
-    requires { ⌜ RaiseRoom l top (length (now below)) (length (now level)) ⌝ }
-    ensures { λ _. ⌜ now (level .exit) ≡ raised (now (below .entry)) (now (level .entry)) l len top ⌝ }
+// Level l + 1, from level l. To n, the node of the new samples in the node of place len there, the nodes behind it are joined; the answer is the same of this level.
+pub fn rebuild_above(
+    below: &[Mask],
+    level: &mut [Mask],
+    l: usize,
+    len: usize,
+    top: usize,
+    n: Node,
+) -> Node
+    requires { ⌜ RaiseRoom l len top (length (now below)) (length (now level)) ⌝ }
+    ensures { λ r. ⌜ JoinedAbove len top l (now (below .entry)) (asNode n) (now (level .entry)) (now (level .exit)) (asNode r) ⌝ }
 {
-    rebuild_level(below, level, len / span(l + 1), top / span(l));
+    let w = span(l);
+    let first = len / w;
+    let last = top / w;
+    let j = first / FAN;
+    let all = join_on(n, below, first + 1, end_of(j * FAN, last));
+    put_running(level, l + 1, len, all);
+    rebuild_level(below, level, j + 1, last);
+    all
 }

@@ -3,6 +3,7 @@ use mathlib.Core.Path.{_≡_, refl, sym, ap, _∙_}
 use mathlib.Core.List.{List, [], _∷_}
 use mathlib.Core.Option.{Option, none, some}
 use Prim.Native.Nat.{ℕ, _-_}
+use Rattle.rules.specs.Sample.{sampleOf}
 use Rattle.rules.specs.Trigger as trigger
 use Rattle.rules.specs.Selection.{Reply}
 use Rattle.rules.specs.Selection as reply
@@ -11,7 +12,6 @@ use Rattle.rules.specs.Answer.{unless, given}
 use Rattle.rules.specs.Push.{Left, leftOf}
 use Rattle.rules.specs.Start.{begun}
 use Rattle.rebuild.specs.Rebuild.{levelAfter}
-use Rattle.store.specs.Stored.{firstNodes}
 use Rattle.capture.specs.declared.Mark.{Mark}
 use Rattle.capture.specs.declared.Mark.the-variants as mark
 use Rattle.capture.specs.Record.{markOf, lentOf}
@@ -82,7 +82,7 @@ module _ (f : Feeder) (m : Memory) (bytes : List ℕ) where
   answer = told .0
 
   abbrev level : ℕ → List ℕ
-  level l = levelAfter (firstNodes (f .capture .unitsize) (left .samples) (levels (m .store) 1) (f .capture .len) (feederIn answer .capture .len)) (levels (m .store)) (f .capture .len) (feederIn answer .capture .len - f .capture .len) l
+  level l = levelAfter (sampleOf (f .capture .unitsize) (left .samples)) (levels (m .store) l) (f .capture .len) (feederIn answer .capture .len - f .capture .len) l
 
   abbrev after : Memory
   after = record { store = record { samples = left .samples; l1 = level 1; l2 = level 2; l3 = level 3; l4 = level 4 }; ring = left .ring }

@@ -7,6 +7,7 @@ pub mod Selection
 pub mod Node
 pub mod Search
 pub mod Walk
+pub mod Touched
 pub mod Found
 pub mod Steps
 pub mod Wholes
@@ -30,3 +31,5 @@ pub mod BorderWalk
 pub mod BorderBurst
 pub mod BorderPixel
 pub mod BorderRun
+pub mod BorderPush
+pub mod BorderReading

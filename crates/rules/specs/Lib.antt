@@ -1,6 +1,7 @@
 pub mod Sample
 pub mod SampleBytes
 pub mod Node
+pub mod Touched
 pub mod Search
 pub mod Walk
 pub mod Burst

@@ -1,169 +1,161 @@
--- Laws of the chunk loop: each turn makes the nodes of level 1 that all samples together are to leave.
+-- Laws of level 1 chunk by chunk: what a chunk's part makes is what all samples make.
 use Prim.Native.Nat.{ℕ, suc, _+_, _-_, _*_, _/_, _%_, _≤_, _<_, min}
-use mathlib.Core.Path.{_≡_, refl, sym, ap, ap₂, _∙_, subst}
+use mathlib.Core.Path.{_≡_, ap, _∙_, subst}
 use mathlib.Core.List.{List}
 use mathlib.Core.Logic.{_⊎_, inl, inr}
 use native.Mathlib.Nat.{mul-le-mul-right}
 use native.Mathlib.Decide.{decLe}
 use native.Mathlib.Omega.{arith}
 use lib.ListN.{length, take, drop, length-take, length-drop}
-use Rattle.rules.specs.Node.{join, nodeOf, chunk}
+use Rattle.rules.specs.Node.{Node, nodeOf, levelNode, chunk}
 use Rattle.rules.specs.Sample.{sampleOf}
 use Rattle.rules.proofs.Node.{node-same}
-use Rattle.node.specs.Memory.{nodeIn}
 use Rattle.range.specs.Part.{partSample}
 use Rattle.range.proofs.Part.{part-sample}
-use Rattle.rebuild.specs.Rebuild.{putNodes, runningNodes}
-use Rattle.rebuild.specs.Room.{JoinRoom}
+use Rattle.rebuild.specs.Rebuild.{newNodes, NodeJoined}
+use Rattle.rebuild.specs.Room.{FirstRoom, JoinRoom}
 use Rattle.rebuild.proofs.Nodes.{puts-same, Putting, putting-starts, putting-run, putting-end}
-use Rattle.rebuild.proofs.Running.{running-new, running-joins}
-use Rattle.store.specs.Stored.{firstNodes}
 use Rattle.store.specs.Room.{ChunksRoom}
 
--- a node that begins before a chunk's end ends where it is to end at last
-same-end : (stop end j : ℕ) → stop ≤ end → (stop ≡ end) ⊎ (stop % 32 ≡ 0) → j * 32 < stop → min (suc j * 32) stop ≡ min (suc j * 32) end
-same-end stop end j b (inl e) h = ap (min (suc j * 32)) e
-same-end stop end j b (inr e) h = omega arith
-
--- the nodes that a turn puts: past the last one where it is the last turn, and never more
-past-last : (p stop end : ℕ) → p < stop → stop ≡ end → (end - 1) / 32 < p / 32 + ((stop - 1) / 32 + 1 - p / 32)
-past-last p stop end a e = omega arith
-
-not-past : (p stop end : ℕ) → p < stop → stop ≤ end → p / 32 + ((stop - 1) / 32 + 1 - p / 32) ≤ (end - 1) / 32 + 1
-not-past p stop end a b = omega arith
-
--- a turn at place p takes the part of a chunk from base to stop, in memory of s bytes
-pub record Turn (unit p end s base stop : ℕ) : Type 0 where
+-- ---- a part
+-- place p lies in the chunk whose part of memory is from base to stop
+pub record Turn (unit p top s base stop : ℕ) : Type 0 where
   pub base-low : base ≤ p
-  pub aligned : base % 32 ≡ 0
   pub further : p < stop
-  pub stop-high : stop ≤ end
+  pub stop-high : stop ≤ top + 1
   pub start : base * unit ≤ stop * unit
   pub part : stop * unit ≤ s
+  pub aligned : base % 32 ≡ 0
+  pub stops : (stop ≡ top + 1) ⊎ (stop % 32 ≡ 0)
 
--- the nodes of level 1 are made up to place p, and l is the level then. Only the first turn may begin inside a node
-pub record Making (unit len end : ℕ) (s l1 l : List ℕ) (p : ℕ) : Type 0 where
-  pub from : len ≤ p
-  pub begins : p < end → ((p ≡ len) × (l ≡ l1)) ⊎ (p % 32 ≡ 0)
-  pub below : p ≤ end
-  pub next : ℕ
-  pub more : p < end → next ≡ p / 32
-  pub done : end ≤ p → (end - 1) / 32 < next
-  pub nodes : Putting (firstNodes unit s l1 len end) l1 (len / 32) ((end - 1) / 32) l next
+module _ (u p top base stop : ℕ) (s : List ℕ) (t : Turn u p top (length s) base stop) where
+  abbrev pub partOf : List ℕ
+  partOf = take (stop * u - base * u) (drop (base * u) s)
 
-module _ (u len end : ℕ) (s l1 : List ℕ) (room : ChunksRoom u len end (length s) (length l1)) where
-  pub making-starts : Making u len end s l1 l1 len
-  making-starts = record {
-    from = omega arith;
-    begins = λ _. inl (refl, refl);
-    below = omega (arith, room .some);
-    next = len / 32;
-    more = λ _. omega arith;
-    done = λ h. absurd (omega (arith, room .some));
-    nodes = putting-starts (firstNodes u s l1 len end) l1 (len / 32) ((end - 1) / 32);
-  }
+  -- it has the samples up to stop
+  pub part-holds : (n : ℕ) → n ≡ length partOf → (stop - 1) * u + u ≤ base * u + n
+  part-holds n e = omega (arith, sized, t .start, ap (λ (x : ℕ). x * u) whole)
+    where
+      sized : length partOf ≡ stop * u - base * u
+      sized = simp (length-take, length-drop) (omega (arith, t .part))
 
-  pub making-end : (l : List ℕ) (p : ℕ) → Making u len end s l1 l p → end ≤ p → l ≡ putNodes (firstNodes u s l1 len end) l1 (len / 32) ((end - 1) / 32 + 1 - len / 32)
-  making-end l p g h = putting-end (firstNodes u s l1 len end) l1 (len / 32) ((end - 1) / 32) l (g .next) (g .nodes) (g .done h)
+      whole : suc (stop - 1) ≡ stop
+      whole = omega (arith, t .further)
 
-  -- a turn
-  module _ (l : List ℕ) (p : ℕ) (g : Making u len end s l1 l p) (h : p < end) (base stop : ℕ) (eb : base ≡ p - p % chunk) (es : stop ≡ min (base + chunk) end) where
-    pub turn : Turn u p end (length s) base stop
+  -- a node that begins before stop ends where it is to end at last
+  same-end : (j : ℕ) → j * 32 < stop → min (suc j * 32) (stop - 1 + 1) ≡ min (suc j * 32) (top + 1)
+  same-end j h = pick (t .stops)
+    where
+      pick : (stop ≡ top + 1) ⊎ (stop % 32 ≡ 0) → min (suc j * 32) (stop - 1 + 1) ≡ min (suc j * 32) (top + 1)
+      pick (inl e) = ap (min (suc j * 32)) (omega arith)
+      pick (inr e) = omega (arith, t .stop-high)
+
+  -- the node from q on is that of all samples
+  node-from : (j q : ℕ) → j * 32 < stop → base ≤ q → q < min (suc j * 32) stop → nodeOf (partSample u partOf base) q (min (suc j * 32) (stop - 1 + 1)) ≡ nodeOf (sampleOf u s) q (min (suc j * 32) (top + 1))
+  node-from j q h c d =
+      node-same (partSample u partOf base) (sampleOf u s) q (min (suc j * 32) (stop - 1 + 1)) (omega arith) (λ i x y. part-sample u s base stop i (omega arith) (omega (arith, t .further)))
+      ∙ ap (nodeOf (sampleOf u s) q) (same-end j h)
+
+  -- what joins the node of place p
+  pub part-joins : (l l′ : List ℕ) (n : Node) → NodeJoined (partSample u partOf base) p (stop - 1) 1 l l′ n → NodeJoined (sampleOf u s) p top 1 l l′ n
+  part-joins l l′ n d = record { node-is = d .node-is ∙ node-from (p / 32) p (omega (arith, t .further)) (t .base-low) (omega (arith, t .further)); level-is = d .level-is }
+
+-- ---- the room of the calls
+module _ (u from top : ℕ) (s l1 : List ℕ) (room : ChunksRoom u from top (length s) (length l1)) where
+  -- the turn at place p
+  module _ (p base stop : ℕ) (low : from ≤ p) (h : p ≤ top) (eb : base ≡ p - p % chunk) (es : stop ≡ min (base + chunk) (top + 1)) where
+    pub turn : Turn u p top (length s) base stop
     turn = record {
       base-low = omega arith;
-      aligned = omega arith;
       further = omega arith;
-      stop-high = omega arith;
+      stop-high = high;
       start = mul-le-mul-right u less;
       part = omega (arith, room .samples, mul-le-mul-right u high);
+      aligned = omega arith;
+      stops = pick (decLe (top + 1) (base + chunk));
     }
       where
+        high : stop ≤ top + 1
+        high = omega arith
+
         less : base ≤ stop
         less = omega arith
 
-        high : stop ≤ end
-        high = omega arith
-
-    stops : (stop ≡ end) ⊎ (stop % 32 ≡ 0)
-    stops = pick (decLe end (base + chunk))
-      where
-        pick : Dec (end ≤ base + chunk) → (stop ≡ end) ⊎ (stop % 32 ≡ 0)
+        pick : Dec (top + 1 ≤ base + chunk) → (stop ≡ top + 1) ⊎ (stop % 32 ≡ 0)
         pick (yes e) = inl (omega arith)
-        pick (no e) = inr (omega (arith, turn .aligned))
+        pick (no e) = inr (omega arith)
 
-    abbrev partOf : List ℕ
-    partOf = take (stop * u - base * u) (drop (base * u) s)
-
-    pub first-room : (n k : ℕ) → n ≡ length partOf → k ≡ length l → JoinRoom u base p (stop - 1) n k
-    first-room n k en ek = record {
+    pub join-room : (n k : ℕ) → n ≡ length (partOf u p top base stop s turn) → k ≡ length l1 → JoinRoom u base p (stop - 1) n k
+    join-room n k en ek = record {
       low = room .low;
       high = room .high;
       fits = omega (arith, room .fits, turn);
       some = omega (arith, turn);
       from = turn .base-low;
-      samples = omega (arith, en, sized, turn .start, ap (λ (x : ℕ). x * u) whole);
-      nodes = omega (arith, room .nodes, ek, g .nodes .kept, turn);
+      samples = part-holds u p top base stop s turn n en;
+      nodes = omega (arith, room .nodes, turn);
     }
-      where
-        sized : length partOf ≡ stop * u - base * u
-        sized = simp (length-take, length-drop) (omega (arith, turn .part))
 
-        whole : suc (stop - 1) ≡ stop
-        whole = omega (arith, turn .further)
+    pub new-room : p % 32 ≡ 0 → (n k : ℕ) → n ≡ length (partOf u p top base stop s turn) → k ≡ length l1 → FirstRoom u base (p / 32) (stop - 1) n k
+    new-room z n k en ek = let r = join-room n k en ek in record { low = r .low; high = r .high; fits = r .fits; from = omega (arith, r .from); samples = r .samples; nodes = r .nodes }
 
-    -- the part's nodes are those of memory: whole ones,
-    module _ (j : ℕ) (a : p / 32 ≤ j) (b : j ≤ (stop - 1) / 32) where
-      begun : j * 32 < stop
-      begun = omega (arith, turn .further)
+-- ---- the loop: the nodes up to place p are made, and l is the level then
+pub record Making (unit from top : ℕ) (s l1 l : List ℕ) (p : ℕ) : Type 0 where
+  pub low : from ≤ p
+  pub begins : p ≤ top → p % 32 ≡ 0
+  pub next : ℕ
+  pub more : p ≤ top → next ≡ p / 32
+  pub done : top < p → top / 32 < next
+  pub nodes : Putting (levelNode (sampleOf unit s) (top + 1) 1) l1 (from / 32) (top / 32) l next
 
-      node-from : (q : ℕ) → base ≤ q → q < min (suc j * 32) stop → nodeOf (partSample u partOf base) q (min (suc j * 32) stop) ≡ nodeOf (sampleOf u s) q (min (suc j * 32) end)
-      node-from q c d =
-          node-same (partSample u partOf base) (sampleOf u s) q (min (suc j * 32) stop) d (λ i x y. part-sample u s base stop i (omega arith) (omega arith))
-          ∙ ap (nodeOf (sampleOf u s) q) (same-end stop end j (turn .stop-high) stops begun)
+module _ (u from top : ℕ) (s l1 : List ℕ) (border : from % 32 ≡ 0) (room : ChunksRoom u from top (length s) (length l1)) where
+  abbrev made : ℕ → Node
+  made = levelNode (sampleOf u s) (top + 1) 1
 
-      new-node : len ≤ j * 32 → p ≤ j * 32 → runningNodes (partSample u partOf base) l p stop j ≡ firstNodes u s l1 len end j
-      new-node c d =
-          running-new (partSample u partOf base) l p stop j d
-          ∙ node-from (j * 32) (omega (arith, turn .base-low)) (omega (arith, begun))
-          ∙ sym (running-new (sampleOf u s) l1 len end j c)
+  pub making-starts : Making u from top s l1 l1 from
+  making-starts = record {
+    low = omega arith;
+    begins = λ _. border;
+    next = from / 32;
+    more = λ _. omega arith;
+    done = λ h. absurd (omega (arith, room .some));
+    nodes = putting-starts made l1 (from / 32) (top / 32);
+  }
 
-      -- and the unfinished one
-      kept-node : p ≡ len → l ≡ l1 → j * 32 < p → runningNodes (partSample u partOf base) l p stop j ≡ firstNodes u s l1 len end j
-      kept-node ep el c =
-          running-joins (partSample u partOf base) l p stop j c
-          ∙ ap₂ join (ap (λ (x : List ℕ). nodeIn x j) el) (node-from p (turn .base-low) (omega (arith, turn .further)) ∙ ap (λ (x : ℕ). nodeOf (sampleOf u s) x (min (suc j * 32) end)) ep)
-          ∙ sym (running-joins (sampleOf u s) l1 len end j (omega arith))
+  module _ (l : List ℕ) (p : ℕ) (g : Making u from top s l1 l p) where
+    pub making-end : top < p → l ≡ newNodes (sampleOf u s) l1 (from / 32) top 1
+    making-end h = putting-end made l1 (from / 32) (top / 32) l (g .next) (g .nodes) (g .done h)
 
-      part-node : runningNodes (partSample u partOf base) l p (stop - 1 + 1) j ≡ firstNodes u s l1 len end j
-      part-node = ap (λ (x : ℕ). runningNodes (partSample u partOf base) l p x j) whole ∙ pick (decLe p (j * 32)) (g .begins h)
+    -- a turn
+    module _ (h : p ≤ top) (base stop : ℕ) (t : Turn u p top (length s) base stop) where
+      new-node : (j : ℕ) → p / 32 ≤ j → j * 32 < stop → levelNode (partSample u (partOf u p top base stop s t) base) (stop - 1 + 1) 1 j ≡ made j
+      new-node j a b = node-from u p top base stop s t j (j * 32) b (omega (arith, t .base-low, g .begins h)) (omega arith)
+
+      pub making-on : (l′ : List ℕ) → l′ ≡ newNodes (partSample u (partOf u p top base stop s t) base) l (p / 32) (stop - 1) 1 → Making u from top s l1 l′ stop
+      making-on l′ e = record {
+        low = omega (arith, g .low, t .further);
+        begins = λ q. again q (t .stops);
+        next = p / 32 + ((stop - 1) / 32 + 1 - p / 32);
+        more = λ q. counted (again q (t .stops)) (t .further);
+        done = λ q. past q (t .further);
+        nodes =
+            putting-run made l1 (from / 32) (top / 32) l (p / 32) (subst (Putting made l1 (from / 32) (top / 32) l) (g .more h) (g .nodes)) l′ ((stop - 1) / 32 + 1 - p / 32)
+            (within (t .further) (t .stop-high))
+            (e ∙ puts-same _ made ((stop - 1) / 32 + 1 - p / 32) l (p / 32) (λ j a b. new-node j a (begun j b (t .further))));
+      }
         where
-          whole : stop - 1 + 1 ≡ stop
-          whole = omega (arith, turn .further)
+          again : stop ≤ top → (stop ≡ top + 1) ⊎ (stop % 32 ≡ 0) → stop % 32 ≡ 0
+          again q (inl z) = absurd (omega arith)
+          again q (inr z) = z
 
-          pick : Dec (p ≤ j * 32) → ((p ≡ len) × (l ≡ l1)) ⊎ (p % 32 ≡ 0) → runningNodes (partSample u partOf base) l p stop j ≡ firstNodes u s l1 len end j
-          pick (yes c) _ = new-node (omega (arith, g .from)) c
-          pick (no c) (inl e) = kept-node (e .0) (e .1) (omega arith)
-          pick (no c) (inr e) = absurd (omega arith)
+          counted : stop % 32 ≡ 0 → p < stop → p / 32 + ((stop - 1) / 32 + 1 - p / 32) ≡ stop / 32
+          counted z q = omega arith
 
-    pub making-on : (l′ : List ℕ) → l′ ≡ putNodes (runningNodes (partSample u partOf base) l p (stop - 1 + 1)) l (p / 32) ((stop - 1) / 32 + 1 - p / 32) → Making u len end s l1 l′ stop
-    making-on l′ e = record {
-      from = omega (arith, g .from, turn .further);
-      begins = λ q. inr (at-node q stops);
-      below = turn .stop-high;
-      next = p / 32 + ((stop - 1) / 32 + 1 - p / 32);
-      more = λ q. again q stops;
-      done = λ q. past-last p stop end (turn .further) (omega (arith, turn .stop-high));
-      nodes =
-          putting-run (firstNodes u s l1 len end) l1 (len / 32) ((end - 1) / 32) l (p / 32)
-          (subst (Putting (firstNodes u s l1 len end) l1 (len / 32) ((end - 1) / 32) l) (g .more h) (g .nodes)) l′ ((stop - 1) / 32 + 1 - p / 32)
-          (not-past p stop end (turn .further) (turn .stop-high))
-          (e ∙ puts-same (runningNodes (partSample u partOf base) l p (stop - 1 + 1)) (firstNodes u s l1 len end) ((stop - 1) / 32 + 1 - p / 32) l (p / 32) (λ j a b. part-node j a (omega arith)));
-    }
-      where
-        at-node : stop < end → (stop ≡ end) ⊎ (stop % 32 ≡ 0) → stop % 32 ≡ 0
-        at-node q (inl f) = absurd (omega arith)
-        at-node q (inr f) = f
+          past : top < stop → p < stop → top / 32 < p / 32 + ((stop - 1) / 32 + 1 - p / 32)
+          past q r = omega arith
 
-        again : stop < end → (stop ≡ end) ⊎ (stop % 32 ≡ 0) → p / 32 + ((stop - 1) / 32 + 1 - p / 32) ≡ stop / 32
-        again q (inl f) = absurd (omega arith)
-        again q (inr f) = omega (arith, turn .further)
+          within : p < stop → stop ≤ top + 1 → p / 32 + ((stop - 1) / 32 + 1 - p / 32) ≤ top / 32 + 1
+          within q r = omega arith
+
+          begun : (j : ℕ) → j < p / 32 + ((stop - 1) / 32 + 1 - p / 32) → p < stop → j * 32 < stop
+          begun j b q = omega arith

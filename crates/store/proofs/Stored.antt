@@ -14,7 +14,7 @@ use Rattle.rules.proofs.Sample.{little-same}
 use Rattle.node.specs.Memory.{Right, RightAt}
 use Rattle.rebuild.specs.Room.{Roomy}
 use Rattle.rebuild.proofs.Right.{after-none, length-after, rest-stays, after-right}
-use Rattle.store.specs.Stored.{firstNodes, LevelsAfter, Stored}
+use Rattle.store.specs.Stored.{LevelsAfter, Stored}
 use Rattle.store.specs.Room.{AppendRoom, PartsRoom}
 use Rattle.store.proofs.Bytes.{paste-before, paste-inside, paste-after, paste-first, paste-thrice}
 use Rattle.store.proofs.Levels.{levels-none}
@@ -54,14 +54,14 @@ module _ {u len n : ℕ} {b s : List ℕ} {lv : ℕ → List ℕ} {s′ : List �
   none-samples e = d .samples-are ∙ ap (λ (x : ℕ). paste s (len * u) b (x * u)) e ∙ ap (paste s (len * u) b) (zero-mul u) ∙ sym (paste-zero s (len * u) b)
 
   pub none-levels : n ≡ 0 → (l : ℕ) → 1 ≤ l → l ≤ topLevel → lv′ l ≡ lv l
-  none-levels e l p q = d .levels-are l p q ∙ after-none (firstNodes u s′ (lv 1) len (len + n)) lv len n l e
+  none-levels e l p q = d .levels-are l p q ∙ after-none (sampleOf u s′) (lv l) len n l e
 
   -- ---- levels, whatever memory holds
   pub level-length : (l : ℕ) → 1 ≤ l → l ≤ topLevel → length (lv′ l) ≡ length (lv l)
-  level-length l p q = ap length (d .levels-are l p q) ∙ length-after (firstNodes u s′ (lv 1) len (len + n)) lv len n l
+  level-length l p q = ap length (d .levels-are l p q) ∙ length-after (sampleOf u s′) (lv l) len n l
 
   pub level-rest : (l k : ℕ) → 1 ≤ l → l ≤ topLevel → (k < len / span l * nodeSize) ⊎ (((len + n - 1) / span l + 1) * nodeSize ≤ k) → getD (lv′ l) k 0 ≡ getD (lv l) k 0
-  level-rest l k p q h = ap (λ (x : List ℕ). getD x k 0) (d .levels-are l p q) ∙ rest-stays (firstNodes u s′ (lv 1) len (len + n)) lv len n l k h
+  level-rest l k p q h = ap (λ (x : List ℕ). getD x k 0) (d .levels-are l p q) ∙ rest-stays (sampleOf u s′) (lv l) len n l k h
 
   -- ---- samples
   pub samples-length : RoomOrNone u len n s lv b → length s′ ≡ length s

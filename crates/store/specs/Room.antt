@@ -1,18 +1,18 @@
 -- What the functions of this crate ask of their numbers and of the lengths of lent memory.
 use mathlib.Core.Path.{_≡_}
 use mathlib.Core.List.{List}
-use Prim.Native.Nat.{ℕ, _+_, _-_, _*_, _/_, _≤_, _<_}
+use Prim.Native.Nat.{ℕ, _+_, _*_, _/_, _≤_, _<_}
 use Rattle.rules.specs.Refusal.{mostSamples, nodeSize}
 use Rattle.rebuild.specs.Room.{Roomy}
 
--- samples stand at the places len to end, end not among them, at least one: they and their nodes of level 1 lie in memory
-pub record ChunksRoom (unit len end s l1 : ℕ) : Type 0 where
+-- samples stand at the places from to top, and they and their nodes of level 1 lie in memory
+pub record ChunksRoom (unit from top s l1 : ℕ) : Type 0 where
   pub low : 1 ≤ unit
   pub high : unit ≤ 2
-  pub some : len < end
-  pub fits : end ≤ mostSamples
-  pub samples : end * unit ≤ s
-  pub nodes : (end - 1) / 32 * nodeSize + nodeSize ≤ l1
+  pub some : from ≤ top
+  pub fits : top < mostSamples
+  pub samples : (top + 1) * unit ≤ s
+  pub nodes : top / 32 * nodeSize + nodeSize ≤ l1
 
 -- n samples join len: they and the nodes of every level lie in memory
 pub record StoreRoom (unit len n s : ℕ) (levels : ℕ → List ℕ) : Type 0 where

@@ -1,16 +1,21 @@
 // Samples join the stored ones in lent memory, and the nodes above them are made. The calls that store are above.
 use lines::Mask;
+use node::Node;
+use rebuild::FAN;
+use rebuild::join_first;
+use rebuild::put_running;
 use rebuild::rebuild_above;
-use rebuild::rebuild_first;
+use rebuild::rebuild_new;
 ghost use mathlib.Core.Path.{_≡_};
 ghost use mathlib.Core.List.{_++_};
-ghost use Prim.Native.Nat.{_+_, _-_, _/_, _≤_, min};
+ghost use Prim.Native.Nat.{_+_, _/_, _%_, _≤_, min};
 ghost use lib.ListN.{length};
 ghost use lib.Seq.{paste};
 ghost use Rattle.rules.specs.Node.{span};
-ghost use Rattle.node.specs.Memory.{levelOf};
-ghost use Rattle.rebuild.specs.Rebuild.{putNodes, touched};
-ghost use Rattle.store.specs.Stored.{firstNodes, LevelsAfter, Stored};
+ghost use Rattle.rules.specs.Sample.{sampleOf};
+ghost use Rattle.node.specs.Memory.{asNode, levelOf};
+ghost use Rattle.rebuild.specs.Rebuild.{newNodes, NodeJoined};
+ghost use Rattle.store.specs.Stored.{LevelsAfter, Stored};
 ghost use Rattle.store.specs.Room.{ChunksRoom, StoreRoom, AppendRoom, PartsRoom};
 
 const CHUNK: usize = 1048576;
@@ -73,7 +78,8 @@ fn copy_at(dst: &mut [u8], at: usize, src: &[u8])
     }
 }
 
-// n samples stand behind the first len: every node that covers one of them is made, level 1 from them and its unfinished node, each level above anew from the one below.
+// n samples stand behind the first len: every node that covers one of them is made, level by level. From each level the node of the new samples
+// that join its unfinished node is carried to the next. Short pushes mostly lie in one node of level 1: there it is the same at every level.
 fn rebuild_levels(
     samples: &[u8],
     l1: &mut [Mask],
@@ -90,25 +96,44 @@ fn rebuild_levels(
     if n == 0 {
         return;
     }
-    rebuild_chunks(samples, l1, unitsize, len, len + n);
     let top = len + n - 1;
-    rebuild_above(&l1[..], l2, 1, len, top);
-    rebuild_above(&l2[..], l3, 2, len, top);
-    rebuild_above(&l3[..], l4, 3, len, top);
+    let first = join_lowest(samples, l1, unitsize, len, top);
+    if len / FAN == top / FAN {
+        put_running(l2, 2, len, first);
+        put_running(l3, 3, len, first);
+        put_running(l4, 4, len, first);
+        return;
+    }
+    rebuild_chunks(samples, l1, unitsize, len / FAN * FAN + FAN, top);
+    let second = rebuild_above(&l1[..], l2, 1, len, top, first);
+    let third = rebuild_above(&l2[..], l3, 2, len, top, second);
+    rebuild_above(&l3[..], l4, 3, len, top, third);
 }
 
-// The nodes of level 1 that cover one of the places len to end, end not among them, each chunk's from its part of the samples.
-fn rebuild_chunks(samples: &[u8], l1: &mut [Mask], unitsize: usize, len: usize, end: usize)
-    requires { ⌜ ChunksRoom unitsize len end (length (now samples)) (length (now l1)) ⌝ }
-    ensures { λ _. ⌜ now (l1 .exit) ≡ putNodes (firstNodes unitsize (now (samples .entry)) (now (l1 .entry)) len end) (now (l1 .entry)) (len / span 1) (touched len (end - 1) 1) ⌝ }
+// The node of level 1 that place len lies in, from its chunk's part of the samples. The answer is the node of the new ones in its range.
+fn join_lowest(samples: &[u8], l1: &mut [Mask], unitsize: usize, len: usize, top: usize) -> Node
+    requires { ⌜ ChunksRoom unitsize len top (length (now samples)) (length (now l1)) ⌝ }
+    ensures { λ r. ⌜ NodeJoined (sampleOf unitsize (now (samples .entry))) len top 1 (now (l1 .entry)) (now (l1 .exit)) (asNode r) ⌝ }
 {
-    let mut p = len;
-    while p < end {
+    let base = len - len % CHUNK;
+    let stop = lesser(base + CHUNK, top + 1);
+    let a = base * unitsize;
+    let e = stop * unitsize;
+    join_first(&samples[a..e], l1, unitsize, base, len, stop - 1)
+}
+
+// The nodes of level 1 from place from on, where one begins, up to place top, each chunk's from its part of the samples.
+fn rebuild_chunks(samples: &[u8], l1: &mut [Mask], unitsize: usize, from: usize, top: usize)
+    requires { ⌜ (from % span 1 ≡ 0) × ChunksRoom unitsize from top (length (now samples)) (length (now l1)) ⌝ }
+    ensures { λ _. ⌜ now (l1 .exit) ≡ newNodes (sampleOf unitsize (now (samples .entry))) (now (l1 .entry)) (from / span 1) top 1 ⌝ }
+{
+    let mut p = from;
+    while p <= top {
         let base = p - p % CHUNK;
-        let stop = lesser(base + CHUNK, end);
+        let stop = lesser(base + CHUNK, top + 1);
         let a = base * unitsize;
         let e = stop * unitsize;
-        rebuild_first(&samples[a..e], l1, unitsize, base, p, stop - 1);
+        rebuild_new(&samples[a..e], l1, unitsize, base, p / FAN, stop - 1);
         p = stop;
     }
 }
