@@ -1,5 +1,6 @@
-//! Appends and pushes over memory that no list of calls made. By document 02's CR 2 the nodes of level 1 that they write
-//! depend on len, the unfinished node and the new samples; what is stored before is noise here, and searches follow it.
+//! Appends and pushes over memory that no list of calls made. As document 02's CR 2 says of level 1, the nodes of a level
+//! that they write depend on len, its unfinished node and the new samples; what is stored before is noise here, and
+//! searches follow it.
 
 use crate::document::{refusals::need, rules};
 use crate::feed::Feed;
@@ -20,7 +21,15 @@ pub struct Unfinished {
 
 impl Unfinished {
     pub fn ask(&mut self, list: &mut List, rng: &mut Rng) {
-        let (channels, capacity) = (rng.pick(&[8, 16]), 1 + rng.below(2_500));
+        let channels = rng.pick(&[8, 16]);
+        let (capacity, len) = match rng.once_in(8) {
+            // around the border between two nodes of level 3
+            true => (36_000, 32_768 - rng.below(3_000)),
+            false => {
+                let capacity = 1 + rng.below(2_500);
+                (capacity, rng.below(capacity + 1))
+            }
+        };
         let unit = rules::unit(channels);
         self.port.take(&Op::Lend(need(unit, capacity)));
         let recorder = rng.once_in(2);
@@ -30,9 +39,9 @@ impl Unfinished {
             true => Op::Start(settings),
             false => Op::Capture { channels, capacity },
         });
-        self.port.hold(rng.below(capacity + 1) as usize);
+        self.port.hold(len as usize);
         for _ in 0..4 {
-            let count = rng.pick(&[3, 3, 1, 31, 32, 33, 100]) * unit + rng.below(2);
+            let count = rng.pick(&[3, 3, 1, 31, 32, 33, 100, 1_100]) * unit + rng.below(2);
             let bytes = Feed::Bytes((0..count).map(|_| rng.number() as u8).collect());
             self.port.take(&if recorder { Op::Push(bytes) } else { Op::Append(bytes) });
             self.made += 1;

@@ -10,8 +10,8 @@ use Rattle.rules.specs.Refusal.{firstOf, viewRows}
 use Rattle.rules.specs.Answer.{given, unless, seen}
 use Rattle.rules.specs.Pixel.{cutPixels}
 use Rattle.rules.proofs.Refusal.{Sound, sound}
-use Rattle.alike.specs.Alike.{Alike}
-use Rattle.alike.proofs.Alike.{same-alike, alike-same}
+use Rattle.claim_alike.specs.Alike.{Alike}
+use Rattle.claim_alike.proofs.Alike.{same-alike, alike-same}
 use Rattle.capture.specs.declared.Capture.{Capture}
 use Rattle.capture.specs.Record.{storeOf, lentOf}
 use Rattle.pixel.specs.Ranges.{viewAs}

@@ -25,7 +25,7 @@ use Rattle.rules.specs.Answer.{Answer, refused, given, unless, unrefused}
 use Rattle.rules.proofs.Sample.{list-length, list-same}
 use Rattle.rules.proofs.Refusal.{row-passed, rows-left}
 use Rattle.rules.proofs.Row.{row-length}
-use Rattle.alike.proofs.Below.{summary-below, render-below, next-below, previous-below, burst-below}
+use Rattle.claim_alike.proofs.Below.{summary-below, render-below, next-below, previous-below, burst-below}
 use Rattle.node.specs.Memory.{levelOf, Right}
 use Rattle.rebuild.proofs.Right.{right-same}
 use Rattle.capture.specs.declared.Capture.{Capture}

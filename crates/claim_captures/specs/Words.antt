@@ -7,7 +7,7 @@ use Prim.Native.Nat.{ℕ, _^_, _<_}
 use lib.Ieee.{Float, binary64, fits}
 use lib.ListN.{length, getD}
 use denote.Ref.{RefT, at-last}
-use Rattle.alike.specs.Alike as alike
+use Rattle.claim_alike.specs.Alike as alike
 use Rattle.node.specs.Memory.{levelOf}
 
 -- ---- memory

@@ -16,9 +16,9 @@ use Rattle.rules.specs.Selection.{Reply, refused, going-on, complete, replyOf}
 use Rattle.rules.specs.Refusal.{Lent, Recorder, recorderRefusal}
 use Rattle.rules.specs.Ring.{keptBytes, ringBytes, written}
 use Rattle.rules.specs.Push.{Left, withLen, firedBy, waitedFor, wanted, passed, leftOf}
-use Rattle.ring.specs.Push.{storable, storeBytes, firingBytes, takenBytes, pushBytes, leftBy}
+use Rattle.feeder_lists.specs.Push.{storable, storeBytes, firingBytes, takenBytes, pushBytes, leftBy}
 use Rattle.feeder.proofs.Rows.{recorder-sound}
-use Rattle.ring.proofs.Left.{left-is}
+use Rattle.feeder_lists.proofs.Left.{left-is}
 use Rattle.feeder_numbers.proofs.ReadBack.{Follows}
 use Rattle.feeder_codes.proofs.Narrow.{NarrowSample, some-narrow, last-narrow, sample-narrow}
 

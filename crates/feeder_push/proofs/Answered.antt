@@ -16,12 +16,12 @@ use Rattle.store.specs.Stored.{LevelsAfter}
 use Rattle.store.proofs.Levels.{levels-none}
 use Rattle.terms.specs.declared.Masks.{Masks}
 use Rattle.terms.specs.Terms.{asMasks, previousOf}
-use Rattle.scan.specs.Scan.{Holds}
-use Rattle.run_write.specs.declared.Taken.{Taken}
-use Rattle.run_write.specs.Run.{RunRoom, Takes}
-use Rattle.ring.specs.Bytes.{units}
-use Rattle.ring.specs.Push.{storeBytes, firingBytes, takenBytes, pushBytes, leftBy}
-use Rattle.ring.proofs.Left.{left-is}
+use Rattle.feeder_scan.specs.Scan.{Holds}
+use Rattle.feeder_run.specs.declared.Taken.{Taken}
+use Rattle.feeder_run.specs.Run.{RunRoom, Takes}
+use Rattle.feeder_lists.specs.Bytes.{units}
+use Rattle.feeder_lists.specs.Push.{storeBytes, firingBytes, takenBytes, pushBytes, leftBy}
+use Rattle.feeder_lists.proofs.Left.{left-is}
 use Rattle.capture.specs.Record.{lentOf}
 use Rattle.feeder.specs.declared.Armed.{Armed}
 use Rattle.feeder.specs.declared.Armed.the-variants.{Unarmed, Waiting}

@@ -11,12 +11,12 @@ use Rattle.rules.specs.Trigger.{Armed, unarmed, lastOf}
 use Rattle.rules.specs.Refusal.{Recorder, mostSamples}
 use Rattle.lines.specs.Held.{Held}
 use Rattle.store.proofs.Fits.{sound-room}
-use Rattle.run_write.specs.declared.Taken.{Taken}
-use Rattle.run_write.specs.Run.{countIn, RunRoom, Takes}
+use Rattle.feeder_run.specs.declared.Taken.{Taken}
+use Rattle.feeder_run.specs.Run.{countIn, RunRoom, Takes}
 use Rattle.rules.specs.Ring.{placeAfter, keptBytes}
 use Rattle.rules.specs.Push.{firedBy, waitedFor, wanted, passed}
-use Rattle.ring.specs.Bytes.{units}
-use Rattle.ring.proofs.Bytes.{units-length}
+use Rattle.feeder_lists.specs.Bytes.{units}
+use Rattle.feeder_lists.proofs.Bytes.{units-length}
 use Rattle.feeder_push.specs.declared.Pushed.{Pushed}
 use Rattle.feeder_push.specs.Inner.{Answers, Stores, PushRoom}
 use Rattle.feeder_push.proofs.Left.{takes-fits, stores-is}

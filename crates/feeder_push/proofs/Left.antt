@@ -15,13 +15,13 @@ use Rattle.rules.specs.Refusal.{Recorder}
 use Rattle.store.specs.Stored.{LevelsAfter}
 use Rattle.store.proofs.Levels.{levels-none}
 use Rattle.store.proofs.Stored.{none-samples, none-levels}
-use Rattle.run_write.specs.declared.Taken.{Taken}
-use Rattle.run_write.specs.declared.Taken.the-variants.{Full, Count}
-use Rattle.run_write.specs.Run.{countIn, Takes}
+use Rattle.feeder_run.specs.declared.Taken.{Taken}
+use Rattle.feeder_run.specs.declared.Taken.the-variants.{Full, Count}
+use Rattle.feeder_run.specs.Run.{countIn, Takes}
 use Rattle.rules.specs.Ring.{written}
 use Rattle.rules.specs.Push.{roomFor, withLen}
 use Rattle.rules.specs.Selection.{replyOf}
-use Rattle.ring.specs.Push.{storable, storeBytes}
+use Rattle.feeder_lists.specs.Push.{storable, storeBytes}
 use Rattle.feeder.specs.declared.Feeder.{Feeder}
 use Rattle.feeder.specs.Record.{recorderOf}
 use Rattle.feeder_push.specs.declared.Pushed.{Pushed}

@@ -13,10 +13,10 @@ use Rattle.rules.specs.Node.{span, topLevel}
 use Rattle.rules.specs.Sample.{sampleOf}
 use Rattle.rules.specs.Selection.{refused}
 use Rattle.rules.proofs.Refusal.{SoundRecorder}
-use Rattle.ring.specs.Push.{pushBytes, leftBy}
-use Rattle.ring.proofs.Left.{left-is}
-use Rattle.ring.proofs.Push.{sound-ready}
-use Rattle.ring.proofs.Grows.{Grows, push-grows}
+use Rattle.feeder_lists.specs.Push.{pushBytes, leftBy}
+use Rattle.feeder_lists.proofs.Left.{left-is}
+use Rattle.feeder_lists.proofs.Push.{sound-ready}
+use Rattle.feeder_lists.proofs.Grows.{Grows, push-grows}
 use Rattle.node.specs.Memory.{nodeIn, Right, RightAt}
 use Rattle.rebuild.specs.Rebuild.{levelAfter}
 use Rattle.rebuild.specs.Room.{Roomy}

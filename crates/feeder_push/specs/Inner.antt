@@ -8,11 +8,11 @@ use Rattle.rules.specs.Refusal.{Recorder}
 use Rattle.rules.proofs.Refusal.{SoundRecorder}
 use Rattle.rules.specs.Ring.{ringBytes}
 use Rattle.rules.specs.Push.{Left, withLen, waitedFor}
-use Rattle.ring.specs.Bytes.{units}
-use Rattle.ring.specs.Push.{storeBytes}
+use Rattle.feeder_lists.specs.Bytes.{units}
+use Rattle.feeder_lists.specs.Push.{storeBytes}
 use Rattle.store.specs.Stored.{LevelsAfter}
-use Rattle.run_write.specs.declared.Taken.{Taken}
-use Rattle.run_write.specs.declared.Taken.the-variants.{Full, Count}
+use Rattle.feeder_run.specs.declared.Taken.{Taken}
+use Rattle.feeder_run.specs.declared.Taken.the-variants.{Full, Count}
 use Rattle.capture.specs.Record.{lentOf}
 use Rattle.feeder.specs.declared.Feeder.{Feeder}
 use Rattle.feeder.specs.Record.{recorderOf}

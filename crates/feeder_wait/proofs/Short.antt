@@ -18,21 +18,21 @@ use Rattle.rules.proofs.Sample.{list-length}
 use Rattle.rules.proofs.Trigger.{fire-le}
 use Rattle.rules.specs.Ring.{placeAfter}
 use Rattle.rules.specs.Push.{Left, waitedFor}
-use Rattle.ring.specs.Bytes.{units}
-use Rattle.ring.specs.Push.{firingBytes, takenBytes, pushBytes, leftBy}
-use Rattle.ring_write.proofs.Copy.{copy-end}
-use Rattle.ring_write.proofs.Place.{place-ahead}
-use Rattle.ring_write.proofs.Runs.{one-run, run-room}
+use Rattle.feeder_lists.specs.Bytes.{units}
+use Rattle.feeder_lists.specs.Push.{firingBytes, takenBytes, pushBytes, leftBy}
+use Rattle.feeder_ring.proofs.Copy.{copy-end}
+use Rattle.feeder_ring.proofs.Place.{place-ahead}
+use Rattle.feeder_ring.proofs.Runs.{one-run, run-room}
 use Rattle.capture.specs.declared.Mark.{Mark}
 use Rattle.capture.specs.declared.Mark.the-variants.{Absent}
 use Rattle.capture.specs.Record.{markOf, storeOf}
 use Rattle.terms.specs.Terms.{asMasks, previousOf}
-use Rattle.scan.proofs.Last.{last-some}
+use Rattle.feeder_scan.proofs.Last.{last-some}
 use Rattle.feeder.specs.Record.{armedAs, recorderOf}
 use Rattle.feeder.proofs.Rows.{sound-recorder}
 use Rattle.feeder_numbers.specs.Numbers.{markIn, armedIn, previousIn, feederFrom, markedNumber, markNumber, waitsNumber, pushedNumbers}
 use Rattle.rules.specs.Push.{leftOf}
-use Rattle.ring.proofs.Left.{left-is}
+use Rattle.feeder_lists.proofs.Left.{left-is}
 use Rattle.feeder_wait.specs.Wait.{Waiting, masksOf, fireOf, CopyRoom, FewRoom, FewWent, Untouched, FewAfter, waitedOf, ShortWent, ShortAfter}
 
 -- the room of k samples at a unit v that is known

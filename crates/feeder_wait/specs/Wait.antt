@@ -11,7 +11,7 @@ use Rattle.rules.specs.Trigger.{firstFire}
 use Rattle.rules.specs.Selection.{going-on}
 use Rattle.rules.specs.Refusal.{Lent, Recorder, mostSamples}
 use Rattle.rules.proofs.Refusal.{Sound}
-use Rattle.ring.specs.Bytes.{units}
+use Rattle.feeder_lists.specs.Bytes.{units}
 use Rattle.rules.specs.Ring.{ringBytes}
 use Rattle.rules.specs.Push.{waitedFor}
 use Rattle.terms.specs.declared.Masks.{Masks}

@@ -1,17 +1,17 @@
 // The lines that write samples or levels: a put, and an append or a push, piece by piece.
 use append::Appended;
-use feed::Feed;
-use feed::Filled;
-use feed::feed_of;
-use feed::fill;
+use replay_feed::Feed;
+use replay_feed::Filled;
+use replay_feed::feed_of;
+use replay_feed::fill;
 use feeder::Feeder;
 use feeder_push::Pushed;
 use lines::Mask;
-use recorded::answers::Answer;
-use recorded::answers::one;
-use recorded::answers::refused;
-use recorded::numbers::mask_of;
-use recorded::operations::Operation;
+use replay_text::answers::Answer;
+use replay_text::answers::one;
+use replay_text::answers::refused;
+use replay_text::numbers::mask_of;
+use replay_text::operations::Operation;
 use replay_start::Change;
 use replay_start::leaves;
 ghost use mathlib.Core.Path.{_≡_};

@@ -1,8 +1,8 @@
 // One line of a list, over the parts of memory that are lent.
 use feeder::Feeder;
 use lines::Mask;
-use recorded::numbers::least;
-use recorded::operations::Operation;
+use replay_text::numbers::least;
+use replay_text::operations::Operation;
 use replay_ask::ask;
 use replay_change::write;
 use replay_change::writes;

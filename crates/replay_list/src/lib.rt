@@ -2,10 +2,10 @@
 pub mod state;
 
 use lines::Mask;
-use recorded::numbers::least;
-use recorded::operations::read_operation;
-use recorded::text::line_after;
-use recorded::text::line_end;
+use replay_text::numbers::least;
+use replay_text::operations::read_operation;
+use replay_text::text::line_after;
+use replay_text::text::line_end;
 use replay_line::step;
 use state::State;
 

@@ -40,27 +40,23 @@ impl Memory {
         (LentMut { samples, levels }, &mut self.ring[..lent.ring as usize])
     }
 
-    /// Document 01's append, node by node from the level below; by document 02's CR 2 a node of level 1
-    /// that begins before the new samples is kept, and they join it.
+    /// Append, level by level, from the samples alone: a touched node is the node of its range. One that begins before
+    /// the new samples is kept, and they join it: document 02's CR 2, at every level.
     pub fn append(&mut self, unit: usize, len: usize, bytes: &[u8]) {
         let end = len + bytes.len() / unit;
         self.samples[len * unit..end * unit].copy_from_slice(&bytes[..(end - len) * unit]);
         if end == len {
             return;
         }
-        let mut span = 1;
-        for level in 0..4 {
-            let below = (end - 1) / span + 1;
-            span *= 32;
-            for node in len / span..=(end - 1) / span {
-                let first = node * 32;
-                let kept = (level == 0 && first < len).then(|| self.node(unit, 1, node));
-                let from = if kept.is_some() { len } else { first };
-                let parts = from..below.min(first + 32);
-                let parts = parts.map(|part| self.node(unit, level, part));
-                let made = kept.into_iter().chain(parts).reduce(join);
+        for level in 1..=4 {
+            let span = 32usize.pow(level as u32);
+            for number in len / span..=(end - 1) / span {
+                let start = number * span;
+                let kept = (start < len).then(|| self.node(unit, level, number));
+                let new = (start.max(len)..end.min(start + span)).map(|i| self.node(unit, 0, i));
+                let made = kept.into_iter().chain(new).reduce(join);
                 let made = made.expect("a touched node covers a sample");
-                self.levels[level][3 * node..3 * node + 3].copy_from_slice(&made);
+                self.levels[level - 1][3 * number..3 * number + 3].copy_from_slice(&made);
             }
         }
     }

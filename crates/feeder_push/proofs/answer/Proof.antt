@@ -4,7 +4,7 @@ use mathlib.Core.Path.{refl, ap}
 use native.Mathlib.Omega.{arith}
 use borrow.Author.Needs.{needs}
 use borrow.Author.Tests.{eq-eqb, ne-eqb}
-use Rattle.run_write.specs.Run.{countIn}
+use Rattle.feeder_run.specs.Run.{countIn}
 use Rattle.feeder.specs.Record.{recorderOf}
 use Rattle.feeder_push.proofs.Left.{answers-none, answers-some}
 use Rattle.feeder_push.proofs.answer.Statement.{statement}

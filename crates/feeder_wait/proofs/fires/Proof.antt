@@ -10,7 +10,7 @@ use lib.ListN.{getD}
 use Rattle.rules.specs.Sample.{sampleOf}
 use Rattle.rules.specs.Trigger.{firstFire}
 use Rattle.rules.proofs.Sample.{list-length}
-use Rattle.ring.specs.Bytes.{units}
+use Rattle.feeder_lists.specs.Bytes.{units}
 use Rattle.terms.specs.declared.Masks.{Masks}
 use Rattle.terms.specs.declared.Previous.{Previous}
 use Rattle.terms.specs.Terms.{asMasks, previousOf}

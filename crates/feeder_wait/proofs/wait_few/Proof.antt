@@ -3,7 +3,7 @@ use mathlib.Core.Path.{sym, _∙_}
 use native.Mathlib.Omega.{arith}
 use borrow.Author.Needs.{needs}
 use denote.Ref.{now}
-use Rattle.scan.proofs.Room.{held}
+use Rattle.feeder_scan.proofs.Room.{held}
 use Rattle.feeder_wait.proofs.Short.{few-copy, few-went}
 use Rattle.feeder_wait.proofs.wait_few.Statement.{statement}
 use Rattle.feeder_wait.proofs.wait_few.Tie as tie

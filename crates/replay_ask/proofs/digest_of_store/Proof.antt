@@ -2,7 +2,7 @@
 use Prim.Native.Nat.{_-_, _<_}
 use mathlib.Core.Path.{_≡_}
 use lib.ListN.{length}
-use Rattle.recorded.specs.Digests.{prime}
+use Rattle.replay_text.specs.Digests.{prime}
 use borrow.Author.Needs.{needs}
 use Rattle.replay_ask.proofs.digest_of_store.Statement.{statement}
 use Rattle.replay_ask.proofs.digest_of_store.Tie as tie

@@ -1,7 +1,7 @@
 -- `replay_change::write` is safe and ends. Lent slices keep their lengths; the measure is what is to come of the feed. Assumes nothing.
 use mathlib.Core.Path.{_≡_, _∙_}
 use lib.ListN.{length}
-use Rattle.feed.proofs.Falls.{ahead}
+use Rattle.replay_feed.proofs.Falls.{ahead}
 use borrow.Author.Needs.{needs}
 use Rattle.replay_change.proofs.Pieces.{piece-falls}
 use Rattle.replay_change.proofs.write.Statement.{statement}

@@ -1,0 +1,58 @@
+-- `recorded::answers::and_samples` is safe and ends. The measure is what is left to compare; nothing has to hold from turn to turn. Assumes nothing.
+use Prim.Native.Nat.{_-_}
+use borrow.Author.Needs.{needs}
+use Rattle.replay_text.proofs.answers.and_samples.Statement.{statement}
+use Rattle.replay_text.proofs.answers.and_samples.Tie as tie
+
+abbrev Inv-loop : tie.InvT-loop
+Inv-loop line output count d₀ i₀ end d i = Unit {0}
+
+abbrev μ-loop : tie.MeasureT-loop
+μ-loop line output count d₀ i₀ end d i = end - i
+
+least-requires : tie.Need-least-requires Inv-loop μ-loop
+least-requires c κs = search needs
+
+loop-holds : tie.Need-loop-holds Inv-loop μ-loop
+loop-holds c = search needs
+
+mul-value-of : tie.Need-mul-value-of Inv-loop μ-loop
+mul-value-of c = search needs
+
+shared-slice-read-value-of : tie.Need-shared-slice-read-value-of Inv-loop μ-loop
+shared-slice-read-value-of c = search needs
+
+value-of-requires : tie.Need-value-of-requires Inv-loop μ-loop
+value-of-requires c κs = search needs
+
+and-requires : tie.Need-and-requires Inv-loop μ-loop
+and-requires c κs = search needs
+
+add-i : tie.Need-add-i Inv-loop μ-loop
+add-i c = search needs
+
+loop-less : tie.Need-loop-less Inv-loop μ-loop
+loop-less c = search needs
+
+loop-again : tie.Need-loop-again Inv-loop μ-loop
+loop-again c = search needs
+
+returns : tie.Need-returns Inv-loop μ-loop
+returns c = search needs
+
+pub and-samples-spec : {M : Type 1} → statement M
+and-samples-spec =
+    tie.close
+    (tie.spec
+    Inv-loop
+    μ-loop
+    least-requires
+    loop-holds
+    mul-value-of
+    shared-slice-read-value-of
+    value-of-requires
+    and-requires
+    add-i
+    loop-less
+    loop-again
+    returns)
