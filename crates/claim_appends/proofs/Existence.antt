@@ -19,7 +19,7 @@ use Rattle.claim_appends.specs.Claim.{MayAppend, Appending, Existence}
 use Rattle.claim_appends.specs.Claim.Appending.{stop, step}
 
 -- ---- one append
-appended-for : (n : ℕ) (c : Capture) → (v : Appended) × (numberOf v ≡ n) × (recordOf v ≡ c)
+pub appended-for : (n : ℕ) (c : Capture) → (v : Appended) × (numberOf v ≡ n) × (recordOf v ≡ c)
 appended-for zero c = (Done c, refl, refl)
 appended-for (suc n) c = (Refused (suc n) c, refl, refl)
 

@@ -1,0 +1,220 @@
+-- Asked through the exports with numbers and memory that hold a run, each question gives 01's code and numbers for the run, and no other: what the calls answer, told by `codes`.
+use mathlib.Core.Path.{_≡_, refl, sym, ap, ap₂, _∙_, subst, subst⁻¹}
+use mathlib.Core.Bool.{Bool, true, false, cond}
+use mathlib.Core.List.{List, [], _∷_, _++_}
+use mathlib.Core.Option.{Option, none, some}
+use Prim.Native.Nat.{ℕ, zero, suc, _*_}
+use native.Mathlib.Nat.{suc-ne-zero}
+use lib.Dec.{eqb}
+use lib.Ieee.{Float}
+use lib.ListN.{length, drop, getD}
+use contract.Lifetimes.{Lfts}
+use denote.Ref.{RefT, at-last}
+use Rattle.rules.specs.Sample.{sampleOf, listFrom}
+use Rattle.rules.specs.Node.{Node}
+use Rattle.rules.specs.Search.{summary}
+use Rattle.rules.specs.Walk.{Walked, Counted, nextSearch, previousSearch}
+use Rattle.rules.specs.Burst.{Burst, burstSearch}
+use Rattle.rules.specs.Pixel.{pixelRange, render}
+use Rattle.rules.specs.Refusal.{firstOf, viewRows, renderRefusal}
+use Rattle.rules.specs.Answer.{Answer, given, unless, unrefused}
+use Rattle.rules.proofs.SampleBytes.{list-whole}
+use Rattle.rules.proofs.Refusal.{rows-left}
+use Rattle.claim_alike.proofs.Below.{render-below}
+use Rattle.capture.specs.declared.Capture.{Capture}
+use Rattle.capture.specs.declared.Mark.the-variants.{Absent, At}
+use Rattle.capture.specs.Record.{markOf, storeOf, lentOf}
+use Rattle.summary.specs.Summary.{summed}
+use Rattle.pixel.specs.declared.View as pixel
+use Rattle.render.specs.declared.Drawn.{Drawn}
+use Rattle.render.specs.Render as drawing
+use Rattle.render.proofs.Answers.{render-row, render-refused}
+use Rattle.codes.specs.Code.{perhaps, Out}
+use Rattle.codes.specs.Sought.{Sought}
+use Rattle.codes.specs.Record.{captureIn, nodeNumbers, burstNumbers, number}
+use Rattle.logic_core.specs.Asked.{DrawsOut}
+use Rattle.claim_captures.specs.Words.{Memory, levels, Ref, Places, at, Answered}
+use Rattle.claim_captures.specs.Claim.{Held}
+use Rattle.claim_captures.specs.Claim as calls
+use Rattle.claim_captures.proofs.Answers.{answers, agree, right, drawn-for, anywhere, somewhere}
+use Rattle.claim_exports.specs.Questions.{One, lenIn, markIn, MaySummary, MayNext, MayPrevious, MayBurst, MayRender, found, bursted, drawn, viewOf, Answers}
+use Rattle.claim_exports.specs.Questions as told
+
+-- what a question of the calls answers is what its contract asks for
+asked-is : {X A : Type 0} {told : X → A} {asked x : A} → Answered (λ v. (κs : Lfts 2) × (p : Places) × (told v ≡ asked)) told x → asked ≡ x
+asked-is a = sym (a .allowed .2) ∙ a .is (a .answer) (a .allowed)
+
+-- the mark, as the record's numbers hold it
+pub mark-held : (numbers : List ℕ) → markOf (captureIn numbers .trigger) ≡ markIn numbers
+mark-held numbers = go (eqb (getD numbers 3 0) 0)
+  where
+    go : (b : Bool) → markOf (cond b Absent (At (getD numbers 4 0))) ≡ cond b none (some (getD numbers 4 0))
+    go true = refl
+    go false = refl
+
+-- ---- a code and numbers for each of 01's answers, and no others
+-- all numbers behind a pointer are written
+three : (n : Node) (old : List ℕ) → length old ≡ 3 → nodeNumbers n old ≡ n .first ∷ n .last ∷ n .toggles ∷ []
+unfolding listFrom
+three n old size = ap (nodeNumbers n) (list-whole 3 old size)
+
+four : (b : Burst) (old : List ℕ) → length old ≡ 4 → burstNumbers b old ≡ b .first ∷ b .last ∷ b .jumps-end ∷ b .jumps-start ∷ []
+unfolding listFrom
+four b old size = ap (burstNumbers b) (list-whole 4 old size)
+
+module _ (old : List ℕ) (size : length old ≡ 3) where
+  summed-only : (o : Option Node) (v : told.Summed) → Out nodeNumbers (perhaps (given o)) (v .code) old (v .node) → v ≡ told.summed o old
+  summed-only none v out = λ i. record { code = out .code-is i; node = out .value-is i }
+  summed-only (some n) v out = λ i. record { code = out .code-is i; node = (out .value-is ∙ three n old size) i }
+
+  summed-out : (o : Option Node) → Out nodeNumbers (perhaps (given o)) (told.summed o old .code) old (told.summed o old .node)
+  summed-out none = record { code-is = refl; value-is = refl }
+  summed-out (some n) = record { code-is = refl; value-is = sym (three n old size) }
+
+module _ (steps old old-read : ℕ) where
+  found-only : (o : Option ℕ) (v : told.Found) → Sought number (given (record { found = o; steps = steps })) (v .code) old (v .place) old-read (v .read) → v ≡ found o steps old
+  found-only none v out = λ i. record { code = out .find .code-is i; place = out .find .value-is i; read = out .count .value-is i }
+  found-only (some k) v out = λ i. record { code = out .find .code-is i; place = out .find .value-is i; read = out .count .value-is i }
+
+  found-out : (o : Option ℕ) → Sought number (given (record { found = o; steps = steps })) (found o steps old .code) old (found o steps old .place) old-read (found o steps old .read)
+  found-out none = record { find = record { code-is = refl; value-is = refl }; count = record { code-is = refl; value-is = refl } }
+  found-out (some k) = record { find = record { code-is = refl; value-is = refl }; count = record { code-is = refl; value-is = refl } }
+
+module _ (steps : ℕ) (old : List ℕ) (size : length old ≡ 4) (old-read : ℕ) where
+  bursted-only : (o : Option Burst) (v : told.Bursted) → Sought burstNumbers (given (record { found = o; steps = steps })) (v .code) old (v .ends) old-read (v .read) → v ≡ bursted o steps old
+  bursted-only none v out = λ i. record { code = out .find .code-is i; ends = out .find .value-is i; read = out .count .value-is i }
+  bursted-only (some b) v out = λ i. record { code = out .find .code-is i; ends = (out .find .value-is ∙ four b old size) i; read = out .count .value-is i }
+
+  bursted-out : (o : Option Burst) → Sought burstNumbers (given (record { found = o; steps = steps })) (bursted o steps old .code) old (bursted o steps old .ends) old-read (bursted o steps old .read)
+  bursted-out none = record { find = record { code-is = refl; value-is = refl }; count = record { code-is = refl; value-is = refl } }
+  bursted-out (some b) = record { find = record { code-is = refl; value-is = sym (four b old size) }; count = record { code-is = refl; value-is = refl } }
+
+-- some reference to a number
+pub nowhere : One
+nowhere = record { ptr = (0, 0); name = 0; now = 0 }
+
+module _ {run : List ℕ} {mark : Option ℕ} (numbers : List ℕ) (m : Memory) (h : Held run mark (captureIn numbers) m) where
+  abbrev c : Capture
+  c = captureIn numbers
+
+  abbrev below : calls.Answers run c m
+  below = answers c m h
+
+  summary-is : (a b : ℕ) (node : List ℕ) → length node ≡ 3 → Answered (MaySummary numbers m a b node) (λ v. v) (told.summed (summary (at run) (length run) a b) node)
+  summary-is a b node size =
+      let e = asked-is (below .summary-is a b) in
+      let o = summary (at run) (length run) a b in
+      record {
+        is = λ v may. summed-only node size o v (subst (λ (x : Answer (Option Node)). Out nodeNumbers (perhaps x) (v .code) node (v .node)) e (may .4));
+        answer = told.summed o node;
+        allowed = (
+          ([], ([], ([], ([], tt)))),
+          anywhere,
+          somewhere,
+          anywhere,
+          subst⁻¹ (λ (x : Answer (Option Node)). Out nodeNumbers (perhaps x) (told.summed o node .code) node (told.summed o node .node)) e (summed-out node size o),
+        );
+      }
+
+  next-is : (mask from place read : ℕ)
+      → Answered (MayNext numbers m mask from place read) (λ v. v) (found (nextSearch (at run) (length run) mask from .found) (nextSearch (at run) (length run) mask from .steps) place)
+  next-is mask from place read =
+      let e = asked-is (below .next-is mask from) in
+      let w = nextSearch (at run) (length run) mask from in
+      record {
+        is = λ v may. found-only (w .steps) place read (w .found) v (subst (λ (x : Answer Walked). Sought number x (v .code) place (v .place) read (v .read)) e (may .5));
+        answer = found (w .found) (w .steps) place;
+        allowed = (
+          ([], ([], ([], ([], ([], tt))))),
+          anywhere,
+          somewhere,
+          nowhere,
+          nowhere,
+          subst⁻¹ (λ (x : Answer Walked). Sought number x (found (w .found) (w .steps) place .code) place (found (w .found) (w .steps) place .place) read (found (w .found) (w .steps) place .read)) e (found-out (w .steps) place read (w .found)),
+        );
+      }
+
+  previous-is : (mask from place read : ℕ)
+      → Answered (MayPrevious numbers m mask from place read) (λ v. v) (found (previousSearch (at run) (length run) mask from .found) (previousSearch (at run) (length run) mask from .steps) place)
+  previous-is mask from place read =
+      let e = asked-is (below .previous-is mask from) in
+      let w = previousSearch (at run) (length run) mask from in
+      record {
+        is = λ v may. found-only (w .steps) place read (w .found) v (subst (λ (x : Answer Walked). Sought number x (v .code) place (v .place) read (v .read)) e (may .5));
+        answer = found (w .found) (w .steps) place;
+        allowed = (
+          ([], ([], ([], ([], ([], tt))))),
+          anywhere,
+          somewhere,
+          nowhere,
+          nowhere,
+          subst⁻¹ (λ (x : Answer Walked). Sought number x (found (w .found) (w .steps) place .code) place (found (w .found) (w .steps) place .place) read (found (w .found) (w .steps) place .read)) e (found-out (w .steps) place read (w .found)),
+        );
+      }
+
+  burst-is : (mask sample gap tolerance budget : ℕ) (ends : List ℕ) → length ends ≡ 4 → (read : ℕ)
+      → Answered (MayBurst numbers m mask sample gap tolerance budget ends read) (λ v. v)
+      (bursted (burstSearch (at run) (length run) mask sample gap tolerance budget .found) (burstSearch (at run) (length run) mask sample gap tolerance budget .steps) ends)
+  burst-is mask sample gap tolerance budget ends size read =
+      let e = asked-is (below .burst-is mask sample gap tolerance budget) in
+      let w = burstSearch (at run) (length run) mask sample gap tolerance budget in
+      record {
+        is = λ v may. bursted-only (w .steps) ends size read (w .found) v (subst (λ (x : Answer (Counted Burst)). Sought burstNumbers x (v .code) ends (v .ends) read (v .read)) e (may .5));
+        answer = bursted (w .found) (w .steps) ends;
+        allowed = (
+          ([], ([], ([], ([], ([], tt))))),
+          anywhere,
+          somewhere,
+          anywhere,
+          nowhere,
+          subst⁻¹ (λ (x : Answer (Counted Burst)). Sought burstNumbers x (bursted (w .found) (w .steps) ends .code) ends (bursted (w .found) (w .steps) ends .ends) read (bursted (w .found) (w .steps) ends .read)) e (bursted-out (w .steps) ends size read (w .found)),
+        );
+      }
+
+  -- ---- render
+  module _ (start spp : Float) (width : ℕ) (output : List ℕ) where
+    abbrev view : pixel.View
+    view = record { start = start; spp = spp }
+
+    abbrev refusal : ℕ
+    refusal = renderRefusal (storeOf c) (lentOf (m .samples) (levels m)) (viewOf start spp) width (length output)
+
+    abbrev t : ℕ → ℕ
+    t = sampleOf (c .unitsize) (m .samples)
+
+    -- 10 and 11 decide
+    decides : refusal ≡ firstOf (viewRows (viewOf start spp) width (length output))
+    decides = rows-left (storeOf c) (lentOf (m .samples) (levels m)) (h .passes) (viewRows (viewOf start spp) width (length output))
+
+    drawn-only : (v : told.Drawn) → DrawsOut c (m .samples) (levels m) start spp width output (v .code) (v .output) → v ≡ drawn refusal width (render (at run) (length run) (viewOf start spp) width) output
+    drawn-only v out = go refusal refl
+      where
+        r : (r : Drawn) × (drawing.drawnOf r ≡ unless refusal tt)
+        r = drawn-for (unless refusal tt)
+
+        -- what the call under it draws
+        call : drawing.Draws (summed (levels m) t) (storeOf c) (lentOf (m .samples) (levels m)) (viewOf start spp) width output (r .0) (v .output)
+        call = record { answer-is = r .1; output-is = out .output-is }
+
+        go : (n : ℕ) → refusal ≡ n → v ≡ drawn n width (render (at run) (length run) (viewOf start spp) width) output
+        go zero e = λ i. record { code = (out .code-is ∙ e) i; output = row i }
+          where
+            row : v .output ≡ render (at run) (length run) (viewOf start spp) width ++ drop (2 * width) output
+            row =
+                render-row ([], ([], ([], tt))) c (at-last anywhere (m .samples)) (at-last anywhere (m .l1)) (at-last anywhere (m .l2)) (at-last anywhere (m .l3)) (at-last anywhere (m .l4)) view width (at-last anywhere output) (r .0) (v .output) call (right c m h) e
+                ∙ ap (λ (l : List ℕ). l ++ drop (2 * width) output) (render-below t (at run) (c .len) (agree c m h) (viewOf start spp) width ∙ ap (λ (n : ℕ). render (at run) n (viewOf start spp) width) (h .len-is))
+        go (suc n) e = λ i. record { code = (out .code-is ∙ e) i; output = same i }
+          where
+            same : v .output ≡ output
+            same = render-refused ([], ([], ([], tt))) c (at-last anywhere (m .samples)) (at-last anywhere (m .l1)) (at-last anywhere (m .l2)) (at-last anywhere (m .l3)) (at-last anywhere (m .l4)) view width (at-last anywhere output) (r .0) (v .output) call (λ z. suc-ne-zero n (sym e ∙ z))
+
+    render-is : Answered (MayRender numbers m start spp width output) (λ v. v)
+        (drawn (firstOf (viewRows (viewOf start spp) width (length output))) width (render (at run) (length run) (viewOf start spp) width) output)
+    render-is = record {
+      is = λ v may. drawn-only v (may .4) ∙ ap (λ (n : ℕ). drawn n width (render (at run) (length run) (viewOf start spp) width) output) decides;
+      answer = record { code = refusal; output = drawing.drawn (summed (levels m) t) (pixelRange (viewOf start spp) (c .len)) (unrefused refusal width) output };
+      allowed = (([], ([], ([], ([], tt)))), anywhere, somewhere, anywhere, record { code-is = refl; output-is = refl });
+    }
+
+  pub exports-answer : Answers run numbers m
+  exports-answer = record { summary-is = summary-is; next-is = next-is; previous-is = previous-is; burst-is = burst-is; render-is = render-is }

@@ -1,0 +1,6 @@
+pub mod Answers
+pub mod Alike
+pub mod Recordings
+pub mod Fillings
+pub mod Demand
+pub mod Existence

@@ -1,0 +1,147 @@
+-- The questions that a program asks of a capture through the exports, to be held beside include/logic_core.h: their codes, what stands behind their out pointers, and
+-- when two captures look alike to a viewer of chosen lines. A capture is its record's five numbers and its memory.
+-- `Post` of an export's generated `Reads` is what its `ensures` says of the arguments, the code, and what stands behind its pointers afterwards.
+use mathlib.Core.Path.{_≡_}
+use mathlib.Core.Bool.{cond}
+use mathlib.Core.List.{List, [], _∷_, _++_}
+use mathlib.Core.Option.{Option, none, some}
+use Prim.Native.Nat.{ℕ, zero, suc, _*_}
+use lib.Dec.{eqb}
+use lib.Ieee.{Float}
+use lib.ListN.{length, drop, getD}
+use contract.Lifetimes.{Lfts}
+use denote.Ref.{RefT, at-last}
+use Rattle.rules.specs.Node.{Node}
+use Rattle.rules.specs.Search.{summary}
+use Rattle.rules.specs.Walk.{Walked, Counted, nextSearch, previousSearch}
+use Rattle.rules.specs.Burst.{Burst, burstSearch}
+use Rattle.rules.specs.Pixel.{View, render, cutPixels}
+use Rattle.rules.specs.Refusal.{firstOf, viewRows}
+use Rattle.rules.specs.Sample.{Word, Within}
+use Rattle.logic_core.proofs.lc_summary.Reads as lc-summary
+use Rattle.logic_core.proofs.lc_next_change.Reads as lc-next-change
+use Rattle.logic_core.proofs.lc_prev_change.Reads as lc-prev-change
+use Rattle.logic_core.proofs.lc_burst_at.Reads as lc-burst-at
+use Rattle.logic_core.proofs.lc_render.Reads as lc-render
+use Rattle.claim_captures.specs.Words.{Memory, Ref, Places, lending, at, Answered, Agree, Usize, F64}
+
+-- ---- the record's numbers: unit, capacity, len, whether there is a mark (not 0), the mark
+abbrev pub lenIn : List ℕ → ℕ
+lenIn numbers = getD numbers 2 0
+
+abbrev pub markIn : List ℕ → Option ℕ
+markIn numbers = cond (eqb (getD numbers 3 0) 0) none (some (getD numbers 4 0))
+
+-- a number behind a pointer
+abbrev pub One : Type 0
+One = RefT ℕ
+
+-- ---- lc_summary: the code, and the three numbers behind `node`
+pub record Summed : Type 0 where
+  pub code : ℕ
+  pub node : List ℕ
+
+abbrev pub MaySummary : List ℕ → Memory → ℕ → ℕ → List ℕ → Summed → Type 0
+MaySummary numbers m a b node v =
+    (κs : Lfts 4) × (n : Ref) × (p : Places) × (o : Ref)
+    × lc-summary.Post κs (lending (at-last n numbers) p m (a, (b, (at-last o node, tt)))) (v .code) (lending (at-last n numbers) p m (a, (b, (at-last o (v .node), tt))))
+
+-- 0 with first, last and toggles; 100 where the range is empty
+abbrev pub summed : Option Node → List ℕ → Summed
+summed none old = record { code = 100; node = old }
+summed (some n) old = record { code = 0; node = n .first ∷ n .last ∷ n .toggles ∷ [] }
+
+-- ---- lc_next_change and lc_prev_change: the code, and the numbers behind `place` and `read`
+pub record Found : Type 0 where
+  pub code : ℕ
+  pub place : ℕ
+  pub read : ℕ
+
+abbrev pub MayNext : List ℕ → Memory → ℕ → ℕ → ℕ → ℕ → Found → Type 0
+MayNext numbers m mask from place read v =
+    (κs : Lfts 5) × (n : Ref) × (p : Places) × (o r : One)
+    × lc-next-change.Post κs (lending (at-last n numbers) p m (mask, (from, (at-last o place, (at-last r read, tt))))) (v .code) (lending (at-last n numbers) p m (mask, (from, (at-last o (v .place), (at-last r (v .read), tt)))))
+
+abbrev pub MayPrevious : List ℕ → Memory → ℕ → ℕ → ℕ → ℕ → Found → Type 0
+MayPrevious numbers m mask from place read v =
+    (κs : Lfts 5) × (n : Ref) × (p : Places) × (o r : One)
+    × lc-prev-change.Post κs (lending (at-last n numbers) p m (mask, (from, (at-last o place, (at-last r read, tt))))) (v .code) (lending (at-last n numbers) p m (mask, (from, (at-last o (v .place), (at-last r (v .read), tt)))))
+
+-- 0 with the place; 100 where there is none; the nodes read either way
+abbrev pub found : Option ℕ → ℕ → ℕ → Found
+found none steps old = record { code = 100; place = old; read = steps }
+found (some i) steps old = record { code = 0; place = i; read = steps }
+
+-- ---- lc_burst_at: the code, the four numbers behind `ends`, and the one behind `read`
+pub record Bursted : Type 0 where
+  pub code : ℕ
+  pub ends : List ℕ
+  pub read : ℕ
+
+abbrev pub MayBurst : List ℕ → Memory → ℕ → ℕ → ℕ → ℕ → ℕ → List ℕ → ℕ → Bursted → Type 0
+MayBurst numbers m mask sample gap tolerance budget ends read v =
+    (κs : Lfts 5) × (n : Ref) × (p : Places) × (o : Ref) × (r : One)
+    × lc-burst-at.Post κs (lending (at-last n numbers) p m (mask, (sample, (gap, (tolerance, (budget, (at-last o ends, (at-last r read, tt)))))))) (v .code)
+    (lending (at-last n numbers) p m (mask, (sample, (gap, (tolerance, (budget, (at-last o (v .ends), (at-last r (v .read), tt))))))))
+
+-- 0 with first, last, the jumps at the end and at the start; 100 where there is none; the nodes read either way
+abbrev pub bursted : Option Burst → ℕ → List ℕ → Bursted
+bursted none steps old = record { code = 100; ends = old; read = steps }
+bursted (some b) steps old = record { code = 0; ends = b .first ∷ b .last ∷ b .jumps-end ∷ b .jumps-start ∷ []; read = steps }
+
+-- ---- lc_render: the code, and output
+pub record Drawn : Type 0 where
+  pub code : ℕ
+  pub output : List ℕ
+
+abbrev pub viewOf : Float → Float → View
+viewOf start spp = record { start = start; spp = spp }
+
+abbrev pub MayRender : List ℕ → Memory → Float → Float → ℕ → List ℕ → Drawn → Type 0
+MayRender numbers m start spp width output v =
+    (κs : Lfts 4) × (n : Ref) × (p : Places) × (o : Ref)
+    × lc-render.Post κs (lending (at-last n numbers) p m (start, (spp, (width, (at-last o output, tt))))) (v .code) (lending (at-last n numbers) p m (start, (spp, (width, (at-last o (v .output), tt)))))
+
+-- 0 with the pixels, and after them what output held; a refusal's number, and output as it was
+abbrev pub drawn : ℕ → ℕ → List ℕ → List ℕ → Drawn
+drawn zero width pixels old = record { code = 0; output = pixels ++ drop (2 * width) old }
+drawn (suc n) width pixels old = record { code = suc n; output = old }
+
+-- ---- "Each of these answers .. is 01's for its run"
+pub record Answers (run : List ℕ) (numbers : List ℕ) (m : Memory) : Type 0 where
+  pub summary-is : (a b : ℕ) (node : List ℕ) → length node ≡ 3 → Answered (MaySummary numbers m a b node) (λ v. v) (summed (summary (at run) (length run) a b) node)
+  pub next-is : (mask from place read : ℕ)
+      → Answered (MayNext numbers m mask from place read) (λ v. v) (found (nextSearch (at run) (length run) mask from .found) (nextSearch (at run) (length run) mask from .steps) place)
+  pub previous-is : (mask from place read : ℕ)
+      → Answered (MayPrevious numbers m mask from place read) (λ v. v) (found (previousSearch (at run) (length run) mask from .found) (previousSearch (at run) (length run) mask from .steps) place)
+  pub burst-is : (mask sample gap tolerance budget : ℕ) (ends : List ℕ) → length ends ≡ 4 → (read : ℕ)
+      → Answered (MayBurst numbers m mask sample gap tolerance budget ends read) (λ v. v)
+      (bursted (burstSearch (at run) (length run) mask sample gap tolerance budget .found) (burstSearch (at run) (length run) mask sample gap tolerance budget .steps) ends)
+  pub render-is : (start spp : Float) (width : ℕ) (output : List ℕ)
+      → Answered (MayRender numbers m start spp width output) (λ v. v)
+      (drawn (firstOf (viewRows (viewOf start spp) width (length output))) width (render (at run) (length run) (viewOf start spp) width) output)
+
+-- ---- looking alike
+-- "Cutting down takes first, last and toggles AND that mask"
+abbrev pub cutNode : ℕ → Summed → Summed
+cutNode v t = record { code = t .code; node = cutPixels v (t .node) }
+
+abbrev pub cutDrawn : ℕ → Drawn → Drawn
+cutDrawn v t = record { code = t .code; output = cutPixels v (t .output) }
+
+-- "the two recordings look alike to a viewer of chosen lines", v: the same codes and the same numbers behind the out pointers, asked with equal arguments, what stands
+-- behind the pointers before included; all arguments range over what their types hold
+pub record LookAlike (v : ℕ) (n₁ : List ℕ) (m₁ : Memory) (n₂ : List ℕ) (m₂ : Memory) : Type 0 where
+  -- "the same length, the same mark,"
+  pub lens : lenIn n₁ ≡ lenIn n₂
+  pub marks : markIn n₁ ≡ markIn n₂
+  -- "the same summaries and pixels cut down to those lines,"
+  pub summaries : (a b : ℕ) → Usize a → Usize b → (node : List ℕ) → length node ≡ 3 → Agree (MaySummary n₁ m₁ a b node) (MaySummary n₂ m₂ a b node) (cutNode v)
+  pub pixels : (start spp : Float) (width : ℕ) → F64 start → F64 spp → Usize width → (output : List ℕ) → Usize (length output)
+      → Agree (MayRender n₁ m₁ start spp width output) (MayRender n₂ m₂ start spp width output) (cutDrawn v)
+  -- "and the same next, previous and burst answers, jumps included, for every mask within them"; each with the nodes read (02, CR 3)
+  pub nexts : (mask from : ℕ) → Word mask → Within mask v → Usize from → (place read : ℕ) → Agree (MayNext n₁ m₁ mask from place read) (MayNext n₂ m₂ mask from place read) (λ x. x)
+  pub previouses : (mask from : ℕ) → Word mask → Within mask v → Usize from → (place read : ℕ) → Agree (MayPrevious n₁ m₁ mask from place read) (MayPrevious n₂ m₂ mask from place read) (λ x. x)
+  pub bursts : (mask sample gap tolerance budget : ℕ) → Word mask → Within mask v → Usize sample → Usize gap → Usize tolerance → Usize budget
+      → (ends : List ℕ) → length ends ≡ 4 → (read : ℕ)
+      → Agree (MayBurst n₁ m₁ mask sample gap tolerance budget ends read) (MayBurst n₂ m₂ mask sample gap tolerance budget ends read) (λ x. x)
