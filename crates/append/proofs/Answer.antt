@@ -18,7 +18,7 @@ use Rattle.store.proofs.Fits.{sound-room}
 use Rattle.store.proofs.Stored.{stored-none}
 use Rattle.capture.specs.declared.Capture.{Capture}
 use Rattle.capture.specs.Record.{storeOf, lentOf}
-use Rattle.capture.proofs.Answer.{rows-refuse, rows-decide}
+use Rattle.capture.proofs.Answer.{refused-is, given-is, rows-refuse, rows-decide}
 use Rattle.append.specs.declared.Appended.the-variants.{Refused, Done}
 use Rattle.append.specs.Append.{grown, refusalOf, takenOf, Appends}
 
@@ -59,6 +59,7 @@ module _ (c : Capture) (b s : List ℕ) (lv : ℕ → List ℕ) where
 
   pub appends-refused : (k : ℕ) → k ≡ refusalOf c s lv b → (k ≡ 0 → ⊥) → Appends c b s lv (Refused k c) s lv
   appends-refused k e z = record {
+    answer-is = refused-is _ e z;
     number-is = e;
     record-is = λ i. record { unitsize = c .unitsize; capacity = c .capacity; len = same i; trigger = c .trigger };
     memory = stored-none (c .unitsize) (c .len) (takenOf c s lv b) b s lv none;
@@ -73,6 +74,7 @@ module _ (c : Capture) (b s : List ℕ) (lv : ℕ → List ℕ) where
   pub appends-done : 0 ≡ refusalOf c s lv b → (s′ : List ℕ) (lv′ : ℕ → List ℕ) → Stored (c .unitsize) (c .len) (sampleCount (c .unitsize) b) b s lv s′ lv′
       → Appends c b s lv (Done (grown c (sampleCount (c .unitsize) b))) s′ lv′
   appends-done e s′ lv′ d = record {
+    answer-is = given-is _ e refl (ap (grown c) (sym (taken-all (sym e))));
     number-is = e;
     record-is = ap (grown c) (sym (taken-all (sym e)));
     memory = subst⁻¹ (λ (n : ℕ). Stored (c .unitsize) (c .len) n b s lv s′ lv′) (taken-all (sym e)) d;

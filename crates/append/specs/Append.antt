@@ -6,6 +6,7 @@ use Prim.Native.Nat.{ℕ, _+_}
 use lib.Dec.{eqb}
 use Rattle.rules.specs.Sample.{sampleCount}
 use Rattle.rules.specs.Refusal.{appendRefusal}
+use Rattle.rules.specs.Answer.{Answer, refused, given, unless}
 use Rattle.store.specs.Stored.{Stored}
 use Rattle.capture.specs.declared.Capture.{Capture}
 use Rattle.capture.specs.Record.{storeOf, lentOf}
@@ -22,6 +23,11 @@ abbrev pub recordOf : Appended → Capture
 recordOf (Refused k c) = c
 recordOf (Done c) = c
 
+-- 01's answer for each of the call's: the record, unless a row refuses
+abbrev pub appendedOf : Appended → Answer Capture
+appendedOf (Refused k c) = refused k
+appendedOf (Done c) = given c
+
 -- the record with n more samples
 abbrev pub grown : Capture → ℕ → Capture
 grown c n = record { unitsize = c .unitsize; capacity = c .capacity; len = c .len + n; trigger = c .trigger }
@@ -36,6 +42,7 @@ takenOf c samples levels bytes = cond (eqb (refusalOf c samples levels bytes) 0)
 
 -- an append of bytes to a capture, over any memory: its answer, and what it leaves
 pub record Appends (c : Capture) (bytes samples : List ℕ) (levels : ℕ → List ℕ) (answer : Appended) (samples′ : List ℕ) (levels′ : ℕ → List ℕ) : Type 0 where
+  pub answer-is : appendedOf answer ≡ unless (refusalOf c samples levels bytes) (grown c (takenOf c samples levels bytes))
   pub number-is : numberOf answer ≡ refusalOf c samples levels bytes
   pub record-is : recordOf answer ≡ grown c (takenOf c samples levels bytes)
   pub memory : Stored (c .unitsize) (c .len) (takenOf c samples levels bytes) bytes samples levels samples′ levels′

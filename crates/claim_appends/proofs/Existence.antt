@@ -12,22 +12,22 @@ use Rattle.capture.specs.declared.Mark.the-variants.{Absent}
 use Rattle.capture.specs.declared.Capture.{Capture}
 use Rattle.append.specs.declared.Appended.{Appended}
 use Rattle.append.specs.declared.Appended.the-variants.{Refused, Done}
-use Rattle.append.specs.Append.{numberOf, recordOf, grown, refusalOf, takenOf}
+use Rattle.append.specs.Append.{appendedOf, numberOf, recordOf, grown, refusalOf, takenOf}
 use Rattle.claim_captures.specs.Words.{Memory, levels}
 use Rattle.claim_captures.proofs.Answers.{anywhere, somewhere, four-levels}
 use Rattle.claim_appends.specs.Claim.{MayAppend, Appending, Existence}
 use Rattle.claim_appends.specs.Claim.Appending.{stop, step}
 
 -- ---- one append
-pub appended-for : (n : ℕ) (c : Capture) → (v : Appended) × (numberOf v ≡ n) × (recordOf v ≡ c)
-appended-for zero c = (Done c, refl, refl)
-appended-for (suc n) c = (Refused (suc n) c, refl, refl)
+pub appended-for : (n : ℕ) (c : Capture) → (v : Appended) × (appendedOf v ≡ unless n c) × (numberOf v ≡ n) × (recordOf v ≡ c)
+appended-for zero c = (Done c, refl, refl, refl)
+appended-for (suc n) c = (Refused (suc n) c, refl, refl, refl)
 
 module _ (c : Capture) (m : Memory) (bytes : List ℕ) where
   abbrev n : ℕ
   n = takenOf c (m .samples) (levels m) bytes
 
-  told : (v : Appended) × (numberOf v ≡ refusalOf c (m .samples) (levels m) bytes) × (recordOf v ≡ grown c n)
+  told : (v : Appended) × (appendedOf v ≡ unless (refusalOf c (m .samples) (levels m) bytes) (grown c n)) × (numberOf v ≡ refusalOf c (m .samples) (levels m) bytes) × (recordOf v ≡ grown c n)
   told = appended-for (refusalOf c (m .samples) (levels m) bytes) (grown c n)
 
   abbrev samples : List ℕ
@@ -44,7 +44,7 @@ module _ (c : Capture) (m : Memory) (bytes : List ℕ) where
     ([], ([], ([], ([], ([], ([], tt)))))),
     somewhere,
     anywhere,
-    record { number-is = told .1; record-is = told .2; memory = record { samples-are = refl; levels-are = four-levels level } },
+    record { answer-is = told .1; number-is = told .2; record-is = told .3; memory = record { samples-are = refl; levels-are = four-levels level } },
   )
 
 -- ---- a list

@@ -11,7 +11,7 @@ use Rattle.rules.specs.Refusal.{Store, fresh, storeRefusal}
 use Rattle.capture.specs.declared.Capture.{Capture}
 use Rattle.capture.specs.Record.{storeOf, lentOf}
 use Rattle.append.specs.declared.Appended.{Appended}
-use Rattle.append.specs.Append.{numberOf, recordOf, grown, refusalOf, takenOf}
+use Rattle.append.specs.Append.{appendedOf, numberOf, recordOf, grown, refusalOf, takenOf}
 use Rattle.codes.specs.Code.{plain, Out}
 use Rattle.codes.specs.Record.{captureIn, storeNumbers}
 use Rattle.codes.proofs.ReadBack.{store-back, len-back}
@@ -57,7 +57,7 @@ module _ (numbers : List ℕ) (size : length numbers ≡ 5) (m : Memory) (bytes 
   out = may .4
 
   -- the answer of the call under it
-  told : (v : Appended) × (numberOf v ≡ refusalOf c (m .samples) (levels m) bytes) × (recordOf v ≡ captureIn numbers′)
+  told : (v : Appended) × (appendedOf v ≡ unless (refusalOf c (m .samples) (levels m) bytes) (captureIn numbers′)) × (numberOf v ≡ refusalOf c (m .samples) (levels m) bytes) × (recordOf v ≡ captureIn numbers′)
   told = appended-for (refusalOf c (m .samples) (levels m) bytes) (captureIn numbers′)
 
   reads : captureIn numbers′ ≡ grown c (takenOf c (m .samples) (levels m) bytes)
@@ -67,10 +67,10 @@ module _ (numbers : List ℕ) (size : length numbers ≡ 5) (m : Memory) (bytes 
   appended-size = ap length (out .numbers-are) ∙ length-set numbers 2 (c .len + takenOf c (m .samples) (levels m) bytes) ∙ size
 
   may-append : calls.MayAppend c m bytes (told .0) m′
-  may-append = (([], ([], ([], ([], ([], ([], tt)))))), somewhere, anywhere, record { number-is = told .1; record-is = told .2 ∙ reads; memory = out .memory })
+  may-append = (([], ([], ([], ([], ([], ([], tt)))))), somewhere, anywhere, record { answer-is = told .1 ∙ ap (unless (refusalOf c (m .samples) (levels m) bytes)) reads; number-is = told .2; record-is = told .3 ∙ reads; memory = out .memory })
 
   code-told : code ≡ numberOf (told .0)
-  code-told = out .code-is ∙ sym (told .1)
+  code-told = out .code-is ∙ sym (told .2)
 
 -- ---- a list
 record Told (numbers : List ℕ) (m : Memory) (appends : List (List ℕ)) (codes numbers″ : List ℕ) (m″ : Memory) : Type 0 where
@@ -85,7 +85,7 @@ all-told numbers size {m = m} (step {bytes = bytes} {code = code} {numbers′ = 
     let more = all-told numbers′ (appended-size numbers size m bytes code numbers′ m′ may) rest in
     record {
       said = numberOf (v .0) ∷ more .said;
-      appended = called-step (may-append numbers size m bytes code numbers′ m′ may) (subst⁻¹ (λ (x : Capture). calls.Appending x m′ appends (more .said) (captureIn numbers″) m″) (v .2) (more .appended));
+      appended = called-step (may-append numbers size m bytes code numbers′ m′ may) (subst⁻¹ (λ (x : Capture). calls.Appending x m′ appends (more .said) (captureIn numbers″) m″) (v .3) (more .appended));
       codes-are = ap₂ (λ (n : ℕ) (ns : List ℕ). n ∷ ns) (code-told numbers size m bytes code numbers′ m′ may) (more .codes-are);
     }
 

@@ -9,6 +9,7 @@ use lib.Seq.{sets}
 use Rattle.rules.specs.Node.{Node}
 use Rattle.rules.specs.Burst.{Burst}
 use Rattle.rules.specs.Refusal.{Store, Lent}
+use Rattle.rules.specs.Answer.{Answer, seen}
 use Rattle.capture.specs.declared.Mark.{Mark}
 use Rattle.capture.specs.declared.Mark.the-variants.{Absent, At}
 use Rattle.capture.specs.declared.Capture.{Capture}
@@ -27,6 +28,10 @@ storeNumbers st old = sets old 0 (st .unit ∷ st .capacity ∷ st .len ∷ mark
 -- the count of stored samples
 abbrev pub lenNumber : ℕ → List ℕ → List ℕ
 lenNumber len old = sets old 2 (len ∷ [])
+
+-- what append writes of the record, unless it refuses
+abbrev pub grownLen : Answer Capture → Answer ℕ
+grownLen a = seen (λ c. c .len) a
 
 -- bytes of samples, and numbers of the levels 1 to 4
 abbrev pub lentNumbers : Lent → List ℕ → List ℕ

@@ -17,14 +17,14 @@ ghost use mathlib.Core.Path.{_≡_};
 ghost use mathlib.Core.Bool.{Bool};
 ghost use Rattle.capture.specs.Record.{storeOf};
 ghost use Rattle.capture.specs.Calls.{neededOf, startedOf, gotOf, copiedOf};
-ghost use Rattle.append.specs.Append.{numberOf, recordOf};
+ghost use Rattle.append.specs.Append.{appendedOf};
 ghost use Rattle.summary.specs.Summary.{summedOf};
 ghost use Rattle.whole.specs.Wrong.{checkedOf};
 ghost use Rattle.search.specs.Answer.{foundOf};
 ghost use Rattle.burst.specs.Answer.{burstAs};
 ghost use Rattle.render.specs.Render.{drawnOf};
-ghost use Rattle.codes.specs.Record.{captureIn, storeNumbers, lenNumber, lentNumbers, nodeNumbers, burstNumbers, number, flagNumber, placeLevel, placeNumber};
-ghost use Rattle.codes.specs.Code.{wrote, plain, perhaps, fault, Out};
+ghost use Rattle.codes.specs.Record.{captureIn, storeNumbers, lenNumber, grownLen, lentNumbers, nodeNumbers, burstNumbers, number, flagNumber, placeLevel, placeNumber};
+ghost use Rattle.codes.specs.Code.{plain, perhaps, fault, Out};
 ghost use Rattle.codes.specs.Sought.{Sought};
 
 pub const NONE: u32 = 100;
@@ -111,15 +111,12 @@ pub fn started_code(answer: Started, numbers: &mut [usize; 5]) -> u32
     }
 }
 
-// An append's record differs from the one that it was given in len only.
+// An append's record differs from the one that it was given in len only; a refusal stores nothing.
 pub fn appended_code(answer: Appended, numbers: &mut [usize; 5]) -> u32
-    ensures { λ r. ⌜ Out lenNumber (wrote (numberOf answer) (recordOf answer .len)) r (now (numbers .entry)) (now (numbers .exit)) ⌝ }
+    ensures { λ r. ⌜ Out lenNumber (plain (grownLen (appendedOf answer))) r (now (numbers .entry)) (now (numbers .exit)) ⌝ }
 {
     match answer {
-        Appended::Refused(n, kept) => {
-            numbers[2] = kept.len;
-            code(n)
-        }
+        Appended::Refused(n, _) => code(n),
         Appended::Done(grown) => {
             numbers[2] = grown.len;
             0

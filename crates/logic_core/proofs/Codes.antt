@@ -1,9 +1,9 @@
 -- From a call's answer to what the boundary says.
-use mathlib.Core.Path.{_≡_, refl, ap, subst, _∙_}
+use mathlib.Core.Path.{_≡_, refl, sym, ap, subst, _∙_}
 use mathlib.Core.Bool.{Bool, cond}
 use mathlib.Core.List.{List}
 use Prim.Native.Nat.{ℕ, zero, suc, _+_}
-use native.Mathlib.Nat.{add-zero}
+use native.Mathlib.Nat.{add-zero, suc-ne-zero}
 use borrow.Author.Tests.{ne-eqb}
 use lib.Ieee.{Float}
 use lib.ListN.{length, getD, set}
@@ -21,10 +21,12 @@ use Rattle.summary.specs.Summary.{summed}
 use Rattle.render.specs.declared.Drawn.{Drawn}
 use Rattle.render.specs.Render.{drawnOf, drawn, Draws}
 use Rattle.append.specs.declared.Appended.{Appended}
-use Rattle.append.specs.Append.{numberOf, recordOf, refusalOf, takenOf, Appends}
-use Rattle.codes.specs.Code.{Reply, wrote, plain, Out}
+use Rattle.append.specs.Append.{appendedOf, refusalOf, takenOf, Appends}
+use Rattle.append.specs.Append as append
+use Rattle.append.proofs.Answer.{taken-none}
+use Rattle.codes.specs.Code.{Reply, plain, behind, Out}
 use Rattle.codes.specs.Sought.{Sought}
-use Rattle.codes.specs.Record.{captureIn, lenNumber, number}
+use Rattle.codes.specs.Record.{captureIn, lenNumber, grownLen, number}
 use Rattle.logic_core.specs.Asked.{viewOf, copyRefusal, copiedFor, drawRefusal, CopiesOut, AppendsOut, DrawsOut}
 
 -- A call's answer r means `answerOf r`, and another function tells it.
@@ -71,24 +73,37 @@ module _ (bytes : List ℕ) (levels : ℕ → List ℕ) (start spp : Float) (wid
   })
 
 module _ (bytes samples : List ℕ) (levels : ℕ → List ℕ) (samples′ : List ℕ) (levels′ : ℕ → List ℕ) where
-  pub appends-told : {c c′ : Capture} (r : Appended) (code : ℕ) (numbers numbers′ : List ℕ)
-      → c ≡ c′ → Appends c bytes samples levels r samples′ levels′
-      → Out lenNumber (wrote (numberOf r) (recordOf r .len)) code numbers numbers′
-      → AppendsOut c′ bytes samples levels code numbers numbers′ samples′ levels′
-  appends-told {c} {c′} r code numbers numbers′ d e o = record {
-    code-is = o .code-is ∙ done .number-is;
-    numbers-are = o .value-is ∙ ap (λ (x : Capture). lenNumber (x .len) numbers) (done .record-is);
+  -- where a row refuses, len stays, and so it may be left unwritten
+  len-stays : (numbers : List ℕ) → (refusalOf (captureIn numbers) samples levels bytes ≡ 0 → ⊥) → lenNumber (captureIn numbers .len + takenOf (captureIn numbers) samples levels bytes) numbers ≡ numbers
+  len-stays numbers h =
+      ap (λ (k : ℕ). set numbers 2 (getD numbers 2 0 + k)) (taken-none (captureIn numbers) bytes samples levels h)
+      ∙ ap (λ (k : ℕ). set numbers 2 k) (add-zero (getD numbers 2 0))
+      ∙ set-getD numbers 2 0
+
+  pub appends-told : {c : Capture} (r : Appended) (code : ℕ) (numbers numbers′ : List ℕ)
+      → c ≡ captureIn numbers → Appends c bytes samples levels r samples′ levels′
+      → Out lenNumber (plain (grownLen (appendedOf r))) code numbers numbers′
+      → AppendsOut (captureIn numbers) bytes samples levels code numbers numbers′ samples′ levels′
+  appends-told {c} r code numbers numbers′ d e o = record {
+    code-is = o .code-is ∙ ap (λ (x : Answer Capture). plain (grownLen x) .code) (done .answer-is) ∙ by-code (refusalOf (captureIn numbers) samples levels bytes) _;
+    numbers-are = o .value-is ∙ ap (λ (x : Answer Capture). behind lenNumber (plain (grownLen x) .written) numbers) (done .answer-is) ∙ by-len (refusalOf (captureIn numbers) samples levels bytes) refl;
     memory = done .memory;
   }
     where
-      done : Appends c′ bytes samples levels r samples′ levels′
+      done : Appends (captureIn numbers) bytes samples levels r samples′ levels′
       done = subst (λ (x : Capture). Appends x bytes samples levels r samples′ levels′) d e
+
+      by-code : (n : ℕ) (a : Capture) → plain (grownLen (unless n a)) .code ≡ n
+      by-code zero a = refl
+      by-code (suc n) a = refl
+
+      after : Capture
+      after = append.grown (captureIn numbers) (takenOf (captureIn numbers) samples levels bytes)
+
+      by-len : (n : ℕ) → n ≡ refusalOf (captureIn numbers) samples levels bytes → behind lenNumber (plain (grownLen (unless n after)) .written) numbers ≡ lenNumber (captureIn numbers .len + takenOf (captureIn numbers) samples levels bytes) numbers
+      by-len zero q = refl
+      by-len (suc n) q = sym (len-stays numbers (λ z. suc-ne-zero n (q ∙ z)))
 
   -- a refused append leaves the record's numbers; that memory stays is append's own theorem
   pub append-refused : (code : ℕ) (numbers numbers′ : List ℕ) → AppendsOut (captureIn numbers) bytes samples levels code numbers numbers′ samples′ levels′ → (code ≡ 0 → ⊥) → numbers′ ≡ numbers
-  unfolding takenOf
-  append-refused code numbers numbers′ e h =
-      e .numbers-are
-      ∙ ap (λ (b : Bool). set numbers 2 (getD numbers 2 0 + cond b (sampleCount (getD numbers 0 0) bytes) 0)) (ne-eqb (refusalOf (captureIn numbers) samples levels bytes) 0 (λ z. h (e .code-is ∙ z)))
-      ∙ ap (λ (k : ℕ). set numbers 2 k) (add-zero (getD numbers 2 0))
-      ∙ set-getD numbers 2 0
+  append-refused code numbers numbers′ e h = e .numbers-are ∙ len-stays numbers (λ z. h (e .code-is ∙ z))

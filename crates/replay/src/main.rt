@@ -1,7 +1,6 @@
 // The recorded answers of the Rust, asked of this library. Its arguments are the lists, files of data/, whose README.md
 // defines their format. For each list it writes the list's name, how many lines it compared and how many differed,
 // and one line more for the first that did.
-use replay_text::numbers::least;
 use replay_list::Level1;
 use replay_list::Level2;
 use replay_list::Level3;
@@ -12,6 +11,7 @@ use replay_list::Ring;
 use replay_list::Samples;
 use replay_list::replay_list;
 use replay_list::state::State;
+use replay_text::numbers::least;
 
 fn write(bytes: &[u8]) {
     io::write_all(1, bytes);

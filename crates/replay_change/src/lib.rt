@@ -1,19 +1,19 @@
 // The lines that write samples or levels: a put, and an append or a push, piece by piece.
 use append::Appended;
+use feeder::Feeder;
+use feeder_push::Pushed;
+use lines::Mask;
 use replay_feed::Feed;
 use replay_feed::Filled;
 use replay_feed::feed_of;
 use replay_feed::fill;
-use feeder::Feeder;
-use feeder_push::Pushed;
-use lines::Mask;
+use replay_start::Change;
+use replay_start::leaves;
 use replay_text::answers::Answer;
 use replay_text::answers::one;
 use replay_text::answers::refused;
 use replay_text::numbers::mask_of;
 use replay_text::operations::Operation;
-use replay_start::Change;
-use replay_start::leaves;
 ghost use mathlib.Core.Path.{_≡_};
 
 // A number goes into a level's memory, where it is for this level.

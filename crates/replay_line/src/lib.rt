@@ -1,8 +1,6 @@
 // One line of a list, over the parts of memory that are lent.
 use feeder::Feeder;
 use lines::Mask;
-use replay_text::numbers::least;
-use replay_text::operations::Operation;
 use replay_ask::ask;
 use replay_change::write;
 use replay_change::writes;
@@ -10,6 +8,8 @@ use replay_start::Change;
 use replay_start::begin;
 use replay_start::begins;
 use replay_start::leaves;
+use replay_text::numbers::least;
+use replay_text::operations::Operation;
 
 // The lengths that the lent slices have.
 pub struct Lent {

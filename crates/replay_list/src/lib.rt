@@ -2,11 +2,11 @@
 pub mod state;
 
 use lines::Mask;
+use replay_line::step;
 use replay_text::numbers::least;
 use replay_text::operations::read_operation;
 use replay_text::text::line_after;
 use replay_text::text::line_end;
-use replay_line::step;
 use state::State;
 
 // Memory for every list of data/.

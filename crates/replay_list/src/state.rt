@@ -3,11 +3,11 @@ use capture::Capture;
 use capture::Mark;
 use feeder::Feeder;
 use lines::Mask;
-use replay_text::answers::agrees;
-use replay_text::operations::Operation;
 use replay_line::Lent;
 use replay_start::Change;
 use replay_start::plain;
+use replay_text::answers::agrees;
+use replay_text::operations::Operation;
 
 // The record, what is lent, and the counts.
 pub struct State {
