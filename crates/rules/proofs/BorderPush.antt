@@ -223,6 +223,7 @@ pub limited :
     × (replyOf unarmed 4 3 ≡ going-on)
     × (replyOf unarmed 4 4 ≡ complete)
     × (replyOf unarmed 4 5 ≡ going-on)
+    × (replyOf unarmed 1 1 ≡ complete)
     × (replyOf rises 4 4 ≡ going-on)
     × (replyOf rises 0 0 ≡ going-on)
     -- a run of six: more room, as much, less
@@ -230,7 +231,7 @@ pub limited :
     × (push (limits 6) four (1 ∷ 2 ∷ 3 ∷ []) ≡ left complete (fired-within 6 6) (over (91 ∷ 92 ∷ 90 ∷ 1 ∷ 2 ∷ 3 ∷ [])) four)
     × (push (limits 5) four (1 ∷ 2 ∷ 3 ∷ []) ≡ left complete (fired-within 5 5) (over (91 ∷ 92 ∷ 90 ∷ 1 ∷ 2 ∷ [])) four)
 unfolding levelShort sampleOf listFrom matches fires firstFire lastOf placeAfter ringBytes plan leftOf
-limited = (refl, refl, refl, refl, refl, refl, refl, refl, refl, refl, refl, refl, refl, refl, refl)
+limited = (refl, refl, refl, refl, refl, refl, refl, refl, refl, refl, refl, refl, refl, refl, refl, refl)
 
 -- records that no list makes: pre is above limit; samples are stored, and there is a mark, while it waits; two samples are kept, and the ring place is 0
 abbrev waitsBehind : ℕ → Option ℕ → ℕ → Recorder

@@ -12,7 +12,7 @@ use Rattle.rules.specs.Node.{Node, Words, togglesOf, nodeOf, levelNode, 
 use Rattle.rules.specs.Search.{seek}
 use Rattle.rules.specs.Refusal.{Store, Lent, levelShort}
 use Rattle.rules.specs.Answer.{Answer, refused, given, unrefused}
-use Rattle.rules.specs.Reading.{getAnswer, copiedTo, copyCount, samplesAnswer, partOf, rawAnswer}
+use Rattle.rules.specs.Reading.{getAnswer, copiedTo, copyCount, samplesAnswer, partOf, rawAnswer, rawFrom, rawTo}
 use Rattle.rules.specs.Wrong.{sameNode, NodeAt, firstWrong, wholeAnswer}
 use Rattle.rules.proofs.BorderRows.{store, plenty, no-memory}
 
@@ -113,6 +113,25 @@ pub raw-chunks : (memory : List ℕ)
     × (rawAnswer (store 2 2097152 1048577 none) plenty memory 1 ≡ partOf 2 memory 1048576 1048577)
 unfolding levelShort
 raw-chunks memory = (refl, refl, refl, refl, refl)
+
+-- where the part lies: in either unit, of a full chunk, one sample behind it, past the end, of no samples, and where 1 or 2 applies
+pub raw-places :
+    (rawFrom (store 1 2097152 1048577 none) plenty 0 ≡ 0)
+    × (rawTo (store 1 2097152 1048577 none) plenty 0 ≡ 1048576)
+    × (rawFrom (store 1 2097152 1048577 none) plenty 1 ≡ 1048576)
+    × (rawTo (store 1 2097152 1048577 none) plenty 1 ≡ 1048577)
+    × (rawFrom (store 2 2097152 1048577 none) plenty 1 ≡ 2097152)
+    × (rawTo (store 2 2097152 1048577 none) plenty 1 ≡ 2097154)
+    × (rawFrom (store 1 2097152 1048576 none) plenty 1 ≡ 0)
+    × (rawTo (store 1 2097152 1048576 none) plenty 1 ≡ 0)
+    × (rawFrom five plenty 1 ≡ 0)
+    × (rawTo five plenty 1 ≡ 0)
+    × (rawTo (store 1 8 0 none) plenty 0 ≡ 0)
+    × (rawFrom (store 1 2097152 1048577 none) no-memory 1 ≡ 0)
+    × (rawTo five no-memory 0 ≡ 0)
+    × (rawTo wrong plenty 0 ≡ 0)
+unfolding levelShort
+raw-places = (refl, refl, refl, refl, refl, refl, refl, refl, refl, refl, refl, refl, refl, refl)
 
 pub chunk-ends :
     (chunkEnd 5 0 ≡ 5)

@@ -10,7 +10,7 @@ use lib.Ieee.{Float, nan, inf, fin, binary64, round, ofBits, mul, ofInt, lt, isN
 use Rattle.rules.specs.Floor.{floorOf, nearestOf}
 use Rattle.rules.specs.Pretrigger.{Pretrigger, fraction, seconds, nought, one, mostFraction, times, Pre, preFor}
 use Rattle.rules.specs.Trigger.{Term, high}
-use Rattle.rules.specs.Selection.{Settings}
+use Rattle.rules.specs.Selection.{Settings, preOf}
 use Rattle.rules.specs.Refusal.{Lent, fresh, levelShort, lineWrong, startRefusal}
 use Rattle.rules.proofs.BorderRows.{store, lent, plenty, no-memory}
 
@@ -168,3 +168,10 @@ pub seconds-kept :
     × (atRate 2 33554433 one ≡ keeps 33554432 true)
 unfolding nearestOf times ofBits mul ofInt lt
 seconds-kept = (refl, refl, refl, refl, refl, refl, refl, refl, refl, refl, refl, refl, refl)
+
+-- the cap is by the unit that the channels mean
+pub kept-unit :
+    (preOf (settings 8 9 0 [] (seconds one) 67108864) ≡ 67108864)
+    × (preOf (settings 9 5 0 [] (seconds one) 33554433) ≡ 33554432)
+unfolding nearestOf times mul ofInt lt
+kept-unit = (refl, refl)
