@@ -182,7 +182,7 @@ module _ {c : Capture} {m : Memory} {a b : List ℕ} {v₁ : Appended} {m₁ : M
   first-passed = passed c a (m .samples) (levels m) .0 (not-refused call₁ done₁)
 
   counts : (na * u ≡ length a) × (sampleCount u (a ++ b) ≡ na + nb)
-  counts = counts-add u a b (first-passed .0 .unit-least) whole
+  counts = counts-add u a b (first-passed .0 .unit-size .least) whole
 
   first-record : recordOf v₁ ≡ grown c na
   first-record = equations call₁ .record-is ∙ ap (grown c) (takes-all call₁ done₁)

@@ -32,8 +32,7 @@ memory-is st r h = λ i. sizesAs (record { samples = h .samples i; l1 = h .l1 i;
 pub needs-enough : (channels capacity : ℕ) → needRefusal (fresh channels capacity) ≡ 0 → storeRefusal (fresh channels capacity) (memoryNeed (fresh channels capacity)) ≡ 0
 unfolding levelOf
 needs-enough channels capacity e = none-refused st (memoryNeed st) (record {
-  unit-least = r .unit-least;
-  unit-most = r .unit-most;
+  unit-size = r .unit-size;
   capacity-least = r .capacity-least;
   capacity-most = r .capacity-most;
   len-most = r .len-most;
@@ -120,25 +119,23 @@ module _ (st : Store) (bytes : List ℕ) (levels : ℕ → List ℕ) (start coun
 -- the place i + p of a source
 pub held-at : (unit p k n output i : ℕ) → Source unit p k n output → i < k → Held unit (p + i) n
 held-at unit p k n output i h l = record {
-  low = h .low;
-  high = h .high;
+  unit-size = h .unit-size;
   room = omega (arith, h .bytes (omega arith), mul-le-mul-right {m = p + i + 1} {n = p + k} unit (omega arith));
 }
 
 pub place-small : (unit p k n output i : ℕ) → Source unit p k n output → i < k → p + i < n
-place-small unit p k n output i h l = omega (arith, held-at unit p k n output i h l .room, held-at unit p k n output i h l .low, mul-le-mul-left (p + i) (h .low))
+place-small unit p k n output i h l = omega (arith, held-at unit p k n output i h l .room, h .unit-size .least, mul-le-mul-left (p + i) (h .unit-size .least))
 
 -- places up to len lie in the sample memory
 pub stored : (st : Store) (bytes : List ℕ) (levels : ℕ → List ℕ) → Sound st (lentOf bytes levels) → (p : ℕ) → p ≤ st .len → p * st .unit ≤ length bytes
 stored st bytes levels h p l = omega (arith, h .samples, mul-le-mul-right {m = p} {n = st .capacity} (st .unit) (omega (arith, h .len-most)))
 
 pub held-stored : (st : Store) (bytes : List ℕ) (levels : ℕ → List ℕ) → Sound st (lentOf bytes levels) → (i : ℕ) → i < st .len → Held (st .unit) i (length bytes)
-held-stored st bytes levels h i l = record { low = h .unit-least; high = h .unit-most; room = omega (arith, stored st bytes levels h (i + 1) (omega arith)) }
+held-stored st bytes levels h i l = record { unit-size = h .unit-size; room = omega (arith, stored st bytes levels h (i + 1) (omega arith)) }
 
 pub source-of : (st : Store) (bytes : List ℕ) (levels : ℕ → List ℕ) → Sound st (lentOf bytes levels) → (p count output : ℕ) → copied (st .len) p count ≤ output → Source (st .unit) p (copied (st .len) p count) (length bytes) output
 source-of st bytes levels h p count output l = record {
-  low = h .unit-least;
-  high = h .unit-most;
+  unit-size = h .unit-size;
   bytes = λ some. stored st bytes levels h (p + copied (st .len) p count) (omega arith);
   room = l;
 }

@@ -4,7 +4,7 @@ use mathlib.Core.List.{List, [], _∷_}
 use Prim.Native.Nat.{ℕ, _+_, _-_, _*_, _≤_}
 use lib.ListN.{length, take, drop}
 use denote.Ref.{RefT, now, ptr}
-use Rattle.rules.specs.Sample.{sampleOf}
+use Rattle.rules.specs.Sample.{sampleOf, UnitSize}
 use Rattle.rules.specs.Answer.{Answer, refused, given}
 use Rattle.rules.specs.Refusal.{Store, Lent, firstOf, storeWrong, samplesNeed, levelNeed}
 use Rattle.rules.specs.Reading.{copiedTo, copyCount, samplesAnswer, rawAnswer, rawFrom, rawTo}
@@ -52,8 +52,7 @@ pub record Copies (st : Store) (bytes : List ℕ) (levels : ℕ → List ℕ) (s
 
 -- k samples from place p on lie in n bytes, and have room in an output
 pub record Source (unit p k n output : ℕ) : Type 0 where
-  pub low : 1 ≤ unit
-  pub high : unit ≤ 2
+  pub unit-size : UnitSize unit
   pub bytes : 1 ≤ k → (p + k) * unit ≤ n
   pub room : k ≤ output
 

@@ -4,6 +4,7 @@ use mathlib.Core.List.{List}
 use mathlib.Core.Option.{Option, none, some}
 use Prim.Native.Nat.{ℕ, _≤_}
 use lib.ListN.{length}
+use Rattle.rules.specs.Sample.{UnitSize}
 use Rattle.rules.specs.Refusal.{Store, Lent, mostSamples, samplesNeed, levelNeed}
 use Rattle.node.specs.Memory.{levelOf}
 use Rattle.capture.specs.declared.Mark.{Mark}
@@ -28,7 +29,7 @@ lentOf samples levels = record { samples = length samples; level = λ l. length 
 
 -- the needs of memory can be worked out
 pub record Small (c : Capture) : Type 0 where
-  pub unit : c .unitsize ≤ 2
+  pub unit-size : UnitSize (c .unitsize)
   pub capacity : c .capacity ≤ mostSamples
 
 -- the memory that a store needs

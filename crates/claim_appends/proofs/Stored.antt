@@ -111,8 +111,7 @@ module _ (u capacity : ℕ) where
 
     still : c .len + more ≤ c .capacity → storeRefusal (store-of (c .len + more)) (lentOf (m′ .samples) (levels m′)) ≡ 0
     still h = none-refused (store-of (c .len + more)) (lentOf (m′ .samples) (levels m′)) (record {
-      unit-least = omega (arith, before .unit-least, unit-is);
-      unit-most = omega (arith, before .unit-most, unit-is);
+      unit-size = record { least = omega (arith, before .unit-size, unit-is); most = omega (arith, before .unit-size, unit-is) };
       capacity-least = omega (arith, before .capacity-least, capacity-is);
       capacity-most = omega (arith, before .capacity-most, capacity-is);
       len-most = omega (arith, capacity-is);

@@ -30,8 +30,7 @@ equations f m bytes v m′ call = call .4
 -- bounds of a store hold of memory of the same lengths
 sound-lent : (st : Store) (a b : Lent) → Sound st a → a .samples ≡ b .samples → ((l : ℕ) → 1 ≤ l → l ≤ topLevel → a .level l ≡ b .level l) → Sound st b
 sound-lent st a b h e d = record {
-  unit-least = h .unit-least;
-  unit-most = h .unit-most;
+  unit-size = h .unit-size;
   capacity-least = h .capacity-least;
   capacity-most = h .capacity-most;
   len-most = h .len-most;

@@ -90,12 +90,12 @@ module _ (channels capacity limit : ℕ) (terms : Terms) (wish : Pretrigger) (ra
       pub workable : Workable (wishOf wish) limit rate u
       workable =
           let l = ltb-false capacity limit (passed .1 .1 .1 .0) in
-          record { limit-most = omega (arith, l, sound .capacity-most); number = passed .1 .1 .1 .1 .1 .0; unit-least = sound .unit-least }
+          record { limit-most = omega (arith, l, sound .capacity-most); number = passed .1 .1 .1 .1 .1 .0; unit-least = sound .unit-size .least }
 
       pub pre-fits : (pre : ℕ) → pre < capacity → pre * u < 2 ^ 64
       pre-fits pre h =
           let most : pre ≤ 67108864 = omega (arith, sound .capacity-most) in
-          omega (arith, mul-le-mul most (sound .unit-most))
+          omega (arith, mul-le-mul most (sound .unit-size .most))
 
       module _ (k : rule.Pre) (kept : k ≡ rule.preFor (wishOf wish) limit rate u) where
         by : (b : Bool) → preRow store (k .samples) ring .holds ≡ b → unless (cond b 7 0) (freshOf u capacity limit (armedBy terms) k) ≡ startOf channels capacity limit terms wish rate lent ring

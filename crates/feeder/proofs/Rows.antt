@@ -124,7 +124,7 @@ module _ (r : Recorder) (lent : Lent) (ring : ℕ) {n : ℕ} (told : n ≡ store
         let g = ranged (r .store) (past-1 wrong short n told past .0) in
         let below = pre-below r sound in
         let most : r .pre ≤ 67108864 = omega (arith, g .capacity-most) in
-        omega (arith, mul-le-mul most (g .unit-most))
+        omega (arith, mul-le-mul most (g .unit-size .most))
 
 -- rows 1 and 2 let a recorder pass only within its bounds
 pub recorder-sound : (r : Recorder) (lent : Lent) (ring : ℕ) → recorderRefusal r lent ring ≡ 0 → SoundRecorder r lent ring

@@ -104,7 +104,7 @@ module _ (c : Recorder) (previous : NarrowSample (c .previous)) where
       where
         go : (t : Bool) → eqb (recorderRefusal c lent (length g)) 0 ≡ t
             → Leaves c (cond t (pushBytes c s g b) (record { reply = refused (recorderRefusal c lent (length g)); recorder = c; samples = s; ring = g }))
-        go true e = pushed b (sample-narrow (c .store .unit) b (recorder-sound c lent (length g) (eqb-true (recorderRefusal c lent (length g)) 0 e) .store .unit-most) h)
+        go true e = pushed b (sample-narrow (c .store .unit) b (recorder-sound c lent (length g) (eqb-true (recorderRefusal c lent (length g)) 0 e) .store .unit-size .most) h)
         go false e = record { follows = same; stays = λ n d. refl }
 
     pub push-leaves : (lent : Lent) (b : List ℕ) → Bytes b → Leaves c (leftOf c lent s g b)

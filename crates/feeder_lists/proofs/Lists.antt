@@ -7,7 +7,7 @@ use native.Mathlib.Omega.{arith}
 use lib.ListN.{length}
 use Rattle.rules.specs.Push.{Left}
 use Rattle.rules.specs.Start.{freshRecorder}
-use Rattle.rules.specs.Sample.{samplesOf}
+use Rattle.rules.specs.Sample.{UnitSize, samplesOf}
 use Rattle.rules.specs.Selection.{Settings, ruleOf, Rule, accepted, runOf, markOf, Reply, repliesOf}
 use Rattle.rules.specs.Refusal.{startRefusal, Lent}
 use Rattle.rules.proofs.Selection.{run-limit, mark-in-run}
@@ -133,8 +133,7 @@ list-sound r s g lent e start below pushes = record {
 
     store-sound : Sound (last .recorder .store) lent
     store-sound = record {
-      unit-least = omega (arith, ok .unit, start .store .unit-least);
-      unit-most = omega (arith, ok .unit, start .store .unit-most);
+      unit-size = subst⁻¹ UnitSize (ok .unit) (start .store .unit-size);
       capacity-least = omega (arith, ok .capacity, start .store .capacity-least);
       capacity-most = omega (arith, ok .capacity, start .store .capacity-most);
       len-most = ok .ready .len;

@@ -77,12 +77,11 @@ module _ (f : Feeder) (s : List ℕ) (lv : ℕ → List ℕ) (g b : List ℕ) wh
     all-room = run-in c s lv (length g) (length b) n room 0 0 (omega arith) (omega arith)
 
     pub scan-room : Holds u n (length b)
-    scan-room = record { low = room .sound .store .unit-least; high = room .sound .store .unit-most; room = room .bytes }
+    scan-room = record { unit-size = room .sound .store .unit-size; room = room .bytes }
 
     pub wait-room : WaitRoom c (length g) (length b) n
     wait-room = record {
-      low = room .sound .store .unit-least;
-      high = room .sound .store .unit-most;
+      unit-size = room .sound .store .unit-size;
       place-inside = room .sound .place-inside;
       kept-most = room .sound .kept-most;
       ring = room .sound .ring;

@@ -51,7 +51,7 @@ module _ (c : Recorder) (s : List ℕ) (lv : ℕ → List ℕ) (g b n : ℕ) (h 
 
   -- a sample of the push
   pub held-in : (i : ℕ) → i < n → Held (c .store .unit) i b
-  held-in i l = record { low = h .sound .store .unit-least; high = h .sound .store .unit-most; room = omega (arith, h .bytes, mul-le-mul-right (c .store .unit) l) }
+  held-in i l = record { unit-size = h .sound .store .unit-size; room = omega (arith, h .bytes, mul-le-mul-right (c .store .unit) l) }
 
 -- the samples that are wanted, and passed over, by the code's cuts
 wanted-is : (kept pre i : ℕ) → min kept (pre - min i pre) ≡ min kept (pre - i)

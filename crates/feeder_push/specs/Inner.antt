@@ -2,6 +2,7 @@
 use mathlib.Core.Path.{_≡_}
 use mathlib.Core.List.{List}
 use Prim.Native.Nat.{ℕ, _+_, _-_, _*_, _≤_, _<_, max}
+use Rattle.rules.specs.Sample.{UnitSize}
 use Rattle.rules.specs.Trigger.{unarmed}
 use Rattle.rules.specs.Selection.{Reply, refused, replyOf}
 use Rattle.rules.specs.Refusal.{Recorder}
@@ -50,8 +51,7 @@ pub record PushRoom (c : Recorder) (samples : List ℕ) (levels : ℕ → List �
 
 -- n samples of a push have room in the ring
 pub record WaitRoom (c : Recorder) (g b n : ℕ) : Type 0 where
-  pub low : 1 ≤ c .store .unit
-  pub high : c .store .unit ≤ 2
+  pub unit-size : UnitSize (c .store .unit)
   pub place-inside : c .place < max (c .pre) 1
   pub kept-most : c .kept ≤ c .pre
   pub ring : c .pre * c .store .unit ≤ g

@@ -7,14 +7,11 @@ use Rattle.lines.specs.Held.{Held}
 use Rattle.feeder_scan.specs.Scan.{Holds}
 
 pub fewer : (u n k len : ℕ) → Holds u n len → k ≤ n → Holds u k len
-fewer u n k len h l = record { low = h .low; high = h .high; room = omega (arith, h .room, mul-le-mul-right {m = k} {n = n} u l) }
+fewer u n k len h l = record { unit-size = h .unit-size; room = omega (arith, h .room, mul-le-mul-right {m = k} {n = n} u l) }
 
 pub held : (u n i len : ℕ) → Holds u n len → i < n → Held u i len
-held u n i len h l = record { low = h .low; high = h .high; room = omega (arith, fewer u n (suc i) len h l .room) }
+held u n i len h l = record { unit-size = h .unit-size; room = omega (arith, fewer u n (suc i) len h l .room) }
 
 -- at a unit that is known
 pub one-unit : (u v n len : ℕ) → Holds u n len → u ≡ v → Holds v n len
 one-unit u v n len h e = subst (λ (x : ℕ). Holds x n len) e h
-
-pub unit-two : (u n len : ℕ) → Holds u n len → (u ≡ 1 → ⊥) → u ≡ 2
-unit-two u n len h f = omega (arith, h .low, h .high)

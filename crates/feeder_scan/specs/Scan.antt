@@ -7,15 +7,14 @@ use Prim.Native.Nat.{ℕ, _+_, _-_, _*_, _≤_}
 use lib.Bits.{bitAnd, bitOr, bitXor}
 use lib.Dec.{eqb}
 use lib.ListN.{length}
-use Rattle.rules.specs.Sample.{listFrom}
+use Rattle.rules.specs.Sample.{listFrom, UnitSize}
 use Rattle.rules.specs.Trigger as rule
 use Rattle.terms.specs.declared.Masks.{Masks}
 use Rattle.feeder_scan.specs.declared.Wanted.{Wanted}
 
 -- n samples of a unit lie within len bytes
 pub record Holds (unit n len : ℕ) : Type 0 where
-  pub low : 1 ≤ unit
-  pub high : unit ≤ 2
+  pub unit-size : UnitSize unit
   pub room : n * unit ≤ len
 
 -- Rising is High and Edge on one line, Falling is Low and Edge

@@ -33,10 +33,6 @@ not-wrong unit capacity known some-slots most =
       refl,
     )
 
--- before its capacity is known to be above 0
-pub unit-two : (unit : ℕ) → unitWrong unit ≡ false → unit ≤ 2
-unit-two unit known = ranged (empty unit 1) (not-wrong unit 1 known (omega arith) (omega arith)) .unit-most
-
 module _ (r : List ℕ) where
   -- its store, with nothing in it
   abbrev pub emptyOf : Store
@@ -52,7 +48,7 @@ module _ (r : List ℕ) where
     pub slots-fit : getD r 6 0 * getD r 0 0 < 2 ^ 64
     slots-fit =
         let less : getD r 6 0 ≤ 67108864 = omega arith in
-        omega (arith, mul-le-mul less (in-range .unit-most))
+        omega (arith, mul-le-mul less (in-range .unit-size .most))
 
     module _ (lent : Lent) (ring : ℕ) where
       pub waiting-is : getD r 7 0 ≡ 1 → bitOr (bitOr (getD r 2 0) (getD r 3 0)) (getD r 4 0) ≡ 0 → getD r 5 0 ≤ getD r 1 0 → getD r 16 0 ≤ getD r 6 0 → lentShort emptyOf lent ≡ false → getD r 6 0 * getD r 0 0 ≤ ring → Waiting r lent ring

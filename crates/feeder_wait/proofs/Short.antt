@@ -9,7 +9,7 @@ use borrow.Author.Tests.{eq-eqb, le-ltb, ltb-false}
 use lib.Dec.{ltb}
 use lib.ListN.{length, getD, set}
 use lib.Seq.{sets, set-getD, paste}
-use Rattle.rules.specs.Sample.{sampleOf, sampleCount, samplesOf}
+use Rattle.rules.specs.Sample.{UnitSize, sampleOf, sampleCount, samplesOf}
 use Rattle.rules.specs.Trigger as rule
 use Rattle.rules.specs.Selection.{going-on}
 use Rattle.rules.specs.Refusal.{Store, Lent, Recorder, recorderRefusal}
@@ -38,8 +38,7 @@ use Rattle.feeder_wait.specs.Wait.{Waiting, masksOf, fireOf, CopyRoom, F
 -- the room of k samples at a unit v that is known
 pub few-room : (r : List ℕ) (lent : Lent) (g b : ℕ) → Waiting r lent g → getD r 15 0 < getD r 6 0 → (v k : ℕ) → getD r 0 0 ≡ v → k * v ≤ b → 1 ≤ k → 2 ≤ k * v → b ≤ 7 → k < getD r 6 0 - getD r 15 0 → FewRoom r g b v k
 few-room r lent g b w inside v k ev samples some-samples two-bytes few ahead = record {
-  low = omega (arith, w .store .unit-least);
-  high = omega (arith, w .store .unit-most);
+  unit-size = subst UnitSize ev (w .store .unit-size);
   some-samples = some-samples;
   two-bytes = two-bytes;
   few-bytes = omega arith;
@@ -56,7 +55,7 @@ pub few-copy : (r : List ℕ) (g b u n : ℕ) → FewRoom r g b u n → CopyRoom
 few-copy r g b u n room = record {
   two-bytes = room .two-bytes;
   few-bytes = room .few-bytes;
-  slots = run-room u (getD r 6 0) (getD r 15 0) n g b (record { low = room .low; high = room .high; place-in = omega (arith, room .place-inside); slots = room .slots; samples = room .samples }) (omega (arith, room .ahead));
+  slots = run-room u (getD r 6 0) (getD r 15 0) n g b (record { unit-size = room .unit-size; place-in = omega (arith, room .place-inside); slots = room .slots; samples = room .samples }) (omega (arith, room .ahead));
   held = room .samples;
 }
 

@@ -6,7 +6,7 @@ use mathlib.Core.Option.{none}
 use Prim.Native.Nat.{ℕ, _+_, _-_, _*_, _/_, _≤_, _<_, min}
 use lib.ListN.{length, getD}
 use lib.Seq.{sets}
-use Rattle.rules.specs.Sample.{sampleOf, samplesOf}
+use Rattle.rules.specs.Sample.{sampleOf, samplesOf, UnitSize}
 use Rattle.rules.specs.Trigger.{firstFire}
 use Rattle.rules.specs.Selection.{going-on}
 use Rattle.rules.specs.Refusal.{Lent, Recorder, mostSamples}
@@ -57,8 +57,7 @@ pub record CopyRoom (at k ring bytes : ℕ) : Type 0 where
 
 -- there are some, in two to eight bytes, the bytes hold them, and they do not reach the ring's end
 pub record FewRoom (numbers : List ℕ) (ring bytes unit n : ℕ) : Type 0 where
-  pub low : 1 ≤ unit
-  pub high : unit ≤ 2
+  pub unit-size : UnitSize unit
   pub some-samples : 1 ≤ n
   pub two-bytes : 2 ≤ n * unit
   pub few-bytes : n * unit ≤ 8

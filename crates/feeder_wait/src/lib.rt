@@ -17,6 +17,7 @@ ghost use Prim.Native.Nat.{_+_, _≤_};
 ghost use lib.Dec.{ltb};
 ghost use lib.ListN.{length};
 ghost use lib.Seq.{sets, paste};
+ghost use Rattle.rules.specs.Sample.{UnitSize};
 ghost use Rattle.node.specs.Memory.{levelOf};
 ghost use Rattle.capture.specs.Record.{lentOf};
 ghost use Rattle.feeder_scan.specs.Scan.{Holds};
@@ -173,7 +174,7 @@ fn wait_few(
 
 // The whole samples in len bytes; a division would take longer.
 fn count_in(unitsize: usize, len: usize) -> usize
-    requires { ⌜ (1 ≤ unitsize) × (unitsize ≤ 2) ⌝ }
+    requires { ⌜ UnitSize unitsize ⌝ }
     ensures { λ r. ⌜ Count unitsize len r ⌝ }
 {
     if unitsize == 1 { len } else { len / 2 }

@@ -39,10 +39,10 @@ module _ (base unit : ℕ) (part : List ℕ) (levels : ℕ → List ℕ) (l p : 
 
 -- samples within bytes, n of them
 pub bytes-held : (unit n p : ℕ) (bytes : List ℕ) → Bytes unit n bytes → p < n → Held unit p (length bytes)
-bytes-held unit n p bytes b h = record { low = b .low; high = b .high; room = omega (arith, mul-le-mul-right unit h, b .room) }
+bytes-held unit n p bytes b h = record { unit-size = b .unit-size; room = omega (arith, mul-le-mul-right unit h, b .room) }
 
 pub bytes-less : (unit n k : ℕ) (bytes : List ℕ) → Bytes unit n bytes → k ≤ n → Bytes unit k bytes
-bytes-less unit n k bytes b h = record { low = b .low; high = b .high; room = omega (arith, mul-le-mul-right unit h, b .room) }
+bytes-less unit n k bytes b h = record { unit-size = b .unit-size; room = omega (arith, mul-le-mul-right unit h, b .room) }
 
 -- ---- numbers of places
 module _ (base l s : ℕ) (e : s ≡ span l) (some : 1 ≤ s) where

@@ -4,7 +4,7 @@ use mathlib.Core.List.{List}
 use Prim.Native.Nat.{ℕ, _+_, _-_, _*_, _/_, _≤_, _<_}
 use lib.Dec.{eqb}
 use lib.ListN.{length}
-use Rattle.rules.specs.Sample.{sampleOf}
+use Rattle.rules.specs.Sample.{sampleOf, UnitSize}
 use Rattle.rules.specs.Node.{Node, leaf, span, topLevel}
 use Rattle.rules.specs.Refusal.{nodeSize}
 use Rattle.node.specs.Memory.{nodeIn}
@@ -19,8 +19,7 @@ pub record Nodes (hi : ℕ) (levels : ℕ → List ℕ) : Type 0 where
 
 -- the first n samples lie in bytes
 pub record Bytes (unit n : ℕ) (bytes : List ℕ) : Type 0 where
-  pub low : 1 ≤ unit
-  pub high : unit ≤ 2
+  pub unit-size : UnitSize unit
   pub room : n * unit ≤ length bytes
 
 -- the samples from base to hi, and the nodes below hi, lie in memory

@@ -6,7 +6,7 @@ use native.Mathlib.Nat.{mul-le-mul-right}
 use native.Mathlib.Omega.{arith}
 use lib.Bits.{bitOr, bitXor}
 use lib.ListN.{take, drop}
-use Rattle.rules.specs.Sample.{sampleOf}
+use Rattle.rules.specs.Sample.{UnitSize, sampleOf}
 use Rattle.rules.specs.Node.{togglesOf, nodeOf}
 use Rattle.rules.proofs.Sample.{sample-part}
 use Rattle.range.specs.Part.{RangeIn, partSample}
@@ -50,10 +50,9 @@ part-sample u s base stop i a b = sample-part u s base (stop * u - base * u) (i 
 
 -- ---- room
 -- a range whose places lie between base and n, in a part that has the samples up to n
-pub range-in : (unit base n part a b : ℕ) → 1 ≤ unit → unit ≤ 2 → n * unit ≤ base * unit + part → base ≤ a → a < b → b ≤ n → RangeIn unit (a - base) (b - base) part
-range-in unit base n part a b low high samples from some upto = record {
-  low = low;
-  high = high;
+pub range-in : (unit base n part a b : ℕ) → UnitSize unit → n * unit ≤ base * unit + part → base ≤ a → a < b → b ≤ n → RangeIn unit (a - base) (b - base) part
+range-in unit base n part a b size samples from some upto = record {
+  unit-size = size;
   some = omega arith;
   room = omega (arith, mul-le-mul-right {m = base + (b - base)} {n = n} unit (omega arith));
 }

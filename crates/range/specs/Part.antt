@@ -1,12 +1,11 @@
 -- Samples in a part of memory.
 use mathlib.Core.List.{List}
 use Prim.Native.Nat.{ℕ, _-_, _*_, _≤_, _<_}
-use Rattle.rules.specs.Sample.{sampleOf}
+use Rattle.rules.specs.Sample.{sampleOf, UnitSize}
 
 -- the samples a to b, b not among them, of a unit lie within n bytes
 pub record RangeIn (unit a b n : ℕ) : Type 0 where
-  pub low : 1 ≤ unit
-  pub high : unit ≤ 2
+  pub unit-size : UnitSize unit
   pub some : a < b
   pub room : b * unit ≤ n
 

@@ -84,7 +84,7 @@ node-then s len top l level level₁ level′ n ordered d e = record {
 -- ---- level 1
 -- the new samples in its range lie in the part
 pub join-room : (unit base len top part level b : ℕ) → JoinRoom unit base len top part level → b ≡ min (len / 32 * 32 + 32) (top + 1) → RangeIn unit (len - base) (b - base) part
-join-room unit base len top part level b r eb = range-in unit base (top + 1) part len b (r .low) (r .high) (omega (arith, r .samples)) (r .from) (omega (arith, r .some)) (omega arith)
+join-room unit base len top part level b r eb = range-in unit base (top + 1) part len b (r .unit-size) (omega (arith, r .samples)) (r .from) (omega (arith, r .some)) (omega arith)
 
 -- they are what joins it
 pub first-joins : (unit : ℕ) (part level level′ : List ℕ) (base len top b : ℕ) (n : Node) → base ≤ len → len ≤ top → b ≡ min (len / 32 * 32 + 32) (top + 1)
@@ -108,7 +108,7 @@ part-node unit part base top j a b n h k ea eb en = en ∙ shift-node (sampleOf 
 -- its samples lie in the part
 pub part-room : (unit base first top part level j a b : ℕ) → FirstRoom unit base first top part level → first ≤ j → j ≤ top / 32 → a ≡ j * 32 → b ≡ min (a + 32) (top + 1)
     → RangeIn unit (a - base) (b - base) part
-part-room unit base first top part level j a b r h k ea eb = range-in unit base (top + 1) part a b (r .low) (r .high) (omega (arith, r .samples)) (omega (arith, r .from)) (omega arith) (omega arith)
+part-room unit base first top part level j a b r h k ea eb = range-in unit base (top + 1) part a b (r .unit-size) (omega (arith, r .samples)) (omega (arith, r .from)) (omega arith) (omega arith)
 
 -- ---- one level up
 pub span-next : (place l : ℕ) → place / span l / 32 ≡ place / span (suc l)

@@ -2,6 +2,7 @@
 use mathlib.Core.List.{List}
 use Prim.Native.Nat.{ℕ, suc, _+_, _*_, _/_, _≤_, _<_}
 use lib.ListN.{length}
+use Rattle.rules.specs.Sample.{UnitSize}
 use Rattle.rules.specs.Node.{span, topLevel}
 use Rattle.rules.specs.Refusal.{mostSamples, nodeSize}
 
@@ -12,8 +13,7 @@ pub record NodeRoom (l len level : ℕ) : Type 0 where
 
 -- a part that starts at place base has the samples from node `first` on up to place top, and level 1 has their nodes
 pub record FirstRoom (unit base first top part level : ℕ) : Type 0 where
-  pub low : 1 ≤ unit
-  pub high : unit ≤ 2
+  pub unit-size : UnitSize unit
   pub fits : top < mostSamples
   pub from : base ≤ first * 32
   pub samples : top * unit + unit ≤ base * unit + part
@@ -21,8 +21,7 @@ pub record FirstRoom (unit base first top part level : ℕ) : Type 0 where
 
 -- the same where the samples from place len on are new; the part may start at any place up to len
 pub record JoinRoom (unit base len top part level : ℕ) : Type 0 where
-  pub low : 1 ≤ unit
-  pub high : unit ≤ 2
+  pub unit-size : UnitSize unit
   pub fits : top < mostSamples
   pub some : len ≤ top
   pub from : base ≤ len

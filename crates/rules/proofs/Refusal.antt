@@ -9,8 +9,10 @@ use native.Mathlib.Decide.{decLt}
 use native.Mathlib.Omega.{arith}
 use lib.Dec.{ltb, leb, eqb}
 use borrow.Author.Tests.{ltb-false, le-ltb, leb-false, lt-leb, eqb-true, eqb-false, eq-eqb, ne-eqb, not-false}
+use Rattle.rules.specs.Sample.{UnitSize}
 use Rattle.rules.specs.Node.{topLevel}
 use Rattle.rules.specs.Refusal.{Store, mostSamples, Lent, Row, firstOf, unitWrong, markWrong, storeWrong, samplesNeed, levelNeed, levelShort, lentShort, storeRows, storeRefusal, Recorder, placeWrong, settingWrong, recorderWrong, ringNeed, ringShort, recorderRows, roomRow}
+use Rattle.rules.proofs.Sample.{unit-cases}
 
 -- ---- rows in order
 -- a row that is passed
@@ -45,16 +47,16 @@ not-less a b = (ltb-false a b, le-ltb a b)
 not-zero : (a : ℕ) → (eqb a 0 ≡ false) ↔ (0 < a)
 not-zero a = (λ e. omega (arith, eqb-false a 0 e), λ h. ne-eqb a 0 (λ e. omega arith))
 
-unit-right : (u : ℕ) → (unitWrong u ≡ false) ↔ ((1 ≤ u) × (u ≤ 2))
-unit-right u = (λ e. go (eqb u 1) refl (not-false _ e), λ t. by (decLt u 2) t)
+pub unit-right : (u : ℕ) → (unitWrong u ≡ false) ↔ UnitSize u
+unit-right u = (λ e. go (eqb u 1) refl (not-false _ e), λ h. by (unit-cases h))
   where
-    go : (b : Bool) → eqb u 1 ≡ b → (b || eqb u 2) ≡ true → (1 ≤ u) × (u ≤ 2)
-    go true e t = (omega (arith, eqb-true u 1 e), omega (arith, eqb-true u 1 e))
-    go false e t = (omega (arith, eqb-true u 2 t), omega (arith, eqb-true u 2 t))
+    go : (b : Bool) → eqb u 1 ≡ b → (b || eqb u 2) ≡ true → UnitSize u
+    go true e t = record { least = omega (arith, eqb-true u 1 e); most = omega (arith, eqb-true u 1 e) }
+    go false e t = record { least = omega (arith, eqb-true u 2 t); most = omega (arith, eqb-true u 2 t) }
 
-    by : Dec (u < 2) → (1 ≤ u) × (u ≤ 2) → unitWrong u ≡ false
-    by (yes h) t = rw (eq-eqb u 1 (omega arith))
-    by (no h) t = rw (ne-eqb u 1 (λ e. omega arith), eq-eqb u 2 (omega arith))
+    by : (u ≡ 1) ⊎ (u ≡ 2) → unitWrong u ≡ false
+    by (inl e) = rw (eq-eqb u 1 e)
+    by (inr e) = rw (ne-eqb u 1 (λ z. omega arith), eq-eqb u 2 e)
 
 mark-right : (mark : Option ℕ) (len : ℕ) → (markWrong mark len ≡ false) ↔ ((k : ℕ) → mark ≡ some k → k ≤ len)
 mark-right none len = (λ e k q. absurd (Option·none-ne-some k q), λ f. refl)
@@ -79,8 +81,7 @@ levels-right st level (suc n) = level-cons (levels-right st level n)
 -- ---- rows 1 and 2
 -- the bounds of a store and of the memory that is lent with it
 pub record Sound (st : Store) (lent : Lent) : Type 0 where
-  pub unit-least : 1 ≤ st .unit
-  pub unit-most : st .unit ≤ 2
+  pub unit-size : UnitSize (st .unit)
   pub capacity-least : 1 ≤ st .capacity
   pub capacity-most : st .capacity ≤ mostSamples
   pub len-most : st .len ≤ st .capacity
@@ -93,8 +94,7 @@ MarkInside st = (k : ℕ) → st .mark ≡ some k → k ≤ st .len
 
 -- row 1 alone
 pub record Ranged (st : Store) : Type 0 where
-  pub unit-least : 1 ≤ st .unit
-  pub unit-most : st .unit ≤ 2
+  pub unit-size : UnitSize (st .unit)
   pub capacity-least : 1 ≤ st .capacity
   pub capacity-most : st .capacity ≤ mostSamples
   pub len-most : st .len ≤ st .capacity
@@ -107,8 +107,7 @@ ranged st e =
     let t2 = neither (unitWrong (st .unit) || eqb (st .capacity) 0) (ltb mostSamples (st .capacity)) .0 (t3 .0) in
     let t1 = neither (unitWrong (st .unit)) (eqb (st .capacity) 0) .0 (t2 .0) in
     record {
-      unit-least = unit-right (st .unit) .0 (t1 .0) .0;
-      unit-most = unit-right (st .unit) .0 (t1 .0) .1;
+      unit-size = unit-right (st .unit) .0 (t1 .0);
       capacity-least = not-zero (st .capacity) .0 (t1 .1);
       capacity-most = not-less mostSamples (st .capacity) .0 (t2 .1);
       len-most = not-less (st .capacity) (st .len) .0 (t3 .1);
@@ -121,8 +120,7 @@ module _ (st : Store) (lent : Lent) where
       let r = ranged st e in
       let l = neither (ltb (lent .samples) (samplesNeed st)) (levelShort st (lent .level) topLevel) .0 f in (
         record {
-          unit-least = r .unit-least;
-          unit-most = r .unit-most;
+          unit-size = r .unit-size;
           capacity-least = r .capacity-least;
           capacity-most = r .capacity-most;
           len-most = r .len-most;
@@ -138,7 +136,7 @@ module _ (st : Store) (lent : Lent) where
         neither _ _ .1 (
           neither _ _ .1 (
             neither _ _ .1 (
-              unit-right (st .unit) .1 (s .unit-least, s .unit-most),
+              unit-right (st .unit) .1 (s .unit-size),
               not-zero (st .capacity) .1 (s .capacity-least),
             ),
             not-less _ _ .1 (s .capacity-most),
@@ -166,17 +164,9 @@ module _ (st : Store) (lent : Lent) where
           let s = rows-then (t1 .0) (t2 .0) in
           (s .0, s .1, t2 .1)
 
-  -- where rows 1 and 2 pass, the further rows decide, and where one of them refuses, it does
+  -- where rows 1 and 2 pass, the further rows decide
   pub rows-left : storeRefusal st lent ≡ 0 → (rest : List Row) → firstOf (storeRows st lent rest) ≡ firstOf rest
   rows-left e rest = let p = rows-passed [] .0 e in rows-rest (p .0) (p .1) rest
-
-  pub rows-refused : (storeRefusal st lent ≡ 0 → ⊥) → (rest : List Row) → firstOf (storeRows st lent rest) ≡ storeRefusal st lent
-  rows-refused h rest = go (storeWrong st) (lentShort st lent) h
-    where
-      go : (a b : Bool) → (cond {A = ℕ} a 1 (cond b 2 0) ≡ 0 → ⊥) → cond {A = ℕ} a 1 (cond b 2 (firstOf rest)) ≡ cond a 1 (cond b 2 0)
-      go true b z = refl
-      go false true z = refl
-      go false false z = absurd (z refl)
 
   pub sound : storeRefusal st lent ≡ 0 → Sound st lent
   sound e = rows-passed [] .0 e .0

@@ -1,12 +1,31 @@
 -- Laws of samples in bytes, for any unit: a sample depends on its own bytes alone, and what is left over at the end of a push is dropped.
 use mathlib.Core.Path.{_≡_, refl, sym, ap, ap₂, _∙_}
 use mathlib.Core.List.{List, [], _∷_, _++_, append-nil}
+use mathlib.Core.Logic.{_⊎_, inl, inr}
 use Prim.Native.Nat.{ℕ, zero, suc, _+_, _*_, _-_, _/_, _^_, _≤_, _<_}
 use native.Mathlib.Nat.{add-zero, zero-add, add-mul, mul-le-mul-right, mul-div-cancel, mul-add-div-right, div-eq-of-lt, div-mul-le-self, pow-succ'}
+use native.Mathlib.Decide.{decLt}
 use native.Mathlib.Omega.{arith}
 use lib.ListN.{length, take, drop, getD, length-append, List·getD-append}
 use lib.Seq.{length-take-le, take-at, drop-at, getD-take, getD-drop}
-use Rattle.rules.specs.Sample.{little, sampleOf, listFrom, samplesOf, sampleCount}
+use Rattle.rules.specs.Sample.{UnitSize, little, sampleOf, listFrom, samplesOf, sampleCount}
+
+-- ---- the units that there are
+-- the one way to take a unit apart
+pub unit-cases : {u : ℕ} → UnitSize u → (u ≡ 1) ⊎ (u ≡ 2)
+unit-cases {u} h = go (decLt u 2)
+  where
+    go : Dec (u < 2) → (u ≡ 1) ⊎ (u ≡ 2)
+    go (yes l) = inl (omega (arith, h .least))
+    go (no l) = inr (omega (arith, h .most))
+
+-- as the code tests it: 1, and else 2
+pub unit-two : {u : ℕ} → UnitSize u → (u ≡ 1 → ⊥) → u ≡ 2
+unit-two {u} h f = go (unit-cases h)
+  where
+    go : (u ≡ 1) ⊎ (u ≡ 2) → u ≡ 2
+    go (inl e) = absurd (f e)
+    go (inr e) = e
 
 -- ---- lists of samples
 pub list-length : (s : ℕ → ℕ) (p n : ℕ) → length (listFrom s p n) ≡ n

@@ -2,7 +2,7 @@
 use mathlib.Core.Path.{_≡_}
 use mathlib.Core.Bool.{cond}
 use mathlib.Core.List.{List, [], _∷_}
-use Prim.Native.Nat.{ℕ, zero, suc, _+_, _*_, _/_, _%_, _^_, _<_}
+use Prim.Native.Nat.{ℕ, zero, suc, _+_, _*_, _/_, _%_, _^_, _≤_, _<_}
 use lib.Bits.{bitAnd}
 use lib.Dec.{ltb}
 use lib.ListN.{length, getD}
@@ -10,6 +10,11 @@ use lib.ListN.{length, getD}
 -- "More than 8 channels means unit 2, else 1."
 abbrev pub unitOf : ℕ → ℕ
 unitOf channels = cond (ltb 8 channels) 2 1
+
+-- the units that there are: "unit 1 or 2" (rules.proofs.Sample.unit-cases takes one apart)
+pub record UnitSize (u : ℕ) : Type 0 where
+  pub least : 1 ≤ u
+  pub most : u ≤ 2
 
 -- u bytes from place k on, low first
 abbrev pub little : ℕ → List ℕ → ℕ → ℕ

@@ -22,7 +22,7 @@ node-counted capacity l j h = le-div-iff-mul-le (span-pos l) .1 (omega (arith, s
 -- a sound store's samples and nodes lie in memory
 pub stored-of : (c : Capture) (samples : List ℕ) (levels : ℕ → List ℕ) → Sound (storeOf c) (lentOf samples levels) → Stored (c .unitsize) (c .len) samples levels
 stored-of c samples levels s = record {
-  bytes = record { low = s .unit-least; high = s .unit-most; room = omega (arith, mul-le-mul-right (c .unitsize) (s .len-most), s .samples) };
+  bytes = record { unit-size = s .unit-size; room = omega (arith, mul-le-mul-right (c .unitsize) (s .len-most), s .samples) };
   most = omega (arith, s .len-most, s .capacity-most);
   nodes = record { inside = λ l j k m h. omega (arith, s .level l k m, mul-le-mul-right nodeSize (node-counted (c .capacity) l j (omega (arith, s .len-most))), suc-mul j nodeSize) };
 }

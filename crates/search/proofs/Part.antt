@@ -79,7 +79,7 @@ module _ (unit len : ℕ) (samples : List ℕ) (levels : ℕ → List ℕ) (s : 
   -- the part of it from base to hi
   pub stored-part : (base hi : ℕ) → base ≤ hi → hi ≤ len → Part unit base hi (partOf base hi unit samples levels) levels
   stored-part base hi a b = record {
-    bytes = record { low = s .bytes .low; high = s .bytes .high; room = simp (length-take, length-drop) (omega (arith, sum, bytes-less unit len hi samples (s .bytes) b .room)) };
+    bytes = record { unit-size = s .bytes .unit-size; room = simp (length-take, length-drop) (omega (arith, sum, bytes-less unit len hi samples (s .bytes) b .room)) };
     nodes = record { inside = λ l j k m h. s .nodes .inside l j k m (omega arith) };
   }
     where

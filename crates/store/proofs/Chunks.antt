@@ -87,8 +87,7 @@ module _ (u from top : ℕ) (s l1 : List ℕ) (room : ChunksRoom u from top (len
 
     pub join-room : (n k : ℕ) → n ≡ length (partOf u p top base stop s turn) → k ≡ length l1 → JoinRoom u base p (stop - 1) n k
     join-room n k en ek = record {
-      low = room .low;
-      high = room .high;
+      unit-size = room .unit-size;
       fits = omega (arith, room .fits, turn);
       some = omega (arith, turn);
       from = turn .base-low;
@@ -97,7 +96,7 @@ module _ (u from top : ℕ) (s l1 : List ℕ) (room : ChunksRoom u from top (len
     }
 
     pub new-room : p % 32 ≡ 0 → (n k : ℕ) → n ≡ length (partOf u p top base stop s turn) → k ≡ length l1 → FirstRoom u base (p / 32) (stop - 1) n k
-    new-room z n k en ek = let r = join-room n k en ek in record { low = r .low; high = r .high; fits = r .fits; from = omega (arith, r .from); samples = r .samples; nodes = r .nodes }
+    new-room z n k en ek = let r = join-room n k en ek in record { unit-size = r .unit-size; fits = r .fits; from = omega (arith, r .from); samples = r .samples; nodes = r .nodes }
 
 -- ---- the loop: the nodes up to place p are made, and l is the level then
 pub record Making (unit from top : ℕ) (s l1 l : List ℕ) (p : ℕ) : Type 0 where

@@ -23,8 +23,7 @@ node-in cap l j n h k = omega (arith, below)
 pub sound-room : (st : Store) (s : List ℕ) (lv : ℕ → List ℕ) (n : ℕ) → Sound st (record { samples = length s; level = λ l. length (lv l) }) → st .len + n ≤ st .capacity
     → StoreRoom (st .unit) (st .len) n (length s) lv
 sound-room st s lv n d h = record {
-  low = d .unit-least;
-  high = d .unit-most;
+  unit-size = d .unit-size;
   fits = omega (arith, d .capacity-most);
   samples = omega (arith, d .samples, mul-le-mul-right (st .unit) h);
   nodes = λ l j p q k. node-in (st .capacity) l j (length (lv l)) (d .level l p q) (omega arith);
@@ -33,8 +32,7 @@ sound-room st s lv n d h = record {
 -- and fewer have room where more have
 pub less-room : (u len n k s : ℕ) (lv : ℕ → List ℕ) → StoreRoom u len n s lv → k ≤ n → StoreRoom u len k s lv
 less-room u len n k s lv r h = record {
-  low = r .low;
-  high = r .high;
+  unit-size = r .unit-size;
   fits = omega (arith, r .fits);
   samples = omega (arith, r .samples, mul-le-mul-right u both);
   nodes = λ l j p q i. r .nodes l j p q (omega arith);

@@ -30,8 +30,7 @@ module _ (u len n s : ℕ) (lv : ℕ → List ℕ) (r : StoreRoom u len n s lv) 
 
   pub chunks-room : (from x : ℕ) → from ≤ len + n - 1 → x ≡ length (lv 1) → ChunksRoom u from (len + n - 1) s x
   chunks-room from x h ex = record {
-    low = r .low;
-    high = r .high;
+    unit-size = r .unit-size;
     some = h;
     fits = omega (arith, r .fits);
     samples = omega (arith, r .samples, ap (λ (y : ℕ). y * u) end);

@@ -2,13 +2,13 @@
 use mathlib.Core.Path.{_≡_}
 use mathlib.Core.List.{List}
 use Prim.Native.Nat.{ℕ, _+_, _*_, _/_, _≤_, _<_}
+use Rattle.rules.specs.Sample.{UnitSize}
 use Rattle.rules.specs.Refusal.{mostSamples, nodeSize}
 use Rattle.rebuild.specs.Room.{Roomy}
 
 -- samples stand at the places from to top, and they and their nodes of level 1 lie in memory
 pub record ChunksRoom (unit from top s l1 : ℕ) : Type 0 where
-  pub low : 1 ≤ unit
-  pub high : unit ≤ 2
+  pub unit-size : UnitSize unit
   pub some : from ≤ top
   pub fits : top < mostSamples
   pub samples : (top + 1) * unit ≤ s
@@ -16,8 +16,7 @@ pub record ChunksRoom (unit from top s l1 : ℕ) : Type 0 where
 
 -- n samples join len: they and the nodes of every level lie in memory
 pub record StoreRoom (unit len n s : ℕ) (levels : ℕ → List ℕ) : Type 0 where
-  pub low : 1 ≤ unit
-  pub high : unit ≤ 2
+  pub unit-size : UnitSize unit
   pub fits : len + n ≤ mostSamples
   pub samples : (len + n) * unit ≤ s
   pub nodes : Roomy (len + n) levels

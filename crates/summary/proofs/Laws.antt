@@ -192,8 +192,7 @@ module _ (st : Store) (samples : List ℕ) (levels : ℕ → List ℕ) (h : Soun
 
   pub chunk-room : ChunkRoom (st .unit) base end (length (partOf (st .unit) samples base end)) levels
   chunk-room = record {
-    low = h .unit-least;
-    high = h .unit-most;
+    unit-size = h .unit-size;
     most = omega (arith, h .len-most, h .capacity-most);
     samples = omega (arith, part-length, mul-le-mul-right {m = base} {n = end} (st .unit) (omega arith));
     level = λ l j a k p. node-room st (lentOf samples levels) h l j a k (omega arith);

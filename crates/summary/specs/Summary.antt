@@ -6,6 +6,7 @@ use mathlib.Core.Option.{Option, none, some}
 use Prim.Native.Nat.{ℕ, zero, suc, _+_, _-_, _*_, _/_, _≤_, _<_, min}
 use lib.Dec.{ltb, leb}
 use lib.ListN.{length}
+use Rattle.rules.specs.Sample.{UnitSize}
 use Rattle.rules.specs.Node.{Node, nodeOf, span, chunk, topLevel}
 use Rattle.rules.specs.Walk.{best}
 use Rattle.rules.specs.Answer.{Answer, refused, given}
@@ -74,8 +75,7 @@ summedOf summed-as.Nothing = given none
 -- ---- memory
 -- the samples of [base, b) lie in the part, and nodes that start before b in the levels
 pub record ChunkRoom (unit base b part : ℕ) (levels : ℕ → List ℕ) : Type 0 where
-  pub low : 1 ≤ unit
-  pub high : unit ≤ 2
+  pub unit-size : UnitSize unit
   pub most : b ≤ mostSamples
   pub samples : b * unit ≤ base * unit + part
   pub level : (l j : ℕ) → 1 ≤ l → l ≤ topLevel → j * span l < b → j * nodeSize + nodeSize ≤ length (levels l)

@@ -201,8 +201,7 @@ module _ (st : Store) (samples : List ℕ) (levels : ℕ → List ℕ) (l j : �
 
   pub samples-room : (e : ℕ) → l ≡ 1 → e ≡ min (j * 32 + 32) (st .len) → RangeIn (st .unit) (j * 32) e (length samples)
   samples-room e z ee = record {
-    low = n .sound .unit-least;
-    high = n .sound .unit-most;
+    unit-size = n .sound .unit-size;
     some = omega (arith, covers);
     room = stored st samples levels (n .sound) e (omega arith);
   }

@@ -49,7 +49,7 @@ returns c =
     appends-refused (a .c) (now (a .bytes)) (now (a .samples)) (levels f) _ (refused-first (a .c) (now (a .bytes)) (now (a .samples)) (levels f) (f .refusal .ensures) z) z
 
 div-n : tie.Need-div-n
-div-n c = omega (arith, bounds c .unit-least)
+div-n c = omega (arith, bounds c .unit-size .least)
 
 sub-if2 : tie.Need-sub-if2
 sub-if2 c = omega (arith, bounds (c .before) .len-most)

@@ -28,7 +28,7 @@ returns c = let f = c .before in refused-is _ (sym (number-is f true (c .if1 .ta
 sizes-of-requires : tie.Need-sizes-of-requires
 sizes-of-requires c κs =
     let r = ranged (storeOf (c .before .before .empty .result)) (sym (c .before .record-wrong .ensures) ∙ c .if1 .left) in
-    record { unit = r .unit-most; capacity = r .capacity-most }
+    record { unit-size = r .unit-size; capacity = r .capacity-most }
 
 returns-2 : tie.Need-returns-2
 returns-2 c = let f = c .before .before in given-is _ (sym (number-is f false (c .before .if1 .left))) refl (memory-is _ _ (c .sizes-of .ensures) ∙ ap memoryNeed (f .before .empty .ensures))

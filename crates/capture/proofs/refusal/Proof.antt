@@ -15,7 +15,7 @@ returns c = simp (sym (c .before .record-wrong .ensures) ∙ c .if1 .taken)
 memory-short-requires : tie.Need-memory-short-requires
 memory-short-requires c κs =
     let r = ranged (storeOf (c .before .before .before .before .before .before .before .args .c)) (sym (c .before .record-wrong .ensures) ∙ c .if1 .left) in
-    record { unit = r .unit-most; capacity = r .capacity-most }
+    record { unit-size = r .unit-size; capacity = r .capacity-most }
 
 returns-2 : tie.Need-returns-2
 returns-2 c = simp (sym (c .before .before .before .record-wrong .ensures) ∙ c .before .before .if1 .left, sym (c .before .memory-short .ensures) ∙ c .if2 .taken)

@@ -6,7 +6,7 @@ use Rattle.capture.proofs.sizes_of.Statement.{statement}
 use Rattle.capture.proofs.sizes_of.Tie as tie
 
 mul-t2 : tie.Need-mul-t2
-mul-t2 c = let p = c .before .pre in record { fits = omega (arith, mul-le-mul (p .capacity) (p .unit)) }
+mul-t2 c = let p = c .before .pre in record { fits = omega (arith, mul-le-mul (p .capacity) (p .unit-size .most)) }
 
 add-t3 : tie.Need-add-t3
 add-t3 c = search needs

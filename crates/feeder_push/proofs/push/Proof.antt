@@ -58,7 +58,7 @@ div-n c =
     let i = c .before in
     let f = i .before in
     let a = s f .args in
-    omega (arith, room (a .f) (now (a .samples)) (levels f) (now (a .ring)) (now (a .bytes)) (free i) .sound .store .unit-least)
+    omega (arith, room (a .f) (now (a .samples)) (levels f) (now (a .ring)) (now (a .bytes)) (free i) .sound .store .unit-size .least)
 
 enum-known-masks : tie.Need-enum-known-masks
 enum-known-masks c = search needs

@@ -16,7 +16,7 @@ mul-a c = search needs
 add-a-end : tie.Need-add-a-end
 add-a-end c =
     let s = c .before .before .before .before .before .before .before .before .before in
-    omega (arith, s .pre .end-fits, le-mul-of-pos-right (s .args .run .end + s .args .run .older) (s .pre .room .low))
+    omega (arith, s .pre .end-fits, le-mul-of-pos-right (s .args .run .end + s .args .run .older) (s .pre .room .unit-size .least))
 
 mul-a-end : tie.Need-mul-a-end
 mul-a-end c = search needs
@@ -27,7 +27,7 @@ mul-b c = search needs
 add-b-end : tie.Need-add-b-end
 add-b-end c =
     let s = c .before .before .before .before .before .before .before .before .before .before .before in
-    omega (arith, s .pre .start-fits, le-mul-of-pos-right (s .args .run .start + s .args .run .newer) (s .pre .room .low))
+    omega (arith, s .pre .start-fits, le-mul-of-pos-right (s .args .run .start + s .args .run .newer) (s .pre .room .unit-size .least))
 
 mul-b-end : tie.Need-mul-b-end
 mul-b-end c = search needs
@@ -38,10 +38,12 @@ mul-c c = search needs
 add-c-end : tie.Need-add-c-end
 add-c-end c =
     let s = c .before .before .before .before .before .before .before .before .before .before .before .before in
-    omega (arith, s .pre .own-fits, le-mul-of-pos-right (s .args .d + s .args .run .own) (s .pre .room .low))
+    omega (arith, s .pre .own-fits, le-mul-of-pos-right (s .args .d + s .args .run .own) (s .pre .room .unit-size .least))
 
 mul-c-end : tie.Need-mul-c-end
-mul-c-end c = search needs
+mul-c-end c =
+    let s = c .before .before .before .before .before .before .before .before .before .before .before .before in
+    omega (arith, s .pre .own-fits, s .good)
 
 sub-append-parts : tie.Need-sub-append-parts
 sub-append-parts c = search needs

@@ -2,9 +2,10 @@
 use native.Mathlib.Omega.{arith}
 use borrow.Author.Needs.{needs}
 use denote.Ref.{now}
+use Rattle.rules.proofs.Sample.{unit-two}
 use Rattle.rules.specs.Sample.{sampleOf}
 use Rattle.terms.specs.Terms.{previousOf}
-use Rattle.feeder_scan.proofs.Room.{fewer, one-unit, unit-two}
+use Rattle.feeder_scan.proofs.Room.{fewer, one-unit}
 use Rattle.feeder_scan.proofs.Answer.{none-scanned, scanned}
 use Rattle.feeder_scan.proofs.first_fire.Statement.{statement}
 use Rattle.feeder_scan.proofs.first_fire.Tie as tie
@@ -32,7 +33,7 @@ fire-in-blocks-requires c κs = (one-unit _ _ _ _ (c .before .before .before .be
 fire-in-blocks-requires-2 : tie.Need-fire-in-blocks-requires-2
 fire-in-blocks-requires-2 c κs =
     let s = c .before .before .before .before .before .before in
-    (one-unit _ _ _ _ (s .pre) (unit-two _ _ _ (s .pre) (c .if3 .left)), omega arith)
+    (one-unit _ _ _ _ (s .pre) (unit-two (s .pre .unit-size) (c .if3 .left)), omega arith)
 
 returns-3 : tie.Need-returns-3
 returns-3 c =
@@ -45,7 +46,7 @@ returns-4 c =
     let b = c .before .before in
     let s = b .before .before .before .before .before in
     let a = s .args in
-    scanned (a .masks) (previousOf (a .prev)) (now (a .bytes)) (a .unitsize) (a .n) (omega arith) _ (b .before .of .ensures) _ (b .before2 .ensures) 2 _ (unit-two _ _ _ (s .pre) (c .before .if3 .left)) (c .fire-in-blocks2 .ensures)
+    scanned (a .masks) (previousOf (a .prev)) (now (a .bytes)) (a .unitsize) (a .n) (omega arith) _ (b .before .of .ensures) _ (b .before2 .ensures) 2 _ (unit-two (s .pre .unit-size) (c .before .if3 .left)) (c .fire-in-blocks2 .ensures)
 
 pub first-fire-spec : {M : Type 1} → statement M
 first-fire-spec =

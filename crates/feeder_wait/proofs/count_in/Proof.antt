@@ -2,6 +2,7 @@
 use Prim.Native.Nat.{ℕ, _+_, _*_, _/_, _≤_}
 use mathlib.Core.Path.{_≡_, refl, sym, subst}
 use native.Mathlib.Omega.{arith}
+use Rattle.rules.proofs.Sample.{unit-two}
 use Rattle.feeder_wait.specs.Wait.{Count}
 use Rattle.feeder_wait.proofs.count_in.Statement.{statement}
 use Rattle.feeder_wait.proofs.count_in.Tie as tie
@@ -19,7 +20,7 @@ returns-2 : tie.Need-returns-2
 returns-2 c =
     let s = c .before in
     let len = s .args .len in
-    at _ 2 len (len / 2) (omega (arith, s .pre .0, s .pre .1, c .if1 .left)) refl (omega arith) (omega arith) (omega arith) (λ h. omega arith)
+    at _ 2 len (len / 2) (unit-two (s .pre) (c .if1 .left)) refl (omega arith) (omega arith) (omega arith) (λ h. omega arith)
 
 pub count-in-spec : {M : Type 1} → statement M
 count-in-spec = tie.close (tie.spec returns returns-2)

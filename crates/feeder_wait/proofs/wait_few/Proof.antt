@@ -29,7 +29,7 @@ sub-get c = search needs
 get-requires : tie.Need-get-requires
 get-requires c κs =
     let s = c .before .before .before .before .before .before .before .before in
-    held _ (s .args .n) _ _ (record { low = s .pre .low; high = s .pre .high; room = s .pre .samples }) (omega (arith, s .pre .some-samples))
+    held _ (s .args .n) _ _ (record { unit-size = s .pre .unit-size; room = s .pre .samples }) (omega (arith, s .pre .some-samples))
 
 mul-copy-few : tie.Need-mul-copy-few
 mul-copy-few c = record { fits = omega (arith, few-copy _ _ _ _ _ (c .before .before .before .before .before .before .before .before .before .before .pre)) }

@@ -42,7 +42,7 @@ count-in-requires : tie.Need-count-in-requires
 count-in-requires c κs =
     let t = c .before .before .before .before .before .before .before in
     let w = t .before .waits .ensures (not-false _ (t .if1 .left)) in
-    (w .store .unit-least, w .store .unit-most)
+    w .store .unit-size
 
 wait-few-requires : tie.Need-wait-few-requires
 wait-few-requires c κs =

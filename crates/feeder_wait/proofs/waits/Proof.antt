@@ -5,9 +5,10 @@ use native.Mathlib.Omega.{arith}
 use borrow.Author.Needs.{needs}
 use borrow.Author.Tests.{eqb-true}
 use denote.Ref.{now}
+use Rattle.rules.proofs.Refusal.{unit-right}
 use Rattle.node.specs.Memory.{levelOf}
 use Rattle.capture.specs.Record.{lentOf}
-use Rattle.feeder_wait.proofs.Bounds.{unit-two, slots-fit, waiting-is}
+use Rattle.feeder_wait.proofs.Bounds.{slots-fit, waiting-is}
 use Rattle.feeder_wait.proofs.waits.Statement.{statement}
 use Rattle.feeder_wait.proofs.waits.Tie as tie
 
@@ -33,7 +34,7 @@ returns-3 : tie.Need-returns-3
 returns-3 c e = absurd (let z : _≡_ {A = ℕ} 0 1 = cc in omega arith)
 
 memory-short-requires : tie.Need-memory-short-requires
-memory-short-requires c κs = let k = c .before .before in record { unit = unit-two _ (sym (k .before .unit-wrong .ensures) ∙ k .if2 .left); capacity = c .if3 .left }
+memory-short-requires c κs = let k = c .before .before in record { unit-size = unit-right _ .0 (sym (k .before .unit-wrong .ensures) ∙ k .if2 .left); capacity = c .if3 .left }
 
 returns-4 : tie.Need-returns-4
 returns-4 c e = absurd (let z : _≡_ {A = ℕ} 0 1 = cc in omega arith)

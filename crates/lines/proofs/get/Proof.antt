@@ -5,6 +5,7 @@ use native.Mathlib.Nat.{mul-one}
 use native.Mathlib.Omega.{arith}
 use denote.Ref.{now}
 use Rattle.rules.specs.Sample.{sampleOf, little}
+use Rattle.rules.proofs.Sample.{unit-two}
 use Rattle.lines.specs.Held.{Held}
 use Rattle.lines.proofs.get.Statement.{statement}
 use Rattle.lines.proofs.get.Tie as tie
@@ -13,11 +14,8 @@ use Rattle.lines.proofs.get.Tie as tie
 room : (u i n k : ℕ) → Held u i n → u ≡ k → i * k + k ≤ n
 room u i n k h e = subst (λ (v : ℕ). i * v + v ≤ n) e (h .room)
 
-is-two : (u : ℕ) → 1 ≤ u → u ≤ 2 → (u ≡ 1 → ⊥) → u ≡ 2
-is-two u a b f = omega arith
-
 two : (u i n : ℕ) → Held u i n → (u ≡ 1 → ⊥) → i * 2 + 2 ≤ n
-two u i n h f = room u i n 2 h (is-two u (h .low) (h .high) f)
+two u i n h f = room u i n 2 h (unit-two (h .unit-size) f)
 
 one-byte-requires : tie.Need-one-byte-requires
 one-byte-requires c κs = let a = c .before .before in omega (arith, room _ (a .args .i) _ 1 (a .pre) (c .if1 .taken))
@@ -41,7 +39,7 @@ unfolding sampleOf
 returns-2 c =
     let a = c .before .before .before in
     c .two-bytes .ensures
-    ∙ ap (λ (u : ℕ). little u (now (a .args .bytes)) (a .args .i * u)) (sym (is-two _ (a .pre .low) (a .pre .high) (c .before .if1 .left)))
+    ∙ ap (λ (u : ℕ). little u (now (a .args .bytes)) (a .args .i * u)) (sym (unit-two (a .pre .unit-size) (c .before .if1 .left)))
 
 pub get-spec : {M : Type 1} → statement M
 get-spec = tie.close (tie.spec one-byte-requires mul-two-bytes two-bytes-requires returns returns-2)

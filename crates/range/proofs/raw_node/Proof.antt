@@ -5,12 +5,10 @@ use native.Mathlib.Omega.{arith}
 use denote.Ref.{now}
 use Rattle.rules.specs.Sample.{sampleOf}
 use Rattle.rules.specs.Node.{nodeOf}
+use Rattle.rules.proofs.Sample.{unit-two}
 use Rattle.range.specs.Part.{RangeIn}
 use Rattle.range.proofs.raw_node.Statement.{statement}
 use Rattle.range.proofs.raw_node.Tie as tie
-
-is-two : (u : ℕ) → 1 ≤ u → u ≤ 2 → (u ≡ 1 → ⊥) → u ≡ 2
-is-two u a b f = omega arith
 
 -- the range's room, at a unit that is known
 room : (u a b n k : ℕ) → RangeIn u a b n → u ≡ k → b * k ≤ n
@@ -24,7 +22,7 @@ raw-one-requires c κs =
 raw-two-requires : tie.Need-raw-two-requires
 raw-two-requires c κs =
     let s = c .before .before in
-    (s .pre .some, room _ _ (s .args .b) _ 2 (s .pre) (is-two _ (s .pre .low) (s .pre .high) (c .if1 .left)))
+    (s .pre .some, room _ _ (s .args .b) _ 2 (s .pre) (unit-two (s .pre .unit-size) (c .if1 .left)))
 
 returns : tie.Need-returns
 returns c =
@@ -35,7 +33,7 @@ returns-2 : tie.Need-returns-2
 returns-2 c =
     let s = c .before .before .before in
     c .raw-two .ensures
-    ∙ ap (λ (u : ℕ). nodeOf (sampleOf u (now (s .args .part))) (s .args .a) (s .args .b)) (sym (is-two _ (s .pre .low) (s .pre .high) (c .before .if1 .left)))
+    ∙ ap (λ (u : ℕ). nodeOf (sampleOf u (now (s .args .part))) (s .args .a) (s .args .b)) (sym (unit-two (s .pre .unit-size) (c .before .if1 .left)))
 
 pub raw-node-spec : {M : Type 1} → statement M
 raw-node-spec = tie.close (tie.spec raw-one-requires raw-two-requires returns returns-2)

@@ -29,7 +29,7 @@ rebuild-each-requires c κs =
     let i = w .before .before in
     let s = i .before .before .before in
     let r = room _ (s .args .base) (s .args .first) (s .args .top) _ _ (s .pre) (i .if1 .taken) in
-    record { low = r .low; high = r .high; fits = r .fits; from = omega (arith, r .from, w .rebuild-whole .ensures .0); samples = r .samples; nodes = omega (arith, r .nodes) }
+    record { unit-size = r .unit-size; fits = r .fits; from = omega (arith, r .from, w .rebuild-whole .ensures .0); samples = r .samples; nodes = omega (arith, r .nodes) }
 
 rebuild-each-requires-2 : tie.Need-rebuild-each-requires-2
 rebuild-each-requires-2 c κs = search needs

@@ -27,7 +27,7 @@ copy-at-requires-3 c κs = search needs
 rebuild-levels-requires : tie.Need-rebuild-levels-requires
 rebuild-levels-requires c κs =
     let s = c .before .before .before .before .before .before .before .before .before .before .before .before .before .before .before .before .before .before .before .before .before .before .before .before .before in
-    record { low = s .pre .room .low; high = s .pre .room .high; fits = s .pre .room .fits; samples = search needs; nodes = s .pre .room .nodes }
+    record { unit-size = s .pre .room .unit-size; fits = s .pre .room .fits; samples = search needs; nodes = s .pre .room .nodes }
 
 same-length : tie.Need-same-length
 same-length c = search needs

@@ -39,7 +39,7 @@ raw-node-requires c κs =
     let a = s .args in
     let e = end-inside (a .pos) (a .b) (c .before .before .before .best-level .result) (c .before .before .span .result) (c .before .run-end .result) (s .pre .2) (c .before .before .before .best-level .ensures) (c .before .before .span .ensures .0) (c .before .run-end .ensures) in
     let r = s .pre .0 in
-    range-in (a .unitsize) (a .base) (a .b) _ (a .pos) (c .before .run-end .result) (r .low) (r .high) (r .samples) (s .pre .1) (e .0) (e .1)
+    range-in (a .unitsize) (a .base) (a .b) _ (a .pos) (c .before .run-end .result) (r .unit-size) (r .samples) (s .pre .1) (e .0) (e .1)
 
 returns : tie.Need-returns
 returns c =

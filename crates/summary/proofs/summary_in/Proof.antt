@@ -33,8 +33,7 @@ raw-node-requires c κs =
     let p = s .pre in
     let a = s .args in
     record {
-      low = p .sound .unit-least;
-      high = p .sound .unit-most;
+      unit-size = p .sound .unit-size;
       some = p .order;
       room = omega (arith, p .sound .samples, mul-le-mul-right {m = a .b} {n = a .c .capacity} (a .c .unitsize) (omega (arith, p .stored, p .sound .len-most)));
     }
