@@ -27,7 +27,7 @@ module _ {X A B : Type 0} {may₁ may₂ : X → Type 0} {told : X → A} {x y :
   pub same-seen : Agree may₁ may₂ (λ v. view (told v)) → view x ≡ view y
   same-seen a = sym (ap view (one .is (one .answer) (one .allowed))) ∙ a (one .answer) (two .answer) (one .allowed) (two .allowed) ∙ ap view (two .is (two .answer) (two .allowed))
 
-given-same : {A : Type 0} (x y : A) → given x ≡ given y → x ≡ y
+pub given-same : {A : Type 0} (x y : A) → given x ≡ given y → x ≡ y
 given-same x y e = cc
 
 -- a refusal is seen as it is

@@ -13,6 +13,7 @@ use Rattle.rules.specs.Search.{summary, cutSummary}
 use Rattle.rules.specs.Walk.{Walked, Counted}
 use Rattle.rules.specs.Burst.{Burst}
 use Rattle.rules.specs.Refusal.{firstOf, viewRows}
+use Rattle.rules.specs.Answer.{unless}
 use Rattle.rules.specs.Pixel.{render, cutPixels}
 use Rattle.claim_alike.specs.Alike.{Alike}
 use Rattle.claim_alike.proofs.Alike.{same-alike, alike-same}
@@ -47,7 +48,7 @@ summed-same v o₁ o₂ old e =
 cut-append : (v : ℕ) (a b rest : List ℕ) → cutPixels v a ≡ cutPixels v b → cutPixels v (a ++ rest) ≡ cutPixels v (b ++ rest)
 cut-append v a b rest e = map-append (λ (x : ℕ). bitAnd x v) a rest ∙ ap (λ (l : List ℕ). l ++ cutPixels v rest) e ∙ sym (map-append (λ (x : ℕ). bitAnd x v) b rest)
 
-drawn-same : (v n width : ℕ) (a b old : List ℕ) → cutPixels v a ≡ cutPixels v b → cutDrawn v (drawn n width a old) ≡ cutDrawn v (drawn n width b old)
+drawn-same : (v n width : ℕ) (a b old : List ℕ) → cutPixels v a ≡ cutPixels v b → cutDrawn v (drawn (unless n a) width old) ≡ cutDrawn v (drawn (unless n b) width old)
 drawn-same v zero width a b old e = λ i. record { code = 0; output = cut-append v a b (drop (2 * width) old) e i }
 drawn-same v (suc n) width a b old e = refl
 

@@ -3,7 +3,7 @@ use mathlib.Core.Path.{_≡_, refl, sym, ap, ap₂, _∙_, subst, subst⁻¹}
 use mathlib.Core.Bool.{Bool, true, false, cond}
 use mathlib.Core.List.{List, [], _∷_, _++_}
 use mathlib.Core.Option.{Option, none, some}
-use Prim.Native.Nat.{ℕ, zero, suc, _*_}
+use Prim.Native.Nat.{ℕ, zero, suc, _+_, _*_}
 use native.Mathlib.Nat.{suc-ne-zero}
 use lib.Dec.{eqb}
 use lib.Ieee.{Float}
@@ -16,32 +16,35 @@ use Rattle.rules.specs.Search.{summary}
 use Rattle.rules.specs.Walk.{Walked, Counted, nextSearch, previousSearch}
 use Rattle.rules.specs.Burst.{Burst, burstSearch}
 use Rattle.rules.specs.Pixel.{pixelRange, render}
-use Rattle.rules.specs.Refusal.{firstOf, viewRows, renderRefusal}
-use Rattle.rules.specs.Answer.{Answer, given, unless, unrefused}
+use Rattle.rules.specs.Refusal.{firstOf, getRow, copied, copyRow, samplesRefusal, viewRows, renderRefusal}
+use Rattle.rules.specs.Answer.{Answer, refused, given, unless, unrefused}
+use Rattle.rules.proofs.Sample.{list-length, list-same}
 use Rattle.rules.proofs.SampleBytes.{list-whole}
 use Rattle.rules.proofs.Refusal.{rows-left}
 use Rattle.claim_alike.proofs.Below.{render-below}
 use Rattle.capture.specs.declared.Capture.{Capture}
 use Rattle.capture.specs.declared.Mark.the-variants.{Absent, At}
 use Rattle.capture.specs.Record.{markOf, storeOf, lentOf}
+use Rattle.rules.specs.Reading.{copiedTo}
+use Rattle.capture.proofs.Calls.{over-none}
 use Rattle.summary.specs.Summary.{summed}
 use Rattle.pixel.specs.declared.View as pixel
 use Rattle.render.specs.declared.Drawn.{Drawn}
 use Rattle.render.specs.Render as drawing
 use Rattle.render.proofs.Answers.{render-row, render-refused}
-use Rattle.codes.specs.Code.{perhaps, Out}
+use Rattle.codes.specs.Code.{plain, perhaps, Out}
 use Rattle.codes.specs.Sought.{Sought}
 use Rattle.codes.specs.Record.{captureIn, nodeNumbers, burstNumbers, number}
 use Rattle.logic_core.specs.Asked.{DrawsOut}
 use Rattle.claim_captures.specs.Words.{Memory, levels, Ref, Places, at, Answered}
 use Rattle.claim_captures.specs.Claim.{Held}
 use Rattle.claim_captures.specs.Claim as calls
-use Rattle.claim_captures.proofs.Answers.{answers, agree, right, drawn-for, anywhere, somewhere}
-use Rattle.claim_exports.specs.Questions.{One, lenIn, markIn, MaySummary, MayNext, MayPrevious, MayBurst, MayRender, found, bursted, drawn, viewOf, Answers}
+use Rattle.claim_captures.proofs.Answers.{answers, agree, right, asked-run, copied-inside, drawn-for, anywhere, somewhere}
+use Rattle.claim_exports.specs.Questions.{One, lenIn, markIn, MayGet, MaySamples, MaySummary, MayNext, MayPrevious, MayBurst, MayRender, found, bursted, drawn, viewOf, Answers}
 use Rattle.claim_exports.specs.Questions as told
 
 -- what a question of the calls answers is what its contract asks for
-asked-is : {X A : Type 0} {told : X → A} {asked x : A} → Answered (λ v. (κs : Lfts 2) × (p : Places) × (told v ≡ asked)) told x → asked ≡ x
+pub asked-is : {X A : Type 0} {told : X → A} {asked x : A} → Answered (λ v. (κs : Lfts 2) × (p : Places) × (told v ≡ asked)) told x → asked ≡ x
 asked-is a = sym (a .allowed .2) ∙ a .is (a .answer) (a .allowed)
 
 -- the mark, as the record's numbers hold it
@@ -54,7 +57,7 @@ mark-held numbers = go (eqb (getD numbers 3 0) 0)
 
 -- ---- a code and numbers for each of 01's answers, and no others
 -- all numbers behind a pointer are written
-three : (n : Node) (old : List ℕ) → length old ≡ 3 → nodeNumbers n old ≡ n .first ∷ n .last ∷ n .toggles ∷ []
+pub three : (n : Node) (old : List ℕ) → length old ≡ 3 → nodeNumbers n old ≡ n .first ∷ n .last ∷ n .toggles ∷ []
 unfolding listFrom
 three n old size = ap (nodeNumbers n) (list-whole 3 old size)
 
@@ -62,12 +65,26 @@ four : (b : Burst) (old : List ℕ) → length old ≡ 4 → burstNumbers b old 
 unfolding listFrom
 four b old size = ap (burstNumbers b) (list-whole 4 old size)
 
+pub got-only : (x : Answer ℕ) (old : ℕ) (v : told.Got) → Out number (plain x) (v .code) old (v .value) → v ≡ told.got x old
+got-only (refused n) old v out = λ i. record { code = out .code-is i; value = out .value-is i }
+got-only (given a) old v out = λ i. record { code = out .code-is i; value = out .value-is i }
+
+pub got-out : (x : Answer ℕ) (old : ℕ) → Out number (plain x) (told.got x old .code) old (told.got x old .value)
+got-out (refused n) old = record { code-is = refl; value-is = refl }
+got-out (given a) old = record { code-is = refl; value-is = refl }
+
+-- samples that were copied, k of them
+pub copies-only : (n k : ℕ) (f : ℕ → ℕ) (i : ℕ) (output : List ℕ) (old : ℕ) (v : told.Copied) → Out number (plain (unless n k)) (v .code) old (v .copied) → v .output ≡ copiedTo f i (unrefused n k) output → v ≡ told.copies (unless n (listFrom f i k)) output old
+unfolding copiedTo
+copies-only zero k f i output old v out e = λ j. record { code = out .code-is j; copied = (out .value-is ∙ sym (list-length f i k)) j; output = (e ∙ ap (λ (x : ℕ). listFrom f i k ++ drop x output) (sym (list-length f i k))) j }
+copies-only (suc n) k f i output old v out e = λ j. record { code = out .code-is j; copied = out .value-is j; output = (e ∙ sym (over-none f i output)) j }
+
 module _ (old : List ℕ) (size : length old ≡ 3) where
-  summed-only : (o : Option Node) (v : told.Summed) → Out nodeNumbers (perhaps (given o)) (v .code) old (v .node) → v ≡ told.summed o old
+  pub summed-only : (o : Option Node) (v : told.Summed) → Out nodeNumbers (perhaps (given o)) (v .code) old (v .node) → v ≡ told.summed o old
   summed-only none v out = λ i. record { code = out .code-is i; node = out .value-is i }
   summed-only (some n) v out = λ i. record { code = out .code-is i; node = (out .value-is ∙ three n old size) i }
 
-  summed-out : (o : Option Node) → Out nodeNumbers (perhaps (given o)) (told.summed o old .code) old (told.summed o old .node)
+  pub summed-out : (o : Option Node) → Out nodeNumbers (perhaps (given o)) (told.summed o old .code) old (told.summed o old .node)
   summed-out none = record { code-is = refl; value-is = refl }
   summed-out (some n) = record { code-is = refl; value-is = sym (three n old size) }
 
@@ -99,6 +116,40 @@ module _ {run : List ℕ} {mark : Option ℕ} (numbers : List ℕ) (m : Memory) 
 
   abbrev below : calls.Answers run c m
   below = answers c m h
+
+  get-is : (i value : ℕ) → Answered (MayGet numbers m i value) (λ v. v) (told.got (unless (firstOf (getRow (length run) i ∷ [])) (at run i)) value)
+  get-is i value =
+      let e = asked-is (below .get-is i) in
+      let x = unless (firstOf (getRow (length run) i ∷ [])) (at run i) in
+      record {
+        is = λ v may. got-only x value v (subst (λ (y : Answer ℕ). Out number (plain y) (v .code) value (v .value)) e (may .4));
+        answer = told.got x value;
+        allowed = (([], ([], ([], ([], tt)))), anywhere, somewhere, nowhere, subst⁻¹ (λ (y : Answer ℕ). Out number (plain y) (told.got x value .code) value (told.got x value .value)) e (got-out x value));
+      }
+
+  -- ---- samples
+  module _ (start count : ℕ) (output : List ℕ) (old : ℕ) where
+    abbrev copy-refusal : ℕ
+    copy-refusal = samplesRefusal (storeOf c) (lentOf (m .samples) (levels m)) start count (length output)
+
+    abbrev k : ℕ
+    k = copied (c .len) start count
+
+    samples-are : Answered (MaySamples numbers m start count output old) (λ v. v)
+        (told.copies (unless (firstOf (copyRow (length run) start count (length output) ∷ [])) (listFrom (at run) start (copied (length run) start count))) output old)
+    samples-are = record {
+      is = λ v may.
+          copies-only copy-refusal k (sampleOf (c .unitsize) (m .samples)) start output old v (may .5 .count-is) (may .5 .output-is)
+          ∙ ap (λ (x : Answer (List ℕ)). told.copies x output old)
+          (asked-run c m h (λ x n. copyRow n start count (length output) ∷ []) (λ f x n. listFrom f start (copied n start count))
+          (λ z. list-same (sampleOf (c .unitsize) (m .samples)) (at run) start start k (λ i l. agree c m h (start + i) (copied-inside (c .len) start count i l))));
+      answer = record {
+        code = told.got (unless copy-refusal k) old .code;
+        copied = told.got (unless copy-refusal k) old .value;
+        output = copiedTo (sampleOf (c .unitsize) (m .samples)) start (unrefused copy-refusal k) output;
+      };
+      allowed = (([], ([], ([], ([], ([], tt))))), anywhere, somewhere, anywhere, nowhere, record { count-is = got-out (unless copy-refusal k) old; output-is = refl });
+    }
 
   summary-is : (a b : ℕ) (node : List ℕ) → length node ≡ 3 → Answered (MaySummary numbers m a b node) (λ v. v) (told.summed (summary (at run) (length run) a b) node)
   summary-is a b node size =
@@ -186,7 +237,7 @@ module _ {run : List ℕ} {mark : Option ℕ} (numbers : List ℕ) (m : Memory) 
     decides : refusal ≡ firstOf (viewRows (viewOf start spp) width (length output))
     decides = rows-left (storeOf c) (lentOf (m .samples) (levels m)) (h .passes) (viewRows (viewOf start spp) width (length output))
 
-    drawn-only : (v : told.Drawn) → DrawsOut c (m .samples) (levels m) start spp width output (v .code) (v .output) → v ≡ drawn refusal width (render (at run) (length run) (viewOf start spp) width) output
+    drawn-only : (v : told.Drawn) → DrawsOut c (m .samples) (levels m) start spp width output (v .code) (v .output) → v ≡ drawn (unless refusal (render (at run) (length run) (viewOf start spp) width)) width output
     drawn-only v out = go refusal refl
       where
         r : (r : Drawn) × (drawing.drawnOf r ≡ unless refusal tt)
@@ -196,7 +247,7 @@ module _ {run : List ℕ} {mark : Option ℕ} (numbers : List ℕ) (m : Memory) 
         call : drawing.Draws (summed (levels m) t) (storeOf c) (lentOf (m .samples) (levels m)) (viewOf start spp) width output (r .0) (v .output)
         call = record { answer-is = r .1; output-is = out .output-is }
 
-        go : (n : ℕ) → refusal ≡ n → v ≡ drawn n width (render (at run) (length run) (viewOf start spp) width) output
+        go : (n : ℕ) → refusal ≡ n → v ≡ drawn (unless n (render (at run) (length run) (viewOf start spp) width)) width output
         go zero e = λ i. record { code = (out .code-is ∙ e) i; output = row i }
           where
             row : v .output ≡ render (at run) (length run) (viewOf start spp) width ++ drop (2 * width) output
@@ -209,12 +260,12 @@ module _ {run : List ℕ} {mark : Option ℕ} (numbers : List ℕ) (m : Memory) 
             same = render-refused ([], ([], ([], tt))) c (at-last anywhere (m .samples)) (at-last anywhere (m .l1)) (at-last anywhere (m .l2)) (at-last anywhere (m .l3)) (at-last anywhere (m .l4)) view width (at-last anywhere output) (r .0) (v .output) call (λ z. suc-ne-zero n (sym e ∙ z))
 
     render-is : Answered (MayRender numbers m start spp width output) (λ v. v)
-        (drawn (firstOf (viewRows (viewOf start spp) width (length output))) width (render (at run) (length run) (viewOf start spp) width) output)
+        (drawn (unless (firstOf (viewRows (viewOf start spp) width (length output))) (render (at run) (length run) (viewOf start spp) width)) width output)
     render-is = record {
-      is = λ v may. drawn-only v (may .4) ∙ ap (λ (n : ℕ). drawn n width (render (at run) (length run) (viewOf start spp) width) output) decides;
+      is = λ v may. drawn-only v (may .4) ∙ ap (λ (n : ℕ). drawn (unless n (render (at run) (length run) (viewOf start spp) width)) width output) decides;
       answer = record { code = refusal; output = drawing.drawn (summed (levels m) t) (pixelRange (viewOf start spp) (c .len)) (unrefused refusal width) output };
       allowed = (([], ([], ([], ([], tt)))), anywhere, somewhere, anywhere, record { code-is = refl; output-is = refl });
     }
 
   pub exports-answer : Answers run numbers m
-  exports-answer = record { summary-is = summary-is; next-is = next-is; previous-is = previous-is; burst-is = burst-is; render-is = render-is }
+  exports-answer = record { get-is = get-is; samples-are = samples-are; summary-is = summary-is; next-is = next-is; previous-is = previous-is; burst-is = burst-is; render-is = render-is }

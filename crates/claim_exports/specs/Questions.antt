@@ -5,19 +5,22 @@ use mathlib.Core.Path.{_≡_}
 use mathlib.Core.Bool.{cond}
 use mathlib.Core.List.{List, [], _∷_, _++_}
 use mathlib.Core.Option.{Option, none, some}
-use Prim.Native.Nat.{ℕ, zero, suc, _*_}
+use Prim.Native.Nat.{ℕ, _*_}
 use lib.Dec.{eqb}
 use lib.Ieee.{Float}
 use lib.ListN.{length, drop, getD}
 use contract.Lifetimes.{Lfts}
 use denote.Ref.{RefT, at-last}
+use Rattle.rules.specs.Sample.{listFrom, Word, Within}
 use Rattle.rules.specs.Node.{Node}
 use Rattle.rules.specs.Search.{summary}
 use Rattle.rules.specs.Walk.{Walked, Counted, nextSearch, previousSearch}
 use Rattle.rules.specs.Burst.{Burst, burstSearch}
 use Rattle.rules.specs.Pixel.{View, render, cutPixels}
-use Rattle.rules.specs.Refusal.{firstOf, viewRows}
-use Rattle.rules.specs.Sample.{Word, Within}
+use Rattle.rules.specs.Refusal.{firstOf, getRow, copied, copyRow, viewRows}
+use Rattle.rules.specs.Answer.{Answer, refused, given, unless}
+use Rattle.logic_core.proofs.lc_get.Reads as lc-get
+use Rattle.logic_core.proofs.lc_samples.Reads as lc-samples
 use Rattle.logic_core.proofs.lc_summary.Reads as lc-summary
 use Rattle.logic_core.proofs.lc_next_change.Reads as lc-next-change
 use Rattle.logic_core.proofs.lc_prev_change.Reads as lc-prev-change
@@ -35,6 +38,37 @@ markIn numbers = cond (eqb (getD numbers 3 0) 0) none (some (getD numbers 4 0))
 -- a number behind a pointer
 abbrev pub One : Type 0
 One = RefT ℕ
+
+-- ---- lc_get: the code, and the number behind `value`
+pub record Got : Type 0 where
+  pub code : ℕ
+  pub value : ℕ
+
+abbrev pub MayGet : List ℕ → Memory → ℕ → ℕ → Got → Type 0
+MayGet numbers m i value v =
+    (κs : Lfts 4) × (n : Ref) × (p : Places) × (o : One)
+    × lc-get.Post κs (lending (at-last n numbers) p m (i, (at-last o value, tt))) (v .code) (lending (at-last n numbers) p m (i, (at-last o (v .value), tt)))
+
+-- 0 with the sample; a refusal's number, and what stood there
+abbrev pub got : Answer ℕ → ℕ → Got
+got (refused n) old = record { code = n; value = old }
+got (given x) old = record { code = 0; value = x }
+
+-- ---- lc_samples: the code, the number behind `copied`, and output
+pub record Copied : Type 0 where
+  pub code : ℕ
+  pub copied : ℕ
+  pub output : List ℕ
+
+abbrev pub MaySamples : List ℕ → Memory → ℕ → ℕ → List ℕ → ℕ → Copied → Type 0
+MaySamples numbers m start count output old v =
+    (κs : Lfts 5) × (n : Ref) × (p : Places) × (o : Ref) × (k : One)
+    × lc-samples.Post κs (lending (at-last n numbers) p m (start, (count, (at-last o output, (at-last k old, tt))))) (v .code) (lending (at-last n numbers) p m (start, (count, (at-last o (v .output), (at-last k (v .copied), tt)))))
+
+-- 0 with the samples, and after them what output held; a refusal's number, and all as it was
+abbrev pub copies : Answer (List ℕ) → List ℕ → ℕ → Copied
+copies (refused n) output old = record { code = n; copied = old; output = output }
+copies (given samples) output old = record { code = 0; copied = length samples; output = samples ++ drop (length samples) output }
 
 -- ---- lc_summary: the code, and the three numbers behind `node`
 pub record Summed : Type 0 where
@@ -103,12 +137,16 @@ MayRender numbers m start spp width output v =
     × lc-render.Post κs (lending (at-last n numbers) p m (start, (spp, (width, (at-last o output, tt))))) (v .code) (lending (at-last n numbers) p m (start, (spp, (width, (at-last o (v .output), tt)))))
 
 -- 0 with the pixels, and after them what output held; a refusal's number, and output as it was
-abbrev pub drawn : ℕ → ℕ → List ℕ → List ℕ → Drawn
-drawn zero width pixels old = record { code = 0; output = pixels ++ drop (2 * width) old }
-drawn (suc n) width pixels old = record { code = suc n; output = old }
+abbrev pub drawn : Answer (List ℕ) → ℕ → List ℕ → Drawn
+drawn (refused n) width old = record { code = n; output = old }
+drawn (given pixels) width old = record { code = 0; output = pixels ++ drop (2 * width) old }
 
 -- ---- "Each of these answers .. is 01's for its run"
 pub record Answers (run : List ℕ) (numbers : List ℕ) (m : Memory) : Type 0 where
+  pub get-is : (i value : ℕ) → Answered (MayGet numbers m i value) (λ v. v) (got (unless (firstOf (getRow (length run) i ∷ [])) (at run i)) value)
+  pub samples-are : (start count : ℕ) (output : List ℕ) (old : ℕ)
+      → Answered (MaySamples numbers m start count output old) (λ v. v)
+      (copies (unless (firstOf (copyRow (length run) start count (length output) ∷ [])) (listFrom (at run) start (copied (length run) start count))) output old)
   pub summary-is : (a b : ℕ) (node : List ℕ) → length node ≡ 3 → Answered (MaySummary numbers m a b node) (λ v. v) (summed (summary (at run) (length run) a b) node)
   pub next-is : (mask from place read : ℕ)
       → Answered (MayNext numbers m mask from place read) (λ v. v) (found (nextSearch (at run) (length run) mask from .found) (nextSearch (at run) (length run) mask from .steps) place)
@@ -119,7 +157,7 @@ pub record Answers (run : List ℕ) (numbers : List ℕ) (m : Memory) : Type 0 w
       (bursted (burstSearch (at run) (length run) mask sample gap tolerance budget .found) (burstSearch (at run) (length run) mask sample gap tolerance budget .steps) ends)
   pub render-is : (start spp : Float) (width : ℕ) (output : List ℕ)
       → Answered (MayRender numbers m start spp width output) (λ v. v)
-      (drawn (firstOf (viewRows (viewOf start spp) width (length output))) width (render (at run) (length run) (viewOf start spp) width) output)
+      (drawn (unless (firstOf (viewRows (viewOf start spp) width (length output))) (render (at run) (length run) (viewOf start spp) width)) width output)
 
 -- ---- looking alike
 -- "Cutting down takes first, last and toggles AND that mask"
