@@ -12,9 +12,20 @@ use Rattle.append.proofs.Answer.{room-of, refused-first, refused-full, 
 use Rattle.append.proofs.append.Statement.{statement}
 use Rattle.append.proofs.append.Tie as tie
 
+-- the function's start, from where its slices are known
+abbrev start-at : tie.After-shared-slice-known → tie.Start
+start-at p = p .before .before .before .before .before .before
+
+-- the call that stores, from where all is lent back
+abbrev stored-at : tie.After-slice-known10 → tie.After-append-samples
+stored-at p =
+    let l2 = p .before .before .before .before .before in
+    l2 .before .before .before .before .before
+
+-- the start from the first test's call, and the levels then
 module _ (f : tie.After-refusal) where
   abbrev s : tie.Start
-  s = f .before .before .before .before .before .before .before .before .before .before .before .before
+  s = start-at (f .before .before .before .before .before .before)
 
   abbrev levels : ℕ → List ℕ
   levels = levelOf (now (s .args .l1)) (now (s .args .l2)) (now (s .args .l3)) (now (s .args .l4))
@@ -85,7 +96,7 @@ append-samples-requires c κs =
 
 add-t24 : tie.Need-add-t24
 add-t24 c =
-    let t = c .before .before .before .before .before .before .before .before .before .before .before .before .before .before .before .before in
+    let t = stored-at c .before .before .before .before .before .before in
     let d = bounds (t .before .before) in
     omega (arith, t .if2 .left, d .len-most, d .capacity-most)
 
@@ -106,7 +117,7 @@ same-length-15 c = search needs
 
 returns-3 : tie.Need-returns-3
 returns-3 c =
-    let w = c .before .before .before .before .before .before .before .before .before .before in
+    let w = stored-at c in
     let t = w .before .before .before .before .before .before in
     let e = t .before .before in
     let f = e .before in

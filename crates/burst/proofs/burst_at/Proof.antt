@@ -19,6 +19,10 @@ use Rattle.burst.proofs.Grown.{grownFrom, grown-none, grown-some, burst
 use Rattle.burst.proofs.burst_at.Statement.{statement}
 use Rattle.burst.proofs.burst_at.Tie as tie
 
+-- the function's start, past its refusal
+abbrev start-of : tie.Else1 → tie.Start
+start-of p = p .before .before .before .before .before .before .before
+
 -- the two searches
 abbrev back-at : tie.Start → ℕ → Walked
 back-at s = back (s .args .c .unitsize) (s .args .c .len) (now (s .args .samples)) (levelOf (now (s .args .l1)) (now (s .args .l2)) (now (s .args .l3)) (now (s .args .l4))) (s .args .mask)
@@ -31,21 +35,21 @@ abbrev burst-at : tie.Start → Counted Burst
 burst-at s = burstedBy (back-at s) (fore-at s) (s .args .c .len) (s .args .sample) (s .args .max-gap) (s .args .tolerance) (s .args .budget)
 
 -- past rows 1 and 2 it is the answer
-told : (k : tie.Else1) (b : Counted Burst) → let s = k .before .before .before .before .before .before .before in b ≡ burst-at s
+told : (k : tie.Else1) (b : Counted Burst) → let s = start-of k in b ≡ burst-at s
     → given b ≡ burstOf (s .args .c) (now (s .args .samples)) (levelOf (now (s .args .l1)) (now (s .args .l2)) (now (s .args .l3)) (now (s .args .l4))) (s .args .mask) (s .args .sample) (s .args .max-gap) (s .args .tolerance) (s .args .budget)
 unfolding burstOf
 told k b e = given-is _ (k .before .refusal .ensures) (k .if1 .left) e
 
 -- and the capture lies in memory
-stored : (h : tie.Else2) → let s = h .before .before .before .before .before .before .before .before in Stored (s .args .c .unitsize) (s .args .c .len) (now (s .args .samples)) (levelOf (now (s .args .l1)) (now (s .args .l2)) (now (s .args .l3)) (now (s .args .l4)))
+stored : (h : tie.Else2) → let s = start-of (h .before) in Stored (s .args .c .unitsize) (s .args .c .len) (now (s .args .samples)) (levelOf (now (s .args .l1)) (now (s .args .l2)) (now (s .args .l3)) (now (s .args .l4)))
 stored h =
     let k = h .before in
-    let s = k .before .before .before .before .before .before .before in
+    let s = start-of k in
     stored-of (s .args .c) (now (s .args .samples)) (levelOf (now (s .args .l1)) (now (s .args .l2)) (now (s .args .l3)) (now (s .args .l4))) (let-in (k .before .refusal .ensures) (k .if1 .left))
 
 -- the pair, by the clamped tolerance
 abbrev start-at : tie.After-pair-of → tie.Start
-start-at p = p .before .before .before .before .before .before .before .before .before .before .before
+start-at p = start-of (p .before .before .before .before)
 
 paired : (p : tie.After-pair-of) (side : Option rule.Side) → side ≡ sideAs (p .pair-of .result .side)
     → let s = start-at p in grownFrom (back-at s) (fore-at s) (s .args .max-gap) (s .args .budget) (counted side (p .pair-of .result .read)) ≡ burst-at s
@@ -90,13 +94,13 @@ returns c = refused-is _ (c .before .refusal .ensures) (c .if1 .taken)
 returns-2 : tie.Need-returns-2
 returns-2 c =
     let k = c .before in
-    let s = k .before .before .before .before .before .before .before in
+    let s = start-of k in
     told k (counted none 0) (burst-empty (back-at s) (fore-at s) (s .args .c .len) (s .args .sample) (s .args .max-gap) (s .args .tolerance) (s .args .budget) (c .if2 .taken))
 
 returns-3 : tie.Need-returns-3
 returns-3 c =
     let k = c .before .before in
-    let s = k .before .before .before .before .before .before .before in
+    let s = start-of k in
     told k (counted none 0) (burst-narrow (back-at s) (fore-at s) (s .args .c .len) (s .args .sample) (s .args .max-gap) (s .args .tolerance) (s .args .budget) (c .before .if2 .left) (c .if3 .taken))
 
 sub-least : tie.Need-sub-least
@@ -136,7 +140,8 @@ add-read-2 c = omega (arith, read-few (c .before .before .before))
 returns-5 : tie.Need-returns-5
 returns-5 c =
     let f = c .before .before .before in
-    told (f .before .before .before .before .before .before .before .before .before) _ (grew f)
+    let p = f .before .before .before .before .before in
+    told (p .before .before .before .before) _ (grew f)
 
 pub burst-at-spec : {M : Type 1} → statement M
 burst-at-spec =

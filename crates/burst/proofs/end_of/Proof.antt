@@ -24,13 +24,17 @@ Inv-loop samples l1 l2 l3 l4 unitsize len mask gap budget start from place₀ ju
 abbrev μ-loop : tie.MeasureT-loop
 μ-loop samples l1 l2 l3 l4 unitsize len mask gap budget start from place₀ jumps₀ read₀ place jumps read = budget - jumps
 
+-- the function's start, from the loop's head
+abbrev start-at : tie.At-loop Inv-loop μ-loop → tie.Start Inv-loop μ-loop
+start-at p = p .before .before .before .before .before .before
+
 -- what a jump may reach, and that the search finds it
 abbrev reach-at : tie.Start Inv-loop μ-loop → ℕ → Walked
 reach-at s = reachIn (s .args .unitsize) (s .args .len) (now (s .args .samples)) (levelOf (now (s .args .l1)) (now (s .args .l2)) (now (s .args .l3)) (now (s .args .l4))) (s .args .mask) (s .args .gap) (s .args .start)
 
-reached : (f : tie.After-seek Inv-loop μ-loop) → reach-at (f .before .before .before .before .before .before .before .before .before) (f .before .before .before .loop .place) ≡ soughtAs (f .seek .result)
+reached : (f : tie.After-seek Inv-loop μ-loop) → reach-at (start-at (f .before .before .before)) (f .before .before .before .loop .place) ≡ soughtAs (f .seek .result)
 reached f =
-    let a = f .before .before .before .before .before .before .before .before .before .args in
+    let a = start-at (f .before .before .before) .args in
     let levels = levelOf (now (a .l1)) (now (a .l2)) (now (a .l3)) (now (a .l4)) in
     sym (f .seek .ensures ∙ ap (cond (a .start) (fore (a .unitsize) (a .len) (now (a .samples)) levels (a .mask)) (back (a .unitsize) (a .len) (now (a .samples)) levels (a .mask))) (f .before .far .ensures))
 
@@ -49,7 +53,7 @@ add-read : tie.Need-add-read Inv-loop μ-loop
 add-read c =
     let f = c .before in
     let l = f .before .before .before in
-    let s = l .before .before .before .before .before .before in
+    let s = start-at l in
     let a = s .args in
     omega (
       arith,

@@ -27,7 +27,9 @@ side-at s = sidedBy (back-at s) (fore-at s) (s .args .start) (s .args .gap) (s .
 
 -- where the distance of a change is known: the change, and the search for the one beyond it
 abbrev start-at : tie.After-less → tie.Start
-start-at d = d .before .before .before .before .before .before .before .before .before .before .before
+start-at d =
+    let known = d .before .before .before .before .before .before in
+    known .before .before .before .before .before
 
 abbrev near-at : tie.After-less → ℕ
 near-at d = d .before .before .before .before .found .given .0 .0

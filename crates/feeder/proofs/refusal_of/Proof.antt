@@ -16,7 +16,7 @@ use Rattle.feeder.proofs.refusal_of.Tie as tie
 
 module _ (f : tie.After-refusal) where
   abbrev s : tie.Start
-  s = f .before .before .before .before .before .before .before .before
+  s = let known = f .before .before in known .before .before .before .before .before .before
 
   abbrev recorder : Recorder
   recorder = recorderOf (s .args .f)

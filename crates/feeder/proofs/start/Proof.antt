@@ -27,7 +27,7 @@ abbrev ring : tie.Start → ℕ
 ring s = length (now (s .args .ring))
 
 abbrev start : tie.After-settings-refusal → tie.Start
-start n = n .before .before .before .before .before .before .before .before
+start n = let known = n .before .before in known .before .before .before .before .before .before
 
 returns : tie.Need-returns
 returns c =

@@ -69,7 +69,11 @@ element-copy-out-t47 : tie.Need-element-copy-out-t47
 element-copy-out-t47 c = search needs
 
 returns : tie.Need-returns
-returns c = read (now (c .before .before .before .before .before .before .before .before .before .before .before .before .before .before .before .before .before .before .before .before .before .args .numbers)) (c .before .before .before .before .before .before .before .before .before .before .before .before .before .before .before .mark-in .ensures) (c .before .before .before .before .before .before .before .before .before .masks-in .ensures) (c .before .before .before .before .before .armed-in .ensures) (c .before .before .previous-in .ensures)
+returns c =
+    let armed = c .before .before .before .before .before in
+    let masks = armed .before .before .before .before in
+    let mark = masks .before .before .before .before .before .before in
+    read (now (mark .before .before .before .before .before .before .args .numbers)) (mark .mark-in .ensures) (masks .masks-in .ensures) (armed .armed-in .ensures) (c .before .before .previous-in .ensures)
 
 pub feeder-in-spec : {M : Type 1} → statement M
 feeder-in-spec =

@@ -55,8 +55,9 @@ put-pushed-requires c κs = search needs
 
 returns : tie.Need-returns
 returns c =
-    let a = c .before .before .before .before .before .before .before .before .before .args in
-    whole-written (a .f) (now (a .numbers)) _ (c .before .before .before .before .before .before .before .masks-of .ensures) (c .put-pushed .ensures)
+    let masks = c .before .before .before .before .before .before .before in
+    let a = masks .before .before .args in
+    whole-written (a .f) (now (a .numbers)) _ (masks .masks-of .ensures) (c .put-pushed .ensures)
 
 pub put-feeder-spec : {M : Type 1} → statement M
 put-feeder-spec =

@@ -15,9 +15,24 @@ use Rattle.feeder_push.proofs.Answered.{pushed-refused, room, all-room,
 use Rattle.feeder_push.proofs.push.Statement.{statement}
 use Rattle.feeder_push.proofs.push.Tie as tie
 
+-- the function's start, from where its slices are known
+abbrev start-at : tie.After-shared-slice-known → tie.Start
+start-at p = p .before .before .before .before .before .before .before
+
+-- the calls that store, from where all is lent back
+abbrev stored-at : tie.After-slice-known11 → tie.After-store-run
+stored-at p =
+    let l2 = p .before .before .before .before .before in
+    l2 .before .before .before .before .before
+
+abbrev fired-at : tie.After-slice-known16 → tie.After-fire
+fired-at p =
+    let l2 = p .before .before .before .before .before in
+    l2 .before .before .before .before .before
+
 module _ (f : tie.After-refusal-of) where
   abbrev s : tie.Start
-  s = f .before .before .before .before .before .before .before .before .before .before .before .before .before .before
+  s = start-at (f .before .before .before .before .before .before .before)
 
   abbrev levels : ℕ → List ℕ
   levels = levelOf (now (s .args .l1)) (now (s .args .l2)) (now (s .args .l3)) (now (s .args .l4))
@@ -68,15 +83,17 @@ enum-told c = search needs
 
 store-run-requires : tie.Need-store-run-requires
 store-run-requires c κs =
-    let i = c .before .before .before .before .before .before .before .before .before in
+    let t = c .before .before .before .before .before .before in
+    let i = t .before .before .before in
     let f = i .before in
     let a = s f .args in
     all-room (a .f) (now (a .samples)) (levels f) (now (a .ring)) (now (a .bytes)) (free i)
 
 answer-requires : tie.Need-answer-requires
 answer-requires c κs =
-    let r = c .before .before .before .before .before .before .before .before .before .before in
-    let i = r .before .before .before .before .before .before .before .before .before .before in
+    let r = stored-at c in
+    let t = r .before .before .before .before .before .before .before in
+    let i = t .before .before .before in
     let f = i .before in
     let a = s f .args in
     taken-fits (recorderOf (a .f)) (now (a .samples)) (levels f) (length (now (a .ring))) (length (now (a .bytes))) _ (room (a .f) (now (a .samples)) (levels f) (now (a .ring)) (now (a .bytes)) (free i)) (r .store-run .result) (r .store-run .ensures)
@@ -101,7 +118,7 @@ same-length-12 c = search needs
 
 returns-2 : tie.Need-returns-2
 returns-2 c =
-    let r = c .before .before .before .before .before .before .before .before .before .before .before in
+    let r = stored-at (c .before) in
     let t = r .before .before .before .before .before .before .before in
     let i = t .before .before .before in
     let f = i .before in
@@ -143,7 +160,7 @@ same-length-18 c = search needs
 
 returns-3 : tie.Need-returns-3
 returns-3 c =
-    let r = c .before .before .before .before .before .before .before .before .before .before in
+    let r = fired-at c in
     let t = r .before .before .before .before .before .before .before in
     let m = t .before .before .before in
     let i = m .before .before .before in

@@ -25,7 +25,7 @@ same-length c = search needs
 returns : tie.Need-returns
 returns c =
     let l = c .before .before .before .before .before .before in
-    let a = c .before .before .before .before .before .before .before .before .before .before .args in
+    let a = l .before .before .before .before .args in
     record {
       recorder-is = waited-is (recorderOf (a .f)) (a .n) (now (a .bytes)) (previousOf (l .last-sample .result)) (c .before .place-after .result) (c .filled .result) (l .last-sample .ensures) (c .before .place-after .ensures) (c .filled .ensures);
       ring-is = c .before .before .before .before .ring-write .ensures;

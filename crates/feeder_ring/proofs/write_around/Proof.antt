@@ -62,11 +62,12 @@ same-length c = search needs
 
 returns : tie.Need-returns
 returns c =
-    let q = c .before .before .before .before .before .before .before .before in
+    let y = c .before .before .before .before .before .before in
+    let q = y .before .before in
     let s = q .before .before .before .before in
     let a = s .args in
     around-is (a .unitsize) (a .pre) (a .place) (a .n) (q .before .lesser .result) _ (q .place-after .result) _ (s .pre .1) (s .pre .2) (q .before .lesser .ensures) refl (q .place-after .ensures) refl
-    (now (a .ring)) _ _ (now (a .bytes)) (s .pre .0 .slots) (s .pre .0 .samples) (c .before .before .before .before .before .before .copy-run .ensures) (c .before .before .copy-run2 .ensures)
+    (now (a .ring)) _ _ (now (a .bytes)) (s .pre .0 .slots) (s .pre .0 .samples) (y .copy-run .ensures) (c .before .before .copy-run2 .ensures)
 
 pub write-around-spec : {M : Type 1} → statement M
 write-around-spec =

@@ -10,12 +10,22 @@ use Rattle.feeder_run.proofs.Cuts.{parts-room, run-written}
 use Rattle.feeder_run.proofs.write_run.Statement.{statement}
 use Rattle.feeder_run.proofs.write_run.Tie as tie
 
+-- the function's start, from where its slices are known
+abbrev start-at : tie.After-shared-slice-known2 → tie.Start
+start-at p = p .before .before .before .before .before .before .before
+
+-- and from the arguments of the call
+abbrev start-of-call : tie.After-append-parts-arg8 → tie.Start
+start-of-call p =
+    let parts = p .before .before .before .before .before .before .before in
+    start-at (parts .before .before .before .before .before .before)
+
 mul-a : tie.Need-mul-a
 mul-a c = search needs
 
 add-a-end : tie.Need-add-a-end
 add-a-end c =
-    let s = c .before .before .before .before .before .before .before .before .before in
+    let s = start-at (c .before .before) in
     omega (arith, s .pre .end-fits, le-mul-of-pos-right (s .args .run .end + s .args .run .older) (s .pre .room .unit-size .least))
 
 mul-a-end : tie.Need-mul-a-end
@@ -26,7 +36,7 @@ mul-b c = search needs
 
 add-b-end : tie.Need-add-b-end
 add-b-end c =
-    let s = c .before .before .before .before .before .before .before .before .before .before .before in
+    let s = start-at (c .before .before .before .before) in
     omega (arith, s .pre .start-fits, le-mul-of-pos-right (s .args .run .start + s .args .run .newer) (s .pre .room .unit-size .least))
 
 mul-b-end : tie.Need-mul-b-end
@@ -37,12 +47,12 @@ mul-c c = search needs
 
 add-c-end : tie.Need-add-c-end
 add-c-end c =
-    let s = c .before .before .before .before .before .before .before .before .before .before .before .before in
+    let s = start-at (c .before .before .before .before .before) in
     omega (arith, s .pre .own-fits, le-mul-of-pos-right (s .args .d + s .args .run .own) (s .pre .room .unit-size .least))
 
 mul-c-end : tie.Need-mul-c-end
 mul-c-end c =
-    let s = c .before .before .before .before .before .before .before .before .before .before .before .before in
+    let s = start-at (c .before .before .before .before .before) in
     omega (arith, s .pre .own-fits, s .good)
 
 sub-append-parts : tie.Need-sub-append-parts
@@ -74,7 +84,7 @@ part-append-parts-end-3 c = search needs
 
 append-parts-requires : tie.Need-append-parts-requires
 append-parts-requires c κs =
-    let s = c .before .before .before .before .before .before .before .before .before .before .before .before .before .before .before .before .before .before .before .before in
+    let s = start-of-call c in
     let a = s .args in
     parts-room (a .unitsize) (a .len) (a .run) (a .d) (length (now (a .samples))) (levelOf (now (a .l1)) (now (a .l2)) (now (a .l3)) (now (a .l4))) (now (a .ring)) (now (a .bytes)) (s .pre)
 
@@ -95,8 +105,9 @@ same-length-5 c = search needs
 
 returns : tie.Need-returns
 returns c =
-    let p = c .before .before .before .before .before .before .before .before .before .before in
-    let s = p .before .before .before .before .before .before .before .before .before .before .before .before .before .before .before .before .before .before .before .before .before in
+    let l2 = c .before .before .before .before .before in
+    let p = l2 .before .before .before .before .before in
+    let s = start-of-call (p .before) in
     let a = s .args in
     run-written (a .unitsize) (a .len) (a .run) (a .d) (length (now (a .samples))) (levelOf (now (a .l1)) (now (a .l2)) (now (a .l3)) (now (a .l4))) (now (a .ring)) (now (a .bytes)) (s .pre) (now (a .samples)) _ _ (p .append-parts .ensures)
 

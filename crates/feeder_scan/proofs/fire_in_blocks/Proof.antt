@@ -19,6 +19,10 @@ Inv-loop w prev bytes unitsize n a₀ a =
 abbrev μ-loop : tie.MeasureT-loop
 μ-loop w prev bytes unitsize n a₀ a = n - a
 
+-- the function's start, from the loop's head
+abbrev start-at : tie.At-loop Inv-loop μ-loop → tie.Start Inv-loop μ-loop
+start-at p = p .before .before .before .before .before
+
 get-requires : tie.Need-get-requires Inv-loop μ-loop
 get-requires c κs = held _ _ _ _ (c .before .pre .0) (omega arith)
 
@@ -44,22 +48,22 @@ block-end-requires : tie.Need-block-end-requires Inv-loop μ-loop
 block-end-requires c κs = search needs
 
 any-fires-requires : tie.Need-any-fires-requires Inv-loop μ-loop
-any-fires-requires c κs = (fewer _ _ _ _ (c .before .before .before .before .before .before .before .pre .0) (omega arith), search needs, search needs)
+any-fires-requires c κs = (fewer _ _ _ _ (start-at (c .before .before) .pre .0) (omega arith), search needs, search needs)
 
 sub-get : tie.Need-sub-get Inv-loop μ-loop
 sub-get c = search needs
 
 get-requires-2 : tie.Need-get-requires-2 Inv-loop μ-loop
-get-requires-2 c κs = held _ _ _ _ (c .before .before .before .before .before .before .before .before .before .pre .0) (omega arith)
+get-requires-2 c κs = held _ _ _ _ (start-at (c .before .before .before .before) .pre .0) (omega arith)
 
 fire-in-requires : tie.Need-fire-in-requires Inv-loop μ-loop
-fire-in-requires c κs = (fewer _ _ _ _ (c .before .before .before .before .before .before .before .before .before .before .pre .0) (omega arith), search needs)
+fire-in-requires c κs = (fewer _ _ _ _ (start-at (c .before .before .before .before .before) .pre .0) (omega arith), search needs)
 
 returns-2 : tie.Need-returns-2 Inv-loop μ-loop
 returns-2 c =
     let b = c .before .before .before .before in
     let p = b .before .before .loop in
-    let a = b .before .before .before .before .before .before .before .args in
+    let a = start-at (b .before .before) .args in
     c .fire-in .ensures
     ∙ ap (λ x. fireFrom (masksFor (a .w)) (sampleOf (a .unitsize) (now (a .bytes))) x (p .a) (b .block-end .result)) (c .before .get2 .ensures)
     ∙ block-hit (masksFor (a .w)) (sampleOf (a .unitsize) (now (a .bytes))) (p .a) (b .block-end .result) (a .n) _ (omega arith) (omega arith) (c .before .before .before .any-fires .ensures) (c .before .before .if2 .taken)
@@ -72,7 +76,7 @@ loop-again : tie.Need-loop-again Inv-loop μ-loop
 loop-again c =
     let b = c .before .before in
     let p = b .before .before .loop in
-    let a = b .before .before .before .before .before .before .before .args in (
+    let a = start-at (b .before .before) .args in (
       search needs,
       search needs,
       block-miss (masksFor (a .w)) (sampleOf (a .unitsize) (now (a .bytes))) (p .a) (b .block-end .result) (a .n) _ (omega arith) (omega arith) (c .before .any-fires .ensures) (c .if2 .left)
@@ -82,7 +86,7 @@ loop-again c =
 returns-3 : tie.Need-returns-3 Inv-loop μ-loop
 returns-3 c =
     let p = c .before .loop in
-    let a = c .before .before .before .before .before .before .args in
+    let a = start-at (c .before) .args in
     sym (fire-end (masksFor (a .w)) (sampleOf (a .unitsize) (now (a .bytes))) (sampleOf (a .unitsize) (now (a .bytes)) (p .a - 1)) (p .a) (a .n) (c .loop-test .left)) ∙ p .inv .2
 
 pub fire-in-blocks-spec : {M : Type 1} → statement M

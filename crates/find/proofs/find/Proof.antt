@@ -18,6 +18,10 @@ Inv-loop part l1 l2 l3 l4 unitsize base hi back mask start before pos₀ room₀
 abbrev μ-loop : tie.MeasureT-loop
 μ-loop part l1 l2 l3 l4 unitsize base hi back mask start before pos₀ room₀ maxl₀ value₀ count₀ pos room maxl value count = room + maxl
 
+-- the function's start, from the loop's head
+abbrev start-at : tie.At-loop Inv-loop μ-loop → tie.Start Inv-loop μ-loop
+start-at p = p .before .before .before .before .before .before .before
+
 left-requires : tie.Need-left-requires Inv-loop μ-loop
 left-requires c κs = search needs
 
@@ -30,7 +34,7 @@ loop-holds c =
 take-requires : tie.Need-take-requires Inv-loop μ-loop
 take-requires c κs =
     let x = c .before .loop .inv in
-    (c .before .before .before .before .before .before .before .before .pre .0, x .placed .low, x .placed .high, omega (arith, x .placed .room-is), x .going .capped)
+    (start-at (c .before) .pre .0, x .placed .low, x .placed .high, omega (arith, x .placed .room-is), x .going .capped)
 
 mul-d : tie.Need-mul-d Inv-loop μ-loop
 mul-d c = omega (arith, turn-most (c .before .before .before .loop .inv) (c .before .take .ensures))
@@ -57,13 +61,15 @@ sub-maxl c = omega arith
 
 loop-less : tie.Need-loop-less Inv-loop μ-loop
 loop-less c =
-    let t = c .before .before .before .before .before .before .before .before in
+    let m = c .before .before .before .before .before .before in
+    let t = m .before .before in
     omega (arith, turn-room (t .before .before .loop .inv) (t .take .ensures), t .take .ensures .best .below)
 
 loop-again : tie.Need-loop-again Inv-loop μ-loop
 loop-again c =
-    let t = c .before .before .before .before .before .before .before .before in
-    turn-lower (t .before .before .loop .inv) (t .take .ensures) (c .before .before .before .before .before .before .moved .ensures) (c .before .before .before .if1 .taken) (c .before .if2 .left)
+    let m = c .before .before .before .before .before .before in
+    let t = m .before .before in
+    turn-lower (t .before .before .loop .inv) (t .take .ensures) (m .moved .ensures) (c .before .before .before .if1 .taken) (c .before .if2 .left)
 
 loop-less-2 : tie.Need-loop-less-2 Inv-loop μ-loop
 loop-less-2 c =

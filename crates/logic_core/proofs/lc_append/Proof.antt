@@ -32,8 +32,12 @@ same-length-5 c = search needs
 
 returns : tie.Need-returns
 returns c =
-    let a = c .before .before .before .before .before .before .before .before .before .before .before .before .before .before .before .before .before .before .before .before .before .before .before .before .before .before .args in
-    appends-told (now (a .bytes)) (now (a .samples)) (levelOf (now (a .l1)) (now (a .l2)) (now (a .l3)) (now (a .l4))) _ _ (c .before .before .before .before .before .before .before .before .before .before .before .before .append .result) _ _ _ (c .before .before .before .before .before .before .before .before .before .before .before .before .before .before .before .before .before .before .capture-in .ensures) (c .before .before .before .before .before .before .before .before .before .before .before .before .append .ensures) (c .appended-code .ensures)
+    let l2 = c .before .before .before .before .before .before .before in
+    let stored = l2 .before .before .before .before .before in
+    let read = stored .before .before .before .before .before .before in
+    let known = read .before .before in
+    let a = known .before .before .before .before .before .before .args in
+    appends-told (now (a .bytes)) (now (a .samples)) (levelOf (now (a .l1)) (now (a .l2)) (now (a .l3)) (now (a .l4))) _ _ (stored .append .result) _ _ _ (read .capture-in .ensures) (stored .append .ensures) (c .appended-code .ensures)
 
 pub lc-append-spec : {M : Type 1} → statement M
 lc-append-spec =

@@ -20,8 +20,9 @@ burst-code-requires c κs = search needs
 
 returns : tie.Need-returns
 returns c =
-    let a = c .before .before .before .before .before .before .before .before .before .before .args in
-    sought-by burstNumbers burstAs (λ (x : Capture). burstOf x (now (a .samples)) (levelOf (now (a .l1)) (now (a .l2)) (now (a .l3)) (now (a .l4))) (a .mask) (a .sample) (a .max-gap) (a .tolerance) (a .budget)) (c .before .before .before .burst-at .result) (c .before .before .before .before .capture-in .ensures) (c .before .before .before .burst-at .ensures) (c .burst-code .ensures)
+    let read = c .before .before .before .before in
+    let a = read .before .before .before .before .before .before .args in
+    sought-by burstNumbers burstAs (λ (x : Capture). burstOf x (now (a .samples)) (levelOf (now (a .l1)) (now (a .l2)) (now (a .l3)) (now (a .l4))) (a .mask) (a .sample) (a .max-gap) (a .tolerance) (a .budget)) (c .before .before .before .burst-at .result) (read .capture-in .ensures) (c .before .before .before .burst-at .ensures) (c .burst-code .ensures)
 
 pub lc-burst-at-spec : {M : Type 1} → statement M
 lc-burst-at-spec = tie.close (tie.spec capture-in-requires burst-at-requires burst-code-requires returns)

@@ -22,8 +22,9 @@ got-code-requires c κs = search needs
 
 returns : tie.Need-returns
 returns c =
-    let a = c .before .before .before .before .before .before .before .before .before .args in
-    told-by number plain gotOf (λ (x : Capture). gotFor x (now (a .samples)) (levelOf (now (a .l1)) (now (a .l2)) (now (a .l3)) (now (a .l4))) (a .i)) (c .before .before .get .result) _ _ _ (c .before .before .before .capture-in .ensures) (c .before .before .get .ensures) (c .got-code .ensures)
+    let read = c .before .before .before in
+    let a = read .before .before .before .before .before .before .args in
+    told-by number plain gotOf (λ (x : Capture). gotFor x (now (a .samples)) (levelOf (now (a .l1)) (now (a .l2)) (now (a .l3)) (now (a .l4))) (a .i)) (c .before .before .get .result) _ _ _ (read .capture-in .ensures) (c .before .before .get .ensures) (c .got-code .ensures)
 
 pub lc-get-spec : {M : Type 1} → statement M
 lc-get-spec = tie.close (tie.spec capture-in-requires get-requires got-code-requires returns)

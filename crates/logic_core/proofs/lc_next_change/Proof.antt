@@ -20,8 +20,9 @@ found-code-requires c κs = search needs
 
 returns : tie.Need-returns
 returns c =
-    let a = c .before .before .before .before .before .before .before .before .before .before .args in
-    sought-by number foundOf (λ (x : Capture). nextOf x (now (a .samples)) (levelOf (now (a .l1)) (now (a .l2)) (now (a .l3)) (now (a .l4))) (a .mask) (a .from)) (c .before .before .before .next-change .result) (c .before .before .before .before .capture-in .ensures) (c .before .before .before .next-change .ensures) (c .found-code .ensures)
+    let read = c .before .before .before .before in
+    let a = read .before .before .before .before .before .before .args in
+    sought-by number foundOf (λ (x : Capture). nextOf x (now (a .samples)) (levelOf (now (a .l1)) (now (a .l2)) (now (a .l3)) (now (a .l4))) (a .mask) (a .from)) (c .before .before .before .next-change .result) (read .capture-in .ensures) (c .before .before .before .next-change .ensures) (c .found-code .ensures)
 
 pub lc-next-change-spec : {M : Type 1} → statement M
 lc-next-change-spec = tie.close (tie.spec capture-in-requires next-change-requires found-code-requires returns)

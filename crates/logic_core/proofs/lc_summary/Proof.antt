@@ -22,8 +22,9 @@ summed-code-requires c κs = search needs
 
 returns : tie.Need-returns
 returns c =
-    let a = c .before .before .before .before .before .before .before .before .before .args in
-    told-by nodeNumbers perhaps summedOf (λ (x : Capture). summedFor x (now (a .samples)) (levelOf (now (a .l1)) (now (a .l2)) (now (a .l3)) (now (a .l4))) (a .a) (a .b)) (c .before .before .summary .result) _ _ _ (c .before .before .before .capture-in .ensures) (c .before .before .summary .ensures) (c .summed-code .ensures)
+    let read = c .before .before .before in
+    let a = read .before .before .before .before .before .before .args in
+    told-by nodeNumbers perhaps summedOf (λ (x : Capture). summedFor x (now (a .samples)) (levelOf (now (a .l1)) (now (a .l2)) (now (a .l3)) (now (a .l4))) (a .a) (a .b)) (c .before .before .summary .result) _ _ _ (read .capture-in .ensures) (c .before .before .summary .ensures) (c .summed-code .ensures)
 
 pub lc-summary-spec : {M : Type 1} → statement M
 lc-summary-spec = tie.close (tie.spec capture-in-requires summary-requires summed-code-requires returns)

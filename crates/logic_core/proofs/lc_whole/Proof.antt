@@ -22,8 +22,9 @@ checked-code-requires c κs = search needs
 
 returns : tie.Need-returns
 returns c =
-    let a = c .before .before .before .before .before .before .before .before .before .before .args in
-    (told-by placeLevel fault checkedOf (λ (x : Capture). wrongFor x (now (a .samples)) (levelOf (now (a .l1)) (now (a .l2)) (now (a .l3)) (now (a .l4)))) (c .before .before .before .whole .result) _ _ _ (c .before .before .before .before .capture-in .ensures) (c .before .before .before .whole .ensures) (c .checked-code .ensures .0), told-by placeNumber fault checkedOf (λ (x : Capture). wrongFor x (now (a .samples)) (levelOf (now (a .l1)) (now (a .l2)) (now (a .l3)) (now (a .l4)))) (c .before .before .before .whole .result) _ _ _ (c .before .before .before .before .capture-in .ensures) (c .before .before .before .whole .ensures) (c .checked-code .ensures .1))
+    let read = c .before .before .before .before in
+    let a = read .before .before .before .before .before .before .args in
+    (told-by placeLevel fault checkedOf (λ (x : Capture). wrongFor x (now (a .samples)) (levelOf (now (a .l1)) (now (a .l2)) (now (a .l3)) (now (a .l4)))) (c .before .before .before .whole .result) _ _ _ (read .capture-in .ensures) (c .before .before .before .whole .ensures) (c .checked-code .ensures .0), told-by placeNumber fault checkedOf (λ (x : Capture). wrongFor x (now (a .samples)) (levelOf (now (a .l1)) (now (a .l2)) (now (a .l3)) (now (a .l4)))) (c .before .before .before .whole .result) _ _ _ (read .capture-in .ensures) (c .before .before .before .whole .ensures) (c .checked-code .ensures .1))
 
 pub lc-whole-spec : {M : Type 1} → statement M
 lc-whole-spec = tie.close (tie.spec capture-in-requires whole-requires checked-code-requires returns)

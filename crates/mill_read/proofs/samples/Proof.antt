@@ -111,10 +111,11 @@ same-length-2 c = search needs
 
 returns-3 : tie.Need-returns-3
 returns-3 c =
-    let g = c .before .before .before .before .before .before .before .before .before in
+    let m = c .before .before .before .before .before in
+    let g = m .before .before .before .before in
     let f = called g in
     let a = f .before .before .before .before .before .before .before .args in
-    answered f _ _ (copies-count (st f) (now (a .bytes)) (levels f) (a .grant) (p f) (a .count) (now (a .output)) (f .refusal .ensures) (g .before .before .before .before .if1 .left) (g .samples .result) (left g) (service g) _ (c .before .before .before .before .before .copied .given .1) _ (c .before .before .cut-down .ensures))
+    answered f _ _ (copies-count (st f) (now (a .bytes)) (levels f) (a .grant) (p f) (a .count) (now (a .output)) (f .refusal .ensures) (g .before .before .before .before .if1 .left) (g .samples .result) (left g) (service g) _ (m .copied .given .1) _ (c .before .before .cut-down .ensures))
 
 pub samples-spec : {M : Type 1} → statement M
 samples-spec =

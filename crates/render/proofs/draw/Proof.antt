@@ -24,6 +24,10 @@ Inv-loop c samples l1 l2 l3 l4 origin view width output₀ px₀ output px = (px
 abbrev μ-loop : tie.MeasureT-loop
 μ-loop c samples l1 l2 l3 l4 origin view width output₀ px₀ output px = width - px
 
+-- the function's start, from the loop's head
+abbrev start-at : tie.At-loop Inv-loop μ-loop → tie.Start Inv-loop μ-loop
+start-at p = p .before .before .before .before .before .before .before
+
 loop-holds : tie.Need-loop-holds Inv-loop μ-loop
 loop-holds c =
     let a = c .before .before .before .before .before .before .args in
@@ -31,37 +35,37 @@ loop-holds c =
 
 pixel-range-requires : tie.Need-pixel-range-requires Inv-loop μ-loop
 pixel-range-requires c κs =
-    let p = c .before .before .before .before .before .before .before .before .pre in
+    let p = start-at (c .before) .pre in
     (omega (arith, c .loop-test .taken, p .most), (p .counts, omega (arith, p .sound .len-most, p .sound .capacity-most)))
 
 pixel-node-requires : tie.Need-pixel-node-requires Inv-loop μ-loop
 pixel-node-requires c κs =
-    let s = c .before .before .before .before .before .before .before .before .before in
+    let s = start-at (c .before .before) in
     record { sound = s .pre .sound; inside = subst (λ (r : Option Range). Inside r (s .args .c .len)) (sym (c .pixel-range .ensures)) (inside (rangeFrom (s .args .origin) (viewAs (s .args .view)) (s .args .c .len)) (s .args .c .len) (from-stored (s .args .origin) (viewAs (s .args .view)) (s .args .c .len)) (c .before .before .loop .px)) }
 
 mul-output : tie.Need-mul-output Inv-loop μ-loop
-mul-output c = omega (arith, c .before .before .loop-test .taken, c .before .before .before .before .before .before .before .before .before .before .pre .most)
+mul-output c = omega (arith, c .before .before .loop-test .taken, start-at (c .before .before .before) .pre .most)
 
 mul-output-2 : tie.Need-mul-output-2 Inv-loop μ-loop
-mul-output-2 c = omega (arith, c .before .before .loop-test .taken, c .before .before .before .before .before .before .before .before .before .before .pre .most)
+mul-output-2 c = omega (arith, c .before .before .loop-test .taken, start-at (c .before .before .before) .pre .most)
 
 slice-write-output : tie.Need-slice-write-output Inv-loop μ-loop
-slice-write-output c = omega (arith, c .before .before .loop-test .taken, c .before .before .before .before .before .before .before .before .before .before .pre .room, c .before .before .before .loop .inv .1)
+slice-write-output c = omega (arith, c .before .before .loop-test .taken, start-at (c .before .before .before) .pre .room, c .before .before .before .loop .inv .1)
 
 mul-output-3 : tie.Need-mul-output-3 Inv-loop μ-loop
-mul-output-3 c = omega (arith, c .before .before .loop-test .taken, c .before .before .before .before .before .before .before .before .before .before .pre .most)
+mul-output-3 c = omega (arith, c .before .before .loop-test .taken, start-at (c .before .before .before) .pre .most)
 
 add-output : tie.Need-add-output Inv-loop μ-loop
-add-output c = omega (arith, c .before .before .loop-test .taken, c .before .before .before .before .before .before .before .before .before .before .pre .most)
+add-output c = omega (arith, c .before .before .loop-test .taken, start-at (c .before .before .before) .pre .most)
 
 mul-output-4 : tie.Need-mul-output-4 Inv-loop μ-loop
-mul-output-4 c = omega (arith, c .before .before .loop-test .taken, c .before .before .before .before .before .before .before .before .before .before .pre .most)
+mul-output-4 c = omega (arith, c .before .before .loop-test .taken, start-at (c .before .before .before) .pre .most)
 
 slice-write-output-2 : tie.Need-slice-write-output-2 Inv-loop μ-loop
-slice-write-output-2 c = simp length-set (omega (arith, c .before .before .loop-test .taken, c .before .before .before .before .before .before .before .before .before .before .pre .room, c .before .before .before .loop .inv .1))
+slice-write-output-2 c = simp length-set (omega (arith, c .before .before .loop-test .taken, start-at (c .before .before .before) .pre .room, c .before .before .before .loop .inv .1))
 
 add-px : tie.Need-add-px Inv-loop μ-loop
-add-px c = omega (arith, c .before .before .loop-test .taken, c .before .before .before .before .before .before .before .before .before .before .pre .most)
+add-px c = omega (arith, c .before .before .loop-test .taken, start-at (c .before .before .before) .pre .most)
 
 loop-less : tie.Need-loop-less Inv-loop μ-loop
 loop-less c = omega (arith, c .before .before .loop-test .taken)
@@ -69,7 +73,7 @@ loop-less c = omega (arith, c .before .before .loop-test .taken)
 loop-again : tie.Need-loop-again Inv-loop μ-loop
 loop-again c =
     let l = c .before .before .before .loop in
-    let s = c .before .before .before .before .before .before .before .before .before .before in
+    let s = start-at (c .before .before .before) in
     let a = s .args in
     let n = summed (levelOf (now (a .l1)) (now (a .l2)) (now (a .l3)) (now (a .l4))) (sampleOf (a .c .unitsize) (now (a .samples))) in (
       omega (arith, c .before .before .loop-test .taken),
@@ -82,7 +86,7 @@ same-length c = c .before .loop .inv .1
 
 returns : tie.Need-returns Inv-loop μ-loop
 returns c =
-    let a = c .before .before .before .before .before .before .before .before .args in
+    let a = start-at (c .before) .args in
     c .before .loop .inv .2 ∙ ap (λ (k : ℕ). drawn (summed (levelOf (now (a .l1)) (now (a .l2)) (now (a .l3)) (now (a .l4))) (sampleOf (a .c .unitsize) (now (a .samples)))) (rangeFrom (a .origin) (viewAs (a .view)) (a .c .len)) k (now (a .output))) (le-antisymm (c .before .loop .inv .0) (c .loop-test .left))
 
 pub draw-spec : {M : Type 1} → statement M

@@ -11,6 +11,10 @@ use Rattle.render.specs.Render.{pixelNode, Inside}
 use Rattle.render.proofs.pixel_node.Statement.{statement}
 use Rattle.render.proofs.pixel_node.Tie as tie
 
+-- the function's start, from where its slices are known
+abbrev start-at : tie.After-shared-slice-known5 → tie.Start
+start-at p = p .before .before .before .before .before
+
 enum-told : tie.Need-enum-told
 enum-told c = search needs
 
@@ -22,18 +26,18 @@ enum-known-p c = search needs
 
 summary-in-requires : tie.Need-summary-in-requires
 summary-in-requires c κs =
-    let s = c .before .before .before .before .before .before .before .before in
+    let s = start-at (c .before .before .before) in
     let i = subst (λ (p : Pixel). Inside (rangeAs p) (s .args .c .len)) (c .before .p .given .1) (s .pre .inside) in
     record { sound = s .pre .sound; order = i .0; stored = i .1 }
 
 returns : tie.Need-returns
 returns c =
-    let a = c .before .before .before .before .before .before .before .before .args in
+    let a = start-at (c .before .before .before) .args in
     c .leaf .ensures ∙ sym (ap (λ (p : Pixel). pixelNode (summed (levelOf (now (a .l1)) (now (a .l2)) (now (a .l3)) (now (a .l4))) (sampleOf (a .c .unitsize) (now (a .samples)))) (rangeAs p)) (c .before .enum-told .given .1))
 
 returns-2 : tie.Need-returns-2
 returns-2 c =
-    let a = c .before .before .before .before .before .before .before .before .before .args in
+    let a = start-at (c .before .before .before .before) .args in
     c .summary-in .ensures ∙ sym (ap (λ (p : Pixel). pixelNode (summed (levelOf (now (a .l1)) (now (a .l2)) (now (a .l3)) (now (a .l4))) (sampleOf (a .c .unitsize) (now (a .samples)))) (rangeAs p)) (c .before .before .p .given .1))
 
 pub pixel-node-spec : {M : Type 1} → statement M

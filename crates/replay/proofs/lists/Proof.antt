@@ -13,6 +13,13 @@ abbrev μ-loop : tie.MeasureT-loop
 μ-loop path₀ text₀ samples₀ l1₀ l2₀ l3₀ l4₀ ring₀ output₀ piece₀ count i₀ path text samples l1 l2 l3 l4 ring output piece i =
     count - i
 
+-- the turn's start, from its end
+abbrev entered-at : tie.After-report Inv-loop μ-loop → tie.In-loop Inv-loop μ-loop
+entered-at p =
+    let lent = p .before .before .before .before .before .before .before in
+    let read = lent .before .before .before .before .before .before .before in
+    read .before .before .before .before .before .before
+
 arg-count-requires : tie.Need-arg-count-requires Inv-loop μ-loop
 arg-count-requires c κs = search needs
 
@@ -33,12 +40,12 @@ report-requires c κs = search needs
 
 add-i : tie.Need-add-i Inv-loop μ-loop
 add-i c =
-    let entered = c .before .before .before .before .before .before .before .before .before .before .before .before .before .before .before .before .before .before .before .before in
+    let entered = entered-at c in
     record { fits = omega (arith, entered .loop-test .taken, entered .before .before .arg-count .ok) }
 
 loop-less : tie.Need-loop-less Inv-loop μ-loop
 loop-less c =
-    let entered = c .before .before .before .before .before .before .before .before .before .before .before .before .before .before .before .before .before .before .before .before in
+    let entered = entered-at c in
     omega (arith, entered .loop-test .taken)
 
 loop-again : tie.Need-loop-again Inv-loop μ-loop

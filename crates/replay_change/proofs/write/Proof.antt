@@ -15,6 +15,34 @@ abbrev μ-loop : tie.MeasureT-loop
 μ-loop o line samples₀ l1₀ l2₀ l3₀ l4₀ ring₀ piece₀ a₀ samples l1 l2 l3 l4 ring piece a =
     ahead (a .more) (a .feed)
 
+-- the call of append, and that of push, from the end of a turn
+abbrev appended : tie.After-after-append Inv-loop μ-loop → tie.After-append Inv-loop μ-loop
+appended p =
+    let l3 = p .before .before .before .before in
+    l3 .before .before .before .before .before .before .before
+
+abbrev pushed : tie.After-after-push Inv-loop μ-loop → tie.After-push Inv-loop μ-loop
+pushed p =
+    let l3 = p .before .before .before .before .before .before in
+    l3 .before .before .before .before .before .before .before
+
+-- the piece that each of them is given
+abbrev filled-for-append : tie.After-append Inv-loop μ-loop → tie.After-fill Inv-loop μ-loop
+filled-for-append p =
+    let lent = p .before .before .before .before .before .before .before in
+    lent .before .before .before .before .before .before
+
+abbrev filled-for-push : tie.After-push Inv-loop μ-loop → tie.After-fill Inv-loop μ-loop
+filled-for-push p =
+    let lent = p .before .before .before .before .before .before .before in
+    lent .before .before .before .before .before .before
+
+-- the change as it was put, from the loop's head
+abbrev put-at : tie.At-loop Inv-loop μ-loop → tie.After-put Inv-loop μ-loop
+put-at p =
+    let l4 = p .before .before .before .before .before .before in
+    l4 .before .before .before .before .before .before .before
+
 put-requires : tie.Need-put-requires Inv-loop μ-loop
 put-requires c κs = search needs
 
@@ -47,14 +75,14 @@ after-append-requires c κs = search needs
 
 loop-less : tie.Need-loop-less Inv-loop μ-loop
 loop-less c =
-    let filled = c .before .before .before .before .before .before .before .before .before .before .before .before .before .before .before .before .before .before .before .before .before .before .before .before in
+    let filled = filled-for-append (appended c) in
     piece-falls _ _ _ _ _ _ (filled .before .before .before .before .loop-test .taken) (filled .fill .ensures .less) (c .after-append .ensures)
 
 loop-again : tie.Need-loop-again Inv-loop μ-loop
 loop-again c =
-    let sent = c .before .before .before .before .before .before .before .before .before .before .before in
+    let sent = appended c in
     let kept = sent .append .kept .1 in
-    let filled = sent .before .before .before .before .before .before .before .before .before .before .before .before .before in
+    let filled = filled-for-append sent in
     let inv = filled .before .before .before .before .before .loop .inv in (
       kept .0 ∙ inv .0,
       kept .1 .0 ∙ inv .1,
@@ -82,14 +110,14 @@ after-push-requires c κs = search needs
 
 loop-less-2 : tie.Need-loop-less-2 Inv-loop μ-loop
 loop-less-2 c =
-    let filled = c .before .before .before .before .before .before .before .before .before .before .before .before .before .before .before .before .before .before .before .before .before .before .before .before .before .before in
+    let filled = filled-for-push (pushed c) in
     piece-falls _ _ _ _ _ _ (filled .before .before .before .before .loop-test .taken) (filled .fill .ensures .less) (c .after-push .ensures)
 
 loop-again-2 : tie.Need-loop-again-2 Inv-loop μ-loop
 loop-again-2 c =
-    let sent = c .before .before .before .before .before .before .before .before .before .before .before .before .before in
+    let sent = pushed c in
     let kept = sent .push .kept .1 in
-    let filled = sent .before .before .before .before .before .before .before .before .before .before .before .before .before in
+    let filled = filled-for-push sent in
     let inv = filled .before .before .before .before .before .loop .inv in (
       kept .0 ∙ inv .0,
       kept .1 .0 ∙ inv .1,
@@ -109,22 +137,22 @@ same-length c = c .before .before .loop .inv .0
 same-length-2 : tie.Need-same-length-2 Inv-loop μ-loop
 same-length-2 c =
     let entered = c .before .before in
-    entered .loop .inv .1 ∙ entered .before .before .before .before .before .before .before .before .before .before .before .before .before .put .kept .1 .0
+    entered .loop .inv .1 ∙ put-at entered .put .kept .1 .0
 
 same-length-3 : tie.Need-same-length-3 Inv-loop μ-loop
 same-length-3 c =
     let entered = c .before .before in
-    entered .loop .inv .2 ∙ entered .before .before .before .before .before .before .before .before .before .before .before .before .before .put .kept .1 .1 .0
+    entered .loop .inv .2 ∙ put-at entered .put .kept .1 .1 .0
 
 same-length-4 : tie.Need-same-length-4 Inv-loop μ-loop
 same-length-4 c =
     let entered = c .before .before in
-    entered .loop .inv .3 ∙ entered .before .before .before .before .before .before .before .before .before .before .before .before .before .put .kept .1 .1 .1 .0
+    entered .loop .inv .3 ∙ put-at entered .put .kept .1 .1 .1 .0
 
 same-length-5 : tie.Need-same-length-5 Inv-loop μ-loop
 same-length-5 c =
     let entered = c .before .before in
-    entered .loop .inv .4 ∙ entered .before .before .before .before .before .before .before .before .before .before .before .before .before .put .kept .1 .1 .1 .1 .0
+    entered .loop .inv .4 ∙ put-at entered .put .kept .1 .1 .1 .1 .0
 
 same-length-6 : tie.Need-same-length-6 Inv-loop μ-loop
 same-length-6 c = c .before .before .loop .inv .5

@@ -51,7 +51,9 @@ line-after-requires c κs = search needs
 
 loop-less : tie.Need-loop-less Inv-loop μ-loop
 loop-less c =
-    let ended = c .before .before .before .before .before .before .before .before .before .before .before .before .before .before .before .before .before .before in
+    let stepped = c .before .before .before .before in
+    let lent = stepped .before .before .before .before .before .before .before in
+    let ended = lent .before .before .before .before .before .before .before in
     omega (arith, c .line-after .ensures, ended .line-end .ensures .from, ended .before .loop-test .taken)
 
 loop-again : tie.Need-loop-again Inv-loop μ-loop

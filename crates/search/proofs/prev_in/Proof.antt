@@ -22,7 +22,8 @@ prev-from-requires c κs = search needs
 
 returns-2 : tie.Need-returns-2
 returns-2 c =
-    let a = c .before .before .before .before .before .before .before .before .args in
+    let known = c .before .before .before in
+    let a = known .before .before .before .before .before .args in
     c .prev-from .ensures ∙ previous-something allLevels (readerOf (a .unitsize) (now (a .samples)) (levelOf (now (a .l1)) (now (a .l2)) (now (a .l3)) (now (a .l4)))) (a .len) (a .mask) (a .from) (c .before .before .if1 .left) (c .before .least .result) (c .before .least .ensures)
 
 pub prev-in-spec : {M : Type 1} → statement M

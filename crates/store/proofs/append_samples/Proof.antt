@@ -9,6 +9,10 @@ use Rattle.store.proofs.Stored.{stored-first}
 use Rattle.store.proofs.append_samples.Statement.{statement}
 use Rattle.store.proofs.append_samples.Tie as tie
 
+-- the function's start, from where its slices are known
+abbrev start-at : tie.After-shared-slice-known → tie.Start
+start-at p = p .before .before .before .before .before .before
+
 mul-e : tie.Need-mul-e
 mul-e c = search needs
 
@@ -17,12 +21,12 @@ mul-copy-at c = search needs
 
 slice-aggregate-copy-at : tie.Need-slice-aggregate-copy-at
 slice-aggregate-copy-at c =
-    let s = c .before .before .before .before .before .before .before .before in
+    let s = start-at (c .before .before) in
     sym (length-take-le _ (now (s .args .bytes)) (s .pre .bytes))
 
 copy-at-requires : tie.Need-copy-at-requires
 copy-at-requires c κs =
-    let s = c .before .before .before .before .before .before .before .before in
+    let s = start-at (c .before .before) in
     omega (arith, length-take-le _ (now (s .args .bytes)) (s .pre .bytes), s .pre .room .samples)
 
 rebuild-levels-requires : tie.Need-rebuild-levels-requires
@@ -45,9 +49,11 @@ same-length-5 c = search needs
 
 returns : tie.Need-returns
 returns c =
-    let r = c .before .before .before .before .before .before .before .before in
-    let y = r .before .before .before .before .before .before .before .before in
-    let s = y .before .before .before .before .before .before .before .before .before in
+    let l4 = c .before in
+    let r = l4 .before .before .before .before .before .before .before in
+    let lent = r .before in
+    let y = lent .before .before .before .before .before .before .before in
+    let s = start-at (y .before .before .before) in
     let a = s .args in
     stored-first (a .unitsize) (a .len) (a .n) (now (a .bytes)) (now (a .samples)) (levelOf (now (a .l1)) (now (a .l2)) (now (a .l3)) (now (a .l4))) (s .pre) _ _ (y .copy-at .ensures) (r .rebuild-levels .ensures)
 

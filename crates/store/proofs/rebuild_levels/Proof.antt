@@ -41,6 +41,10 @@ one c = c .before .before .before .before .before
 abbrev more : tie.Else2 → tie.Else1
 more c = c .before .before .before .before .before
 
+-- and from the first call above level 1
+abbrev above : tie.After-rebuild-above → tie.Else1
+above r = more (r .before .before .before .before .before .before .before)
+
 -- ---- no samples
 returns : tie.Need-returns
 returns c =
@@ -68,7 +72,7 @@ put-running-requires-2 c κs = node-at (one (c .before .before .before .before .
 
 put-running-requires-3 : tie.Need-put-running-requires-3
 unfolding levelOf
-put-running-requires-3 c κs = node-at (one (c .before .before .before .before .before .before .before .before .before)) 4 (lit≤ tt) (lit≤ tt) _ (omega arith)
+put-running-requires-3 c κs = let p2 = c .before .before .before .before .before .before .before in node-at (one (p2 .before .before)) 4 (lit≤ tt) (lit≤ tt) _ (omega arith)
 
 same-length : tie.Need-same-length
 same-length c = search needs
@@ -113,19 +117,18 @@ rebuild-above-requires c κs = up-at (more (c .before .before .before .before .b
 
 rebuild-above-requires-2 : tie.Need-rebuild-above-requires-2
 unfolding levelOf
-rebuild-above-requires-2 c κs =
-    let i = c .before .before .before .before .before .before .before .before .before .before .before in
-    up-at (more i) 2 (lit≤ tt) (lit≤ tt) _ _ (omega arith) (omega arith)
+rebuild-above-requires-2 c κs = up-at (above (c .before .before .before .before)) 2 (lit≤ tt) (lit≤ tt) _ _ (omega arith) (omega arith)
 
 rebuild-above-requires-3 : tie.Need-rebuild-above-requires-3
 unfolding levelOf
 rebuild-above-requires-3 c κs =
-    let i = c .before .before .before .before .before .before .before .before .before .before .before .before .before .before .before .before in
-    up-at (more i) 3 (lit≤ tt) (lit≤ tt) _ _ (omega arith) (omega arith)
+    let r3 = c .before .before .before .before in
+    up-at (above (r3 .before .before .before .before .before)) 3 (lit≤ tt) (lit≤ tt) _ _ (omega arith) (omega arith)
 
 same-length-5 : tie.Need-same-length-5
 same-length-5 c =
-    let r2 = c .before .before .before .before .before .before .before .before .before .before .before .before in
+    let r3 = c .before .before .before .before .before .before .before in
+    let r2 = r3 .before .before .before .before .before in
     let m = r2 .before .before .before .before in
     m .l12 .given ∙ m .before .before .before .before .before .l1 .given
 

@@ -18,6 +18,12 @@ Inv-loop c samples l1 l2 l3 l4 a b pos₀ acc₀ pos acc = (a < pos) × Gatherin
 abbrev μ-loop : tie.MeasureT-loop
 μ-loop c samples l1 l2 l3 l4 a b pos₀ acc₀ pos acc = b - pos
 
+-- the function's start, from the loop's head
+abbrev start-at : tie.At-loop Inv-loop μ-loop → tie.Start Inv-loop μ-loop
+start-at p =
+    let known = p .before .before .before in
+    known .before .before .before .before .before
+
 cut-at-requires : tie.Need-cut-at-requires Inv-loop μ-loop
 cut-at-requires c κs = let p = c .before .before .before .before .before .pre in omega (arith, p .order, p .stored, p .sound .len-most, p .sound .capacity-most)
 
@@ -34,11 +40,11 @@ loop-holds c =
     (omega (arith, s .pre .order, e .ensures), gather-starts (λ (p e : ℕ). chunkNode (levelOf (now (a .l1)) (now (a .l2)) (now (a .l3)) (now (a .l4))) (sampleOf (a .c .unitsize) (now (a .samples))) p (cutAt p e)) cutAt (a .a) (a .b) (asNode (c .summary-of-chunk .result)) (e .result) (c .summary-of-chunk .ensures ∙ ap (chunkNode (levelOf (now (a .l1)) (now (a .l2)) (now (a .l3)) (now (a .l4))) (sampleOf (a .c .unitsize) (now (a .samples))) (a .a)) (e .ensures)) (e .ensures) (omega (arith, s .pre .order, e .ensures)) (omega (arith, e .ensures)))
 
 cut-at-requires-2 : tie.Need-cut-at-requires-2 Inv-loop μ-loop
-cut-at-requires-2 c κs = let p = c .before .before .before .before .before .before .before .before .before .pre in omega (arith, c .loop-test .taken, p .stored, p .sound .len-most, p .sound .capacity-most)
+cut-at-requires-2 c κs = let p = start-at (c .before) .pre in omega (arith, c .loop-test .taken, p .stored, p .sound .len-most, p .sound .capacity-most)
 
 summary-of-chunk-requires-2 : tie.Need-summary-of-chunk-requires-2 Inv-loop μ-loop
 summary-of-chunk-requires-2 c κs =
-    let p = c .before .before .before .before .before .before .before .before .before .before .pre in
+    let p = start-at (c .before .before) .pre in
     record { sound = p .sound; order = omega (arith, c .before .loop-test .taken, c .cut-at2 .ensures); stored = omega (arith, p .stored, c .cut-at2 .ensures) }
 
 join-requires : tie.Need-join-requires Inv-loop μ-loop
@@ -49,7 +55,7 @@ loop-less c = omega (arith, c .before .before .before .loop-test .taken, c .befo
 
 loop-again : tie.Need-loop-again Inv-loop μ-loop
 loop-again c =
-    let s = c .before .before .before .before .before .before .before .before .before .before .before .before in
+    let s = start-at (c .before .before .before .before) in
     let a = s .args in
     let l = c .before .before .before .before .loop in
     let e = c .before .before .cut-at2 in
@@ -59,7 +65,7 @@ loop-again c =
 returns : tie.Need-returns Inv-loop μ-loop
 unfolding byLevels
 returns c =
-    let s = c .before .before .before .before .before .before .before .before .before in
+    let s = start-at (c .before) in
     let a = s .args in
     let l = c .before .loop in
     gather-ends (λ (p e : ℕ). chunkNode (levelOf (now (a .l1)) (now (a .l2)) (now (a .l3)) (now (a .l4))) (sampleOf (a .c .unitsize) (now (a .samples))) p (cutAt p e)) cutAt (a .b) (joined (λ (p e : ℕ). chunkNode (levelOf (now (a .l1)) (now (a .l2)) (now (a .l3)) (now (a .l4))) (sampleOf (a .c .unitsize) (now (a .samples))) p (cutAt p e)) cutAt (a .a) (a .b)) (asNode (l .acc)) (l .pos) (l .inv .1) (c .loop-test .left)

@@ -17,6 +17,12 @@ Inv-loop part l1 l2 l3 l4 unitsize base a b acc₀ pos₀ acc pos = (a < pos) ×
 abbrev μ-loop : tie.MeasureT-loop
 μ-loop part l1 l2 l3 l4 unitsize base a b acc₀ pos₀ acc pos = b - pos
 
+-- the function's start, from the loop's head
+abbrev start-at : tie.At-loop Inv-loop μ-loop → tie.Start Inv-loop μ-loop
+start-at p =
+    let known = p .before .before .before in
+    known .before .before .before .before .before
+
 first-piece-requires : tie.Need-first-piece-requires Inv-loop μ-loop
 first-piece-requires c κs = c .before .before .before .before .before .pre
 
@@ -28,7 +34,7 @@ loop-holds c =
 
 first-piece-requires-2 : tie.Need-first-piece-requires-2 Inv-loop μ-loop
 first-piece-requires-2 c κs =
-    let s = c .before .before .before .before .before .before .before .before .before in
+    let s = start-at (c .before) in
     (s .pre .0, omega (arith, s .pre, c .before .loop .inv .0), c .loop-test .taken)
 
 join-requires : tie.Need-join-requires Inv-loop μ-loop
@@ -39,7 +45,7 @@ loop-less c = omega (arith, c .before .first-piece2 .ensures .more, c .before .b
 
 loop-again : tie.Need-loop-again Inv-loop μ-loop
 loop-again c =
-    let a = c .before .before .before .before .before .before .before .before .before .before .before .args in
+    let a = start-at (c .before .before .before) .args in
     let l = c .before .before .before .loop in
     let f = c .before .first-piece2 in
     (omega (arith, f .ensures .more, l .inv .0), gather-turn (stepNode (levelOf (now (a .l1)) (now (a .l2)) (now (a .l3)) (now (a .l4))) (partSample (a .unitsize) (now (a .part)) (a .base))) stepEnd (a .b) (joined (stepNode (levelOf (now (a .l1)) (now (a .l2)) (now (a .l3)) (now (a .l4))) (partSample (a .unitsize) (now (a .part)) (a .base))) stepEnd (a .a) (a .b)) (asNode (l .acc)) (l .pos) (asNode (f .result .node)) (asNode (c .join .result)) (f .result .end) (l .inv .1) (c .before .before .loop-test .taken) (f .ensures .node-is) (f .ensures .end-is) (f .ensures .more) (f .ensures .upto) (c .join .ensures))
@@ -47,7 +53,7 @@ loop-again c =
 returns : tie.Need-returns Inv-loop μ-loop
 unfolding chunkNode
 returns c =
-    let a = c .before .before .before .before .before .before .before .before .before .args in
+    let a = start-at (c .before) .args in
     let l = c .before .loop in
     gather-ends (stepNode (levelOf (now (a .l1)) (now (a .l2)) (now (a .l3)) (now (a .l4))) (partSample (a .unitsize) (now (a .part)) (a .base))) stepEnd (a .b) (joined (stepNode (levelOf (now (a .l1)) (now (a .l2)) (now (a .l3)) (now (a .l4))) (partSample (a .unitsize) (now (a .part)) (a .base))) stepEnd (a .a) (a .b)) (asNode (l .acc)) (l .pos) (l .inv .1) (c .loop-test .left)
 

@@ -11,6 +11,12 @@ use Rattle.summary.proofs.Laws.{end-inside, part-run, part-level, piece
 use Rattle.summary.proofs.first_piece.Statement.{statement}
 use Rattle.summary.proofs.first_piece.Tie as tie
 
+-- the function's start, from where the piece's end is known
+abbrev start-at : tie.After-run-end → tie.Start
+start-at p =
+    let known = p .before .before .before in
+    known .before .before .before .before .before
+
 sub-best-level : tie.Need-sub-best-level
 sub-best-level c = search needs
 
@@ -28,14 +34,14 @@ sub-raw-node c = search needs
 
 sub-raw-node-2 : tie.Need-sub-raw-node-2
 sub-raw-node-2 c =
-    let s = c .before .before .before .before .before .before .before .before .before in
+    let s = start-at (c .before) in
     let a = s .args in
     let e = end-inside (a .pos) (a .b) (c .before .before .before .best-level .result) (c .before .before .span .result) (c .before .run-end .result) (s .pre .2) (c .before .before .before .best-level .ensures) (c .before .before .span .ensures .0) (c .before .run-end .ensures) in
     omega (arith, e, s .pre)
 
 raw-node-requires : tie.Need-raw-node-requires
 raw-node-requires c κs =
-    let s = c .before .before .before .before .before .before .before .before .before in
+    let s = start-at (c .before) in
     let a = s .args in
     let e = end-inside (a .pos) (a .b) (c .before .before .before .best-level .result) (c .before .before .span .result) (c .before .run-end .result) (s .pre .2) (c .before .before .before .best-level .ensures) (c .before .before .span .ensures .0) (c .before .run-end .ensures) in
     let r = s .pre .0 in
@@ -43,7 +49,7 @@ raw-node-requires c κs =
 
 returns : tie.Need-returns
 returns c =
-    let s = c .before .before .before .before .before .before .before .before .before .before in
+    let s = start-at (c .before .before) in
     let a = s .args in
     let e = end-inside (a .pos) (a .b) (c .before .before .before .before .best-level .result) (c .before .before .before .span .result) (c .before .before .run-end .result) (s .pre .2) (c .before .before .before .before .best-level .ensures) (c .before .before .before .span .ensures .0) (c .before .before .run-end .ensures) in
     part-run (a .pos) (a .b) (c .before .before .before .before .best-level .result) (c .before .before .before .span .result) (c .before .before .run-end .result) (s .pre .2) (c .before .before .before .before .best-level .ensures) (c .before .before .before .span .ensures .0) (c .before .before .run-end .ensures) (levelOf (now (a .l1)) (now (a .l2)) (now (a .l3)) (now (a .l4))) (partSample (a .unitsize) (now (a .part)) (a .base)) (asNode (c .raw-node .result)) (c .before .if1 .taken)
@@ -60,13 +66,13 @@ div-join-nodes-2 c = search needs
 
 join-nodes-requires : tie.Need-join-nodes-requires
 join-nodes-requires c κs =
-    let s = c .before .before .before .before .before .before .before .before .before .before in
+    let s = start-at (c .before .before) in
     let a = s .args in
     piece-room (a .pos) (a .b) (c .before .before .before .before .best-level .result) (c .before .before .before .span .result) (c .before .before .run-end .result) (s .pre .2) (c .before .before .before .before .best-level .ensures) (c .before .before .before .span .ensures .0) (c .before .before .run-end .ensures) (levelOf (now (a .l1)) (now (a .l2)) (now (a .l3)) (now (a .l4))) (c .before .if1 .left) (a .unitsize) (a .base) _ (s .pre .0) (now (c .level-of .result)) (c .level-of .ensures)
 
 returns-2 : tie.Need-returns-2
 returns-2 c =
-    let s = c .before .before .before .before .before .before .before .before .before .before .before in
+    let s = start-at (c .before .before .before) in
     let a = s .args in
     part-level (a .pos) (a .b) (c .before .before .before .before .before .best-level .result) (c .before .before .before .before .span .result) (c .before .before .before .run-end .result) (s .pre .2) (c .before .before .before .before .before .best-level .ensures) (c .before .before .before .before .span .ensures .0) (c .before .before .before .run-end .ensures) (levelOf (now (a .l1)) (now (a .l2)) (now (a .l3)) (now (a .l4))) (partSample (a .unitsize) (now (a .part)) (a .base)) (asNode (c .join-nodes .result)) (c .before .before .if1 .left) (now (c .before .level-of .result)) (c .before .level-of .ensures) (c .join-nodes .ensures)
 

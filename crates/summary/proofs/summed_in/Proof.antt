@@ -29,7 +29,8 @@ summary-in-requires c κs = record { sound = c .before .before .before .before .
 
 returns-2 : tie.Need-returns-2
 returns-2 c =
-    let a = c .before .before .before .before .before .before .before .before .args in
+    let known = c .before .before .before in
+    let a = known .before .before .before .before .before .args in
     let e = c .before .before .smaller .ensures in
     let h : a .a < min (a .b) (a .c .len) = omega (arith, e, c .before .if1 .left) in
     ap (λ (n : Node). given (some n)) (c .summary-in .ensures ∙ ap (summed (levelOf (now (a .l1)) (now (a .l2)) (now (a .l3)) (now (a .l4))) (sampleOf (a .c .unitsize) (now (a .samples))) (a .a)) e) ∙ sym (ap (λ (t : Bool). given (cond t (some (summed (levelOf (now (a .l1)) (now (a .l2)) (now (a .l3)) (now (a .l4))) (sampleOf (a .c .unitsize) (now (a .samples))) (a .a) (min (a .b) (a .c .len)))) none)) (lt-ltb _ _ h))

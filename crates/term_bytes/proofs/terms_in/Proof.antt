@@ -51,8 +51,9 @@ loop-less c = search needs
 
 loop-again : tie.Need-loop-again Inv-loop μ-loop
 loop-again c =
-    let b = now (c .before .before .before .before .before .before .before .before .args .bytes) in
-    let l = c .before .before .before .before .before .loop in
+    let h = c .before .before .before .before .before in
+    let b = now (h .before .before .before .args .bytes) in
+    let l = h .loop in
     (omega arith, ap (λ (t : Terms). more t b (l .i + 2)) (c .with .ensures ∙ ap (withTerm (l .sum)) (c .before .term-in .ensures)) ∙ sym (more-two (l .sum) b (l .i) (omega arith)) ∙ l .inv .1)
 
 shared-slice-read-term-in-3 : tie.Need-shared-slice-read-term-in-3 Inv-loop μ-loop
@@ -66,8 +67,9 @@ with-requires-2 c κs = search needs
 
 returns : tie.Need-returns Inv-loop μ-loop
 returns c =
-    let b = now (c .before .before .before .before .before .before .before .before .args .bytes) in
-    let l = c .before .before .before .before .before .loop in
+    let h = c .before .before .before .before .before in
+    let b = now (h .before .before .before .args .bytes) in
+    let l = h .loop in
     c .with2 .ensures ∙ ap (withTerm (l .sum)) (c .before .term-in2 .ensures) ∙ sym (more-last (l .sum) b (l .i) (omega arith) (omega arith)) ∙ l .inv .1
 
 returns-2 : tie.Need-returns-2 Inv-loop μ-loop

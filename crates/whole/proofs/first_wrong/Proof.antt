@@ -31,6 +31,10 @@ Inv-levels c samples l1 l2 l3 l4 level₀ j₀ level j = Checking (sampleOf (c .
 abbrev μ-levels : tie.MeasureT-levels
 μ-levels c samples l1 l2 l3 l4 level₀ j₀ level j = topLevel + 1 - level
 
+-- the function's start, from the head of the loop over the levels
+abbrev start-at : tie.At-levels Inv-loop μ-loop Inv-levels μ-levels → tie.Start Inv-loop μ-loop Inv-levels μ-levels
+start-at p = p .before .before .before .before .before .before
+
 levels-holds : tie.Need-levels-holds Inv-loop μ-loop Inv-levels μ-levels
 levels-holds c =
     let s = c .before .before .before .before .before in
@@ -38,14 +42,14 @@ levels-holds c =
     checking-starts (sampleOf (a .c .unitsize) (now (a .samples))) (a .c .len) (levelOf (now (a .l1)) (now (a .l2)) (now (a .l3)) (now (a .l4)))
 
 nodes-of-requires : tie.Need-nodes-of-requires Inv-loop μ-loop Inv-levels μ-levels
-nodes-of-requires c κs = let p = c .before .before .before .before .before .before .before .pre in omega (arith, p .len-most, p .capacity-most, c .levels-test .taken)
+nodes-of-requires c κs = let p = start-at (c .before) .pre in omega (arith, p .len-most, p .capacity-most, c .levels-test .taken)
 
 loop-holds : tie.Need-loop-holds Inv-loop μ-loop Inv-levels μ-levels
 loop-holds c = (omega arith, λ i h. absurd (omega arith))
 
 node-wrong-requires : tie.Need-node-wrong-requires Inv-loop μ-loop Inv-levels μ-levels
 node-wrong-requires c κs =
-    let s = c .before .before .before .before .before .before .before .before .before .before in
+    let s = start-at (c .before .before .before .before) in
     let a = s .args in
     let v = c .before .before .before .before .levels in
     record { sound = s .pre; low = v .inv .low; high = c .before .before .before .levels-test .taken; covers = covering (a .c .len) (v .level) (c .before .loop .j) .0 (subst (λ (n : ℕ). c .before .loop .j < n) (c .before .before .nodes-of .ensures) (c .loop-test .taken)) }
@@ -58,7 +62,7 @@ loop-less c = omega arith
 
 loop-again : tie.Need-loop-again Inv-loop μ-loop Inv-levels μ-levels
 loop-again c =
-    let s = c .before .before .before .before .before .before .before .before .before .before .before .before in
+    let s = start-at (c .before .before .before .before .before .before) in
     let a = s .args in
     let v = c .before .before .before .before .before .before .levels in
     let l = c .before .before .before .loop in
@@ -73,7 +77,7 @@ levels-less c = omega arith
 
 levels-again : tie.Need-levels-again Inv-loop μ-loop Inv-levels μ-levels
 levels-again c =
-    let s = c .before .before .before .before .before .before .before .before .before .before in
+    let s = start-at (c .before .before .before .before) in
     let a = s .args in
     let v = c .before .before .before .before .levels in
     let l = c .before .loop in
@@ -81,7 +85,7 @@ levels-again c =
 
 returns : tie.Need-returns Inv-loop μ-loop Inv-levels μ-levels
 returns c =
-    let s = c .before .before .before .before .before .before .before .before in
+    let s = start-at (c .before .before) in
     let a = s .args in
     let v = c .before .before .levels in
     ⊎-elim
@@ -95,7 +99,7 @@ returns c =
 
 returns-2 : tie.Need-returns-2 Inv-loop μ-loop Inv-levels μ-levels
 returns-2 c =
-    let s = c .before .before .before .before .before .before .before .before in
+    let s = start-at (c .before .before) in
     let a = s .args in
     let v = c .before .before .levels in
     ap given (checking-ends (sampleOf (a .c .unitsize) (now (a .samples))) (a .c .len) (levelOf (now (a .l1)) (now (a .l2)) (now (a .l3)) (now (a .l4))) (v .level) (v .inv) (c .if2 .left))

@@ -11,9 +11,13 @@ use Rattle.whole.proofs.Laws.{number-small, samples-room, join-room, ma
 use Rattle.whole.proofs.made.Statement.{statement}
 use Rattle.whole.proofs.made.Tie as tie
 
+-- the function's start, from where its slices are known
+abbrev start-at : tie.After-shared-slice-known5 → tie.Start
+start-at p = p .before .before .before .before .before
+
 mul-a : tie.Need-mul-a
 mul-a c =
-    let s = c .before .before .before .before .before in
+    let s = start-at c in
     let a = s .args in
     omega (arith, number-small (storeOf (a .c)) (now (a .samples)) (levelOf (now (a .l1)) (now (a .l2)) (now (a .l3)) (now (a .l4))) (a .level) (a .j) (s .pre))
 
@@ -28,13 +32,13 @@ smaller-requires c κs = search needs
 
 raw-node-requires : tie.Need-raw-node-requires
 raw-node-requires c κs =
-    let s = c .before .before .before .before .before .before .before in
+    let s = start-at (c .before .before) in
     let a = s .args in
     samples-room (storeOf (a .c)) (now (a .samples)) (levelOf (now (a .l1)) (now (a .l2)) (now (a .l3)) (now (a .l4))) (a .level) (a .j) (s .pre) (c .smaller .result) (c .before .if1 .taken) (c .smaller .ensures)
 
 returns : tie.Need-returns
 returns c =
-    let s = c .before .before .before .before .before .before .before .before in
+    let s = start-at (c .before .before .before) in
     let a = s .args in
     c .raw-node .ensures ∙ made-samples (sampleOf (a .c .unitsize) (now (a .samples))) (a .c .len) (levelOf (now (a .l1)) (now (a .l2)) (now (a .l3)) (now (a .l4))) (a .level) (a .j) (c .before .smaller .result) (c .before .before .if1 .taken) (c .before .smaller .ensures)
 
@@ -45,29 +49,29 @@ add-smaller-2 c =
     omega (arith, number-small (storeOf (a .c)) (now (a .samples)) (levelOf (now (a .l1)) (now (a .l2)) (now (a .l3)) (now (a .l4))) (a .level) (a .j) (s .pre))
 
 sub-nodes-of : tie.Need-sub-nodes-of
-sub-nodes-of c = omega (arith, c .before .before .before .before .before .before .pre .low)
+sub-nodes-of c = omega (arith, start-at (c .before) .pre .low)
 
 nodes-of-requires : tie.Need-nodes-of-requires
-nodes-of-requires c κs = let p = c .before .before .before .before .before .before .pre in omega (arith, p .high, p .sound .len-most, p .sound .capacity-most)
+nodes-of-requires c κs = let p = start-at (c .before) .pre in omega (arith, p .high, p .sound .len-most, p .sound .capacity-most)
 
 smaller-requires-2 : tie.Need-smaller-requires-2
 smaller-requires-2 c κs = search needs
 
 sub-level-of : tie.Need-sub-level-of
-sub-level-of c = omega (arith, c .before .before .before .before .before .before .before .before .pre .low)
+sub-level-of c = omega (arith, start-at (c .before .before .before) .pre .low)
 
 level-of-requires : tie.Need-level-of-requires
 level-of-requires c κs = search needs
 
 join-nodes-requires : tie.Need-join-nodes-requires
 join-nodes-requires c κs =
-    let s = c .before .before .before .before .before .before .before .before .before in
+    let s = start-at (c .before .before .before .before) in
     let a = s .args in
     join-room (storeOf (a .c)) (now (a .samples)) (levelOf (now (a .l1)) (now (a .l2)) (now (a .l3)) (now (a .l4))) (a .level) (a .j) (s .pre) (c .before .smaller2 .result) (now (c .level-of .result)) (omega (arith, s .pre .low, c .before .before .before .if1 .left)) (c .before .smaller2 .ensures ∙ ap (min (a .j * 32 + 32)) (c .before .before .nodes-of .ensures)) (c .level-of .ensures)
 
 returns-2 : tie.Need-returns-2
 returns-2 c =
-    let s = c .before .before .before .before .before .before .before .before .before .before in
+    let s = start-at (c .before .before .before .before .before) in
     let a = s .args in
     let e = c .before .before .smaller2 .ensures ∙ ap (min (a .j * 32 + 32)) (c .before .before .before .nodes-of .ensures) in
     let h : 2 ≤ a .level = omega (arith, s .pre .low, c .before .before .before .before .if1 .left) in

@@ -22,10 +22,11 @@ bounded-code-requires c κs = search needs
 
 returns : tie.Need-returns
 returns c =
-    let a = c .before .before .before .before .before .before .before .before .before .before .before .args in (
-      told-by firstPlace plain boundedOf (λ (x : Capture). boundedFor x (now (a .samples)) (levelOf (now (a .l1)) (now (a .l2)) (now (a .l3)) (now (a .l4)))) (c .before .before .before .before .extent .result) _ _ _ (c .before .before .before .before .before .capture-in .ensures) (c .before .before .before .before .extent .ensures) (c .bounded-code .ensures .0),
-      told-by endPlace plain boundedOf (λ (x : Capture). boundedFor x (now (a .samples)) (levelOf (now (a .l1)) (now (a .l2)) (now (a .l3)) (now (a .l4)))) (c .before .before .before .before .extent .result) _ _ _ (c .before .before .before .before .before .capture-in .ensures) (c .before .before .before .before .extent .ensures) (c .bounded-code .ensures .1),
-      told-by markedNumber plain boundedOf (λ (x : Capture). boundedFor x (now (a .samples)) (levelOf (now (a .l1)) (now (a .l2)) (now (a .l3)) (now (a .l4)))) (c .before .before .before .before .extent .result) _ _ _ (c .before .before .before .before .before .capture-in .ensures) (c .before .before .before .before .extent .ensures) (c .bounded-code .ensures .2),
+    let read = c .before .before .before .before .before in
+    let a = read .before .before .before .before .before .before .args in (
+      told-by firstPlace plain boundedOf (λ (x : Capture). boundedFor x (now (a .samples)) (levelOf (now (a .l1)) (now (a .l2)) (now (a .l3)) (now (a .l4)))) (c .before .before .before .before .extent .result) _ _ _ (read .capture-in .ensures) (c .before .before .before .before .extent .ensures) (c .bounded-code .ensures .0),
+      told-by endPlace plain boundedOf (λ (x : Capture). boundedFor x (now (a .samples)) (levelOf (now (a .l1)) (now (a .l2)) (now (a .l3)) (now (a .l4)))) (c .before .before .before .before .extent .result) _ _ _ (read .capture-in .ensures) (c .before .before .before .before .extent .ensures) (c .bounded-code .ensures .1),
+      told-by markedNumber plain boundedOf (λ (x : Capture). boundedFor x (now (a .samples)) (levelOf (now (a .l1)) (now (a .l2)) (now (a .l3)) (now (a .l4)))) (c .before .before .before .before .extent .result) _ _ _ (read .capture-in .ensures) (c .before .before .before .before .extent .ensures) (c .bounded-code .ensures .2),
     )
 
 pub lc-mill-extent-spec : {M : Type 1} → statement M

@@ -27,9 +27,11 @@ got-code-requires c κs = search needs
 
 returns : tie.Need-returns
 returns c =
-    let a = c .before .before .before .before .before .before .before .before .before .args in
-    let f = c .before .before .before .before .before .before .before .before .before .fits in
-    told-by number plain gotOf (λ (x : Capture). gotFor x (now (a .samples)) (levelOf (now (a .l1)) (now (a .l2)) (now (a .l3)) (now (a .l4))) (a .grant) (a .at)) (c .before .before .get .result) _ _ _ (c .before .before .before .capture-in .ensures) (c .before .before .get .ensures ∙ ap (λ (z : ℤ). gotFor (c .before .before .before .capture-in .result) (now (a .samples)) (levelOf (now (a .l1)) (now (a .l2)) (now (a .l3)) (now (a .l4))) (a .grant) z) (toZ-ofZ w64 (a .at) (f .at))) (c .got-code .ensures)
+    let read = c .before .before .before in
+    let s = read .before .before .before .before .before .before in
+    let a = s .args in
+    let f = s .fits in
+    told-by number plain gotOf (λ (x : Capture). gotFor x (now (a .samples)) (levelOf (now (a .l1)) (now (a .l2)) (now (a .l3)) (now (a .l4))) (a .grant) (a .at)) (c .before .before .get .result) _ _ _ (read .capture-in .ensures) (c .before .before .get .ensures ∙ ap (λ (z : ℤ). gotFor (read .capture-in .result) (now (a .samples)) (levelOf (now (a .l1)) (now (a .l2)) (now (a .l3)) (now (a .l4))) (a .grant) z) (toZ-ofZ w64 (a .at) (f .at))) (c .got-code .ensures)
 
 pub lc-mill-get-spec : {M : Type 1} → statement M
 lc-mill-get-spec = tie.close (tie.spec capture-in-requires get-requires got-code-requires returns)

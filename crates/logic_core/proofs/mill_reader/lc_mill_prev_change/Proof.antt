@@ -25,9 +25,11 @@ found-code-requires c κs = search needs
 
 returns : tie.Need-returns
 returns c =
-    let a = c .before .before .before .before .before .before .before .before .before .before .args in
-    let f = c .before .before .before .before .before .before .before .before .before .before .fits in
-    sought-by place foundOf (λ (x : Capture). previousOf x (now (a .samples)) (levelOf (now (a .l1)) (now (a .l2)) (now (a .l3)) (now (a .l4))) (a .grant) (a .mask) (a .from)) (c .before .before .before .prev-change .result) (c .before .before .before .before .capture-in .ensures) (c .before .before .before .prev-change .ensures ∙ ap (λ (z : ℤ). previousOf (c .before .before .before .before .capture-in .result) (now (a .samples)) (levelOf (now (a .l1)) (now (a .l2)) (now (a .l3)) (now (a .l4))) (a .grant) (a .mask) z) (toZ-ofZ w64 (a .from) (f .from))) (c .found-code .ensures)
+    let read = c .before .before .before .before in
+    let s = read .before .before .before .before .before .before in
+    let a = s .args in
+    let f = s .fits in
+    sought-by place foundOf (λ (x : Capture). previousOf x (now (a .samples)) (levelOf (now (a .l1)) (now (a .l2)) (now (a .l3)) (now (a .l4))) (a .grant) (a .mask) (a .from)) (c .before .before .before .prev-change .result) (read .capture-in .ensures) (c .before .before .before .prev-change .ensures ∙ ap (λ (z : ℤ). previousOf (read .capture-in .result) (now (a .samples)) (levelOf (now (a .l1)) (now (a .l2)) (now (a .l3)) (now (a .l4))) (a .grant) (a .mask) z) (toZ-ofZ w64 (a .from) (f .from))) (c .found-code .ensures)
 
 pub lc-mill-prev-change-spec : {M : Type 1} → statement M
 lc-mill-prev-change-spec =

@@ -22,9 +22,11 @@ same-length c = search needs
 
 returns : tie.Need-returns
 returns c =
-    let a = c .before .before .before .before .before .before .before .before .before .before .before .before .before .args in
-    let f = c .before .before .before .before .before .before .before .before .before .before .before .before .before .fits in
-    copies-told (now (a .samples)) (levelOf (now (a .l1)) (now (a .l2)) (now (a .l3)) (now (a .l4))) (a .grant) _ _ (a .start) _ (toZ-ofZ w64 (a .start) (f .start)) (a .count) (c .before .before .before .before .samples .result) _ _ _ (c .before .before .before .before .before .before .capture-in .ensures) (c .before .before .before .before .samples .ensures) (c .copied-code .ensures)
+    let read = c .before .before .before .before .before .before in
+    let s = read .before .before .before .before .before .before .before in
+    let a = s .args in
+    let f = s .fits in
+    copies-told (now (a .samples)) (levelOf (now (a .l1)) (now (a .l2)) (now (a .l3)) (now (a .l4))) (a .grant) _ _ (a .start) _ (toZ-ofZ w64 (a .start) (f .start)) (a .count) (c .before .before .before .before .samples .result) _ _ _ (read .capture-in .ensures) (c .before .before .before .before .samples .ensures) (c .copied-code .ensures)
 
 pub lc-mill-samples-spec : {M : Type 1} → statement M
 lc-mill-samples-spec =

@@ -27,9 +27,11 @@ summed-code-requires c κs = search needs
 
 returns : tie.Need-returns
 returns c =
-    let a = c .before .before .before .before .before .before .before .before .before .args in
-    let f = c .before .before .before .before .before .before .before .before .before .fits in
-    told-by nodeNumbers perhaps summedOf (λ (x : Capture). summedFor x (now (a .samples)) (levelOf (now (a .l1)) (now (a .l2)) (now (a .l3)) (now (a .l4))) (a .grant) (a .a) (a .b)) (c .before .before .summary .result) _ _ _ (c .before .before .before .capture-in .ensures) (c .before .before .summary .ensures ∙ ap (λ (z : ℤ). summedFor (c .before .before .before .capture-in .result) (now (a .samples)) (levelOf (now (a .l1)) (now (a .l2)) (now (a .l3)) (now (a .l4))) (a .grant) z (toZ w64 (ofZ w64 (a .b)))) (toZ-ofZ w64 (a .a) (f .a)) ∙ ap (λ (z : ℤ). summedFor (c .before .before .before .capture-in .result) (now (a .samples)) (levelOf (now (a .l1)) (now (a .l2)) (now (a .l3)) (now (a .l4))) (a .grant) (a .a) z) (toZ-ofZ w64 (a .b) (f .b))) (c .summed-code .ensures)
+    let read = c .before .before .before in
+    let s = read .before .before .before .before .before .before in
+    let a = s .args in
+    let f = s .fits in
+    told-by nodeNumbers perhaps summedOf (λ (x : Capture). summedFor x (now (a .samples)) (levelOf (now (a .l1)) (now (a .l2)) (now (a .l3)) (now (a .l4))) (a .grant) (a .a) (a .b)) (c .before .before .summary .result) _ _ _ (read .capture-in .ensures) (c .before .before .summary .ensures ∙ ap (λ (z : ℤ). summedFor (read .capture-in .result) (now (a .samples)) (levelOf (now (a .l1)) (now (a .l2)) (now (a .l3)) (now (a .l4))) (a .grant) z (toZ w64 (ofZ w64 (a .b)))) (toZ-ofZ w64 (a .a) (f .a)) ∙ ap (λ (z : ℤ). summedFor (read .capture-in .result) (now (a .samples)) (levelOf (now (a .l1)) (now (a .l2)) (now (a .l3)) (now (a .l4))) (a .grant) (a .a) z) (toZ-ofZ w64 (a .b) (f .b))) (c .summed-code .ensures)
 
 pub lc-mill-summary-spec : {M : Type 1} → statement M
 lc-mill-summary-spec =

@@ -20,7 +20,8 @@ begun-code-requires c κs = search needs
 
 returns : tie.Need-returns
 returns c =
-    let a = c .before .before .before .before .before .before .before .before .before .before .before .before .before .args in
+    let known = c .before .before .before .before .before .before in
+    let a = known .before .before .before .before .before .before .before .args in
     starts-told (a .channels) (a .capacity) (a .limit) (now (a .terms)) (a .seconds) (a .wish) (a .rate) (now (a .samples)) (levelOf (now (a .l1)) (now (a .l2)) (now (a .l3)) (now (a .l4))) (now (a .ring)) (c .before .before .before .start .result) _ _ _ _ _ (c .before .before .before .before .before .terms-in .ensures) (c .before .before .before .before .wish-in .ensures) (c .before .before .before .start .ensures) (c .begun-code .ensures)
 
 pub lc-feeder-start-spec : {M : Type 1} → statement M

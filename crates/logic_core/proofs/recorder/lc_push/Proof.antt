@@ -11,7 +11,10 @@ use Rattle.logic_core.proofs.recorder.lc_push.Tie as tie
 
 module _ (w : tie.After-wait-short) where
   abbrev s : tie.Start
-  s = w .before .before .before .before .before .before .before .before .before .before .before .before .before .before .before
+  s =
+      let lent = w .before .before .before .before .before .before .before in
+      let known = lent .before in
+      known .before .before .before .before .before .before .before
 
   abbrev levels : ℕ → List ℕ
   levels = levelOf (now (s .args .l1)) (now (s .args .l2)) (now (s .args .l3)) (now (s .args .l4))
@@ -22,6 +25,12 @@ module _ (w : tie.After-wait-short) where
 
   abbrev ring-after : List ℕ
   ring-after = w .wait-short .last .1 .1 .1 .1 .1 .1 .0
+
+-- the push, from its code
+abbrev pushed-at : tie.After-pushed-code → tie.After-push
+pushed-at p =
+    let l3 = p .before .before .before .before .before .before .before in
+    l3 .before .before .before .before .before .before .before
 
 wait-short-requires : tie.Need-wait-short-requires
 wait-short-requires c κs = search needs
@@ -75,11 +84,13 @@ same-length-11 : tie.Need-same-length-11
 same-length-11 c = search needs
 
 same-length-12 : tie.Need-same-length-12
-same-length-12 c = c .before .before .before .ring2 .given ∙ c .before .before .before .before .before .before .before .before .before .before .before .before .before .before .before .before .before .before .before .before .before .before .before .before .before .ring .given
+same-length-12 c =
+    let n = pushed-at c .before .before .before .before .before .before .before in
+    c .before .before .before .ring2 .given ∙ n .before .before .before .before .ring .given
 
 returns-2 : tie.Need-returns-2
 returns-2 c =
-    let p = c .before .before .before .before .before .before .before .before .before .before .before .before .before .before in
+    let p = pushed-at c in
     let n = p .before .before .before .before .before .before .before in
     let w = n .before .before .before .before .before in
     let a = s w .args in

@@ -44,9 +44,10 @@ loop-less c = search needs
 
 loop-again : tie.Need-loop-again Inv-loop μ-loop
 loop-again c =
-    let l = c .before .before .before .before .before .before .before .before .args .line .now in
-    let i = c .before .before .before .before .before .loop .next in
-    let inv = c .before .before .before .before .before .loop .inv in
+    let h = c .before .before .before .before .before in
+    let l = h .before .before .before .args .line .now in
+    let i = h .loop .next in
+    let inv = h .loop .inv in
     let digit = sym (c .before .before .is-digit .ensures) ∙ not-false _ (c .before .if1 .left) in (
       search needs,
       rw (c .with-digit .ensures, add-one i, ← decimal-more _ l i digit) (inv .1),

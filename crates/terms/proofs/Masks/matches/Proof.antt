@@ -6,7 +6,8 @@ use Rattle.terms.proofs.Masks.matches.Tie as tie
 
 returns : tie.Need-returns
 returns c =
-    let a = c .before .before .before .before .before .before .before .before .before .before .before .args in
+    let half = c .before .before .before .before .before in
+    let a = half .before .before .before .before .before .before .args in
     unmet-none (asMasks (a .self)) (a .prev) (a .v)
 
 pub matches-spec : {M : Type 1} → statement M
