@@ -2,11 +2,12 @@
 use capture::Capture;
 use find::Place;
 use lines::Mask;
+use number::lesser;
 use search::next_in;
 use search::prev_in;
 ghost use mathlib.Core.Path.{_≡_};
 ghost use mathlib.Core.Bool.{cond};
-ghost use Prim.Native.Nat.{_-_, _≤_, min};
+ghost use Prim.Native.Nat.{_-_, _≤_};
 ghost use lib.Dec.{ltb};
 ghost use Rattle.rules.specs.Burst.{sum, sideIf, nearer};
 ghost use Rattle.node.specs.Memory.{levelOf};
@@ -69,12 +70,6 @@ fn sum_of(a: usize, b: usize) -> usize
     } else {
         a + b
     }
-}
-
-fn least(a: usize, b: usize) -> usize
-    ensures { λ r. ⌜ r ≡ min a b ⌝ }
-{
-    if a < b { a } else { b }
 }
 
 // 0 where b is more, as in the definitions.
@@ -412,7 +407,7 @@ pub fn burst_at<'a>(
         len,
         mask,
         max_gap,
-        least(tolerance, max_gap - 1),
+        lesser(tolerance, max_gap - 1),
         sample,
     );
     let side = pair.side;

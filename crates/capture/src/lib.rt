@@ -1,11 +1,15 @@
 // A capture in lent memory: its record, the one check of every call on it, and the calls that need no summary.
+use level::CHUNK;
+use level::nodes_of;
 use lines::Mask;
+use node::SIZE;
+use number::MOST_SAMPLES;
 ghost use mathlib.Core.Path.{_≡_};
 ghost use mathlib.Core.Bool.{Bool};
 ghost use Prim.Native.Nat.{_+_, _*_, _≤_};
 ghost use lib.ListN.{length};
 ghost use Rattle.rules.specs.Reading.{getAnswer, copiedTo};
-ghost use Rattle.rules.specs.Node.{chunkEnd};
+ghost use Rattle.rules.specs.Node.{chunk, chunkEnd};
 ghost use Rattle.rules.specs.Sample.{unitOf, sampleOf};
 ghost use Rattle.rules.specs.Answer.{unless};
 ghost use Rattle.rules.specs.Refusal.{unitWrong, markWrong, storeWrong, lentShort, storeRefusal, fresh, copied};
@@ -26,8 +30,6 @@ pub struct Capture {
     pub len: usize,
     pub trigger: Mark,
 }
-
-const MOST_SAMPLES: usize = 67108864;
 
 // The mark lies beyond the stored samples.
 fn mark_wrong(m: Mark, len: usize) -> bool
@@ -84,10 +86,10 @@ fn sizes_of(c: Capture) -> Sizes
 {
     Sizes {
         samples: c.capacity * c.unitsize,
-        l1: (c.capacity + 31) / 32 * 3,
-        l2: (c.capacity + 1023) / 1024 * 3,
-        l3: (c.capacity + 32767) / 32768 * 3,
-        l4: (c.capacity + 1048575) / 1048576 * 3,
+        l1: nodes_of(c.capacity, 1) * SIZE,
+        l2: nodes_of(c.capacity, 2) * SIZE,
+        l3: nodes_of(c.capacity, 3) * SIZE,
+        l4: nodes_of(c.capacity, 4) * SIZE,
     }
 }
 
@@ -287,14 +289,12 @@ pub fn samples<'a>(
     Copied::Count(k)
 }
 
-const CHUNK: usize = 1048576;
-
 // Where a chunk's samples end.
-fn chunk_end(len: usize, chunk: usize) -> usize
-    requires { ⌜ chunk * 1048576 ≤ len ⌝ }
-    ensures { λ r. ⌜ r ≡ chunkEnd len chunk ⌝ }
+fn chunk_end(len: usize, ci: usize) -> usize
+    requires { ⌜ ci * chunk ≤ len ⌝ }
+    ensures { λ r. ⌜ r ≡ chunkEnd len ci ⌝ }
 {
-    let base = chunk * CHUNK;
+    let base = ci * CHUNK;
     if len - base < CHUNK {
         return len;
     }

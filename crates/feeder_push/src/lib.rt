@@ -11,7 +11,7 @@ use feeder_scan::first_fire;
 use feeder_scan::last_sample;
 use lines::Mask;
 use lines::get;
-use store::lesser;
+use number::lesser;
 use terms::Previous;
 ghost use mathlib.Core.Path.{_≡_};
 ghost use mathlib.Core.List.{_++_};

@@ -1,6 +1,7 @@
 // Samples go to the ring of a recorder that waits, and the ring's next place.
+use number::lesser;
 ghost use mathlib.Core.Path.{_≡_};
-ghost use Prim.Native.Nat.{_+_, _-_, _≤_, _<_, min, max};
+ghost use Prim.Native.Nat.{_+_, _-_, _≤_, _<_, max};
 ghost use lib.ListN.{length, take, drop};
 ghost use Rattle.rules.specs.Ring.{placeAfter, written, ringBytes};
 ghost use Rattle.feeder_ring.specs.Room.{RingRoom};
@@ -30,12 +31,6 @@ fn copy_run(ring: &mut [u8], at: usize, bytes: &[u8], from: usize, n: usize)
         ring[at + i] = bytes[from + i];
         i += 1;
     }
-}
-
-fn lesser(a: usize, b: usize) -> usize
-    ensures { λ r. ⌜ r ≡ min a b ⌝ }
-{
-    if a < b { a } else { b }
 }
 
 // n samples that reach past the ring's end: the last of them, as many as there are slots at most, up to the end and on from the start.

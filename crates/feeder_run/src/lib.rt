@@ -1,8 +1,8 @@
 // What a push hands to the store: samples of the ring and its own, as far as there is room.
 // The numbers of a recorder come one by one: a record would be copied at each call.
 use lines::Mask;
+use number::lesser;
 use store::append_parts;
-use store::lesser;
 ghost use mathlib.Core.Path.{_≡_};
 ghost use mathlib.Core.List.{_++_};
 ghost use Prim.Native.Nat.{_+_, _-_, _*_, _≤_};

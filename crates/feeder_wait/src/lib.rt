@@ -9,7 +9,8 @@ use feeder_scan::any_level;
 use feeder_scan::fire_few;
 use lines::Mask;
 use lines::get;
-use store::lesser;
+use number::MOST_SAMPLES;
+use number::lesser;
 ghost use mathlib.Core.Path.{_≡_};
 ghost use mathlib.Core.Bool.{true};
 ghost use mathlib.Core.List.{[], _∷_};
@@ -22,8 +23,6 @@ ghost use Rattle.node.specs.Memory.{levelOf};
 ghost use Rattle.capture.specs.Record.{lentOf};
 ghost use Rattle.feeder_scan.specs.Scan.{Holds};
 ghost use Rattle.feeder_wait.specs.Wait.{Waiting, fireOf, Count, CopyRoom, FewRoom, FewAfter, ShortAfter};
-
-const MOST_SAMPLES: usize = 67108864;
 
 // Whether it waits with nothing stored, as start and push leave its numbers, and neither row 1 nor row 2 holds.
 // The order is for speed: tests with no read between them are joined to a longer one, memory after more tests is a call, and numbers read early are kept in registers for the ordinary push.

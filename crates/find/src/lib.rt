@@ -1,11 +1,13 @@
 // A search within one chunk: 01's walk over the nodes that memory holds, in runs of nodes of one level.
 // Places are the capture's; the chunk's samples are lent as their part of sample memory, levels are lent whole.
 // `back` says which way: forward and backward are one loop, the source's find_fwd and find_back.
+use level::FAN;
 use lines::Mask;
 use node::Node;
+use number::lesser;
 ghost use mathlib.Core.Path.{_≡_};
 ghost use mathlib.Core.Bool.{true, false};
-ghost use Prim.Native.Nat.{_+_, _-_, _*_, _/_, _≤_, _<_, min};
+ghost use Prim.Native.Nat.{_+_, _-_, _*_, _/_, _≤_, _<_};
 ghost use Rattle.rules.specs.Node.{mirror, topLevel, chunk};
 ghost use Rattle.rules.specs.Walk.{walkFrom};
 ghost use Rattle.node.specs.Memory.{asNode, levelOf};
@@ -14,9 +16,6 @@ ghost use Rattle.find.specs.Run.{nodeAt, nthNode, NodeHeld, NthHeld, Run
 ghost use Rattle.find.specs.Way.{moved, leftIn, toBorder, numberIn, wayIn, placeOf};
 ghost use Rattle.find.specs.Takes.{Takes};
 ghost use Rattle.find.specs.Near.{few, Near};
-
-// A node has this many of the level below.
-const FAN: usize = 32;
 
 // The answer of a chunk: a place and the nodes read, or these alone.
 // 02, CR 3: "Every forward and backward search returns the count of nodes read, samples at level 0 included".
@@ -137,12 +136,6 @@ fn number(base: usize, l: usize, s: usize, pos: usize) -> usize
     if l == 0 { pos - base } else { pos / s }
 }
 
-fn least(a: usize, b: usize) -> usize
-    ensures { λ r. ⌜ r ≡ min a b ⌝ }
-{
-    if a < b { a } else { b }
-}
-
 // A level taken: which, the samples of its nodes, how many nodes were asked, how many passed, and the value after these.
 struct Taken {
     l: usize,
@@ -174,7 +167,7 @@ fn take<'a>(
     let room = left(back, base, hi, pos);
     let l = level::best_level(pos, room, maxl);
     let s = level::span(l);
-    let n = least(to_border(back, pos / s), room / s);
+    let n = lesser(to_border(back, pos / s), room / s);
     let from = number(base, l, s, pos);
     let level = node::level_of(l1, l2, l3, l4, l);
     let r = run(part, level, unitsize, l, back, from, n, before, mask);
@@ -253,7 +246,7 @@ fn few(back: bool, pos: usize) -> usize
     if pos % FAN == 0 {
         return 0;
     }
-    least(to_border(back, pos), FEW)
+    lesser(to_border(back, pos), FEW)
 }
 
 // The find of a capture of len samples, where it is one of the next few: with dense changes nothing more is looked at.
@@ -272,7 +265,7 @@ pub fn near(
     requires { ⌜ Bytes unitsize len (now samples) × (start ≤ len) ⌝ }
     ensures { λ r. ⌜ Near unitsize len (now (samples .entry)) (now (level .entry)) back mask start before (placeOf r) ⌝ }
 {
-    let n = least(few(back, start), left(back, 0, len, start));
+    let n = lesser(few(back, start), left(back, 0, len, start));
     let r = run(samples, level, unitsize, 0, back, start, n, before, mask);
     if r.count < n {
         let count = r.count + 1; // the sample that is found was read too

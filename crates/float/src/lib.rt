@@ -1,4 +1,5 @@
 // Binary64 numbers: NaN and infinities told by comparisons, floors and roundings worked out from bits. 01: Burst and render, Selection and recorder.
+use number::MOST_SAMPLES;
 ghost use mathlib.Core.Path.{_≡_};
 ghost use Prim.Native.Nat.{_*_, _/_, _^_, _≤_, _<_};
 ghost use lib.Dec.{T};
@@ -8,6 +9,7 @@ ghost use lib.Ieee.Positive.{num, den, positive};
 ghost use lib.Ieee.Scale.{finite};
 ghost use Rattle.rules.specs.Floor.{floorOf, nearestOf, natural};
 ghost use Rattle.rules.specs.Pixel.{moved};
+ghost use Rattle.rules.specs.Refusal.{mostSamples};
 ghost use Rattle.rules.specs.Pretrigger.{seconds, clamp, fractionOf, preFor};
 ghost use Rattle.float.specs.Places.{placeOf};
 ghost use Rattle.float.specs.Sizes.{Under, Shiftable, ceilOf};
@@ -67,7 +69,7 @@ fn ceiling(y: f64) -> u64
 // Where the floor of x, counted from origin, lies among the places 0..hi; a NaN counts as below.
 // The floor is taken of x itself: x + origin could round.
 pub fn floor_in(x: f64, origin: u64, hi: u64) -> Place
-    requires { ⌜ origin ≤ hi ⌝ ∗ ⌜ hi ≤ 67108864 ⌝ }
+    requires { ⌜ origin ≤ hi ⌝ ∗ ⌜ hi ≤ mostSamples ⌝ }
     ensures { λ r. ⌜ r ≡ placeOf (moved (pos origin) (floorOf x)) hi ⌝ }
 {
     if x >= 1.0 {
@@ -123,7 +125,7 @@ pub fn clamped(top: f64, p: f64) -> f64
 
 // floor(limit × p), p clamped to 0..0.99.
 pub fn fraction_samples(limit: u64, p: f64) -> u64
-    requires { ⌜ limit ≤ 67108864 ⌝ }
+    requires { ⌜ limit ≤ mostSamples ⌝ }
     ensures { λ r. ⌜ r ≡ fractionOf limit p ⌝ }
 {
     whole_part((limit as f64) * clamped(0.99, p))
@@ -135,7 +137,7 @@ pub fn seconds_samples(t: f64, rate: u64, unit: u64) -> Kept
     ensures { λ r. ⌜ keptAs r ≡ preFor (seconds t) 0 rate unit ⌝ }
 {
     let wanted = nearest((rate as f64) * clamped(1.0, t));
-    let cap = 67108864 / unit;
+    let cap = (MOST_SAMPLES as u64) / unit;
     if cap < wanted {
         Kept {
             samples: cap,

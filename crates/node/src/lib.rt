@@ -16,7 +16,7 @@ pub struct Node {
 }
 
 // Numbers a node takes in level memory.
-const SIZE: usize = 3;
+pub const SIZE: usize = 3;
 
 impl Node {
     // The node of one sample.

@@ -3,6 +3,7 @@ ghost use mathlib.Core.Path.{_≡_};
 ghost use Prim.Native.Nat.{_≤_, _<_};
 ghost use lib.IntN.{pos};
 ghost use Rattle.rules.specs.Pixel.{pixelEdge, moved, rangeFrom};
+ghost use Rattle.rules.specs.Refusal.{mostSamples};
 ghost use Rattle.float.specs.Places.{placeOf};
 ghost use Rattle.pixel.specs.Ranges.{viewAs, rangeAs, endAt, spannedBy, coverBy};
 use float::Place;
@@ -20,7 +21,7 @@ pub enum Pixel {
 
 // Where floor(start + px × spp), counted from origin, lies: the product is rounded, then the sum.
 fn edge_in(v: View, px: u64, origin: u64, len: u64) -> Place
-    requires { ⌜ px ≤ 65536 ⌝ ∗ ⌜ origin ≤ len ⌝ ∗ ⌜ len ≤ 67108864 ⌝ }
+    requires { ⌜ px ≤ 65536 ⌝ ∗ ⌜ origin ≤ len ⌝ ∗ ⌜ len ≤ mostSamples ⌝ }
     ensures { λ r. ⌜ r ≡ placeOf (moved (pos origin) (pixelEdge (viewAs v) px)) len ⌝ }
 {
     // 32 bits convert in one instruction, 64 do only where px is known to be small
@@ -72,7 +73,7 @@ fn cover(a: Place, b: Place, len: u64) -> Pixel
 
 // The places that pixel px covers, of len stored ones, where the view counts from origin.
 pub fn pixel_range(v: View, px: u64, origin: u64, len: u64) -> Pixel
-    requires { ⌜ px < 65536 ⌝ ∗ ⌜ origin ≤ len ⌝ ∗ ⌜ len ≤ 67108864 ⌝ }
+    requires { ⌜ px < 65536 ⌝ ∗ ⌜ origin ≤ len ⌝ ∗ ⌜ len ≤ mostSamples ⌝ }
     ensures { λ r. ⌜ rangeAs r ≡ rangeFrom origin (viewAs v) len px ⌝ }
 {
     let a = edge_in(v, px, origin, len);

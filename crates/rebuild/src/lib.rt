@@ -1,6 +1,7 @@
 // Nodes put into a level once samples stand at the places len to top. The node that place len lies in runs on: the new samples in its range join what it was,
 // and those before are not read. The node of these samples is carried from level to level. The nodes behind it cover new samples alone: they are made from
 // the samples of a chunk's part, and above level 1 from the level below.
+use level::FAN;
 use level::span;
 use lines::Mask;
 use node::Node;
@@ -18,9 +19,6 @@ ghost use Rattle.range.specs.Join.{madeOver};
 ghost use Rattle.range.specs.Part.{partSample};
 ghost use Rattle.rebuild.specs.Rebuild.{putNodes, putRunning, newNodes, NodeJoined, JoinedAbove};
 ghost use Rattle.rebuild.specs.Room.{NodeRoom, FirstRoom, JoinRoom, LevelRoom, RaiseRoom};
-
-// Nodes of a level that make one of the next.
-pub const FAN: usize = 32;
 
 // The end of the 32 places from a on, of which top is the last that counts.
 fn end_of(a: usize, top: usize) -> usize

@@ -1,6 +1,7 @@
 // The recorded answers of the Rust, asked of this library. Its arguments are the lists, files of data/, whose README.md
 // defines their format. For each list it writes the list's name, how many lines it compared and how many differed,
 // and one line more for the first that did.
+use number::lesser;
 use replay_list::Level1;
 use replay_list::Level2;
 use replay_list::Level3;
@@ -11,7 +12,6 @@ use replay_list::Ring;
 use replay_list::Samples;
 use replay_list::replay_list;
 use replay_list::state::State;
-use replay_text::numbers::least;
 
 fn write(bytes: &[u8]) {
     io::write_all(1, bytes);
@@ -23,8 +23,8 @@ fn write_number(n: usize) {
 
 // The name of a list is its path, of n bytes, without ".txt".
 fn write_name(path: &[u8], n: usize) {
-    let k = least(n, path.len());
-    let e = k - least(k, 4);
+    let k = lesser(n, path.len());
+    let e = k - lesser(k, 4);
     write(&path[0..e]);
 }
 
@@ -46,7 +46,7 @@ fn report(path: &[u8], n: usize, s: State) {
 
 // Reads the list at a path of n bytes; how many bytes it has. A newline follows them, so that the last line ends there.
 fn read(path: &[u8], n: usize, text: &mut [u8]) -> usize {
-    let e = least(n, path.len());
+    let e = lesser(n, path.len());
     let fd = os::open_read(&path[0..e]);
     if fd < 0 {
         os::fail(&path[0..e]);

@@ -7,6 +7,7 @@ use capture::Mark;
 use feeder::Armed;
 use feeder::Feeder;
 use lines::Mask;
+use number::lesser;
 use pixel::View;
 use render::Drawn;
 use replay_text::answers::Answer;
@@ -18,7 +19,6 @@ use replay_text::digests::digest_of_bytes;
 use replay_text::digests::digest_of_samples;
 use replay_text::numbers::flag;
 use replay_text::numbers::float_of;
-use replay_text::numbers::least;
 use replay_text::numbers::mask_of;
 use replay_text::numbers::value_of;
 use replay_text::operations::Operation;
@@ -81,7 +81,7 @@ fn burst(r: Bursts) -> Answer {
 fn drawn(r: Drawn, width: usize) -> Answer {
     match r {
         Drawn::Refused(n) => refused(n),
-        Drawn::Done => listed(2 * least(width, 65536)),
+        Drawn::Done => listed(2 * lesser(width, 65536)),
     }
 }
 
@@ -151,7 +151,7 @@ fn digest_of_store<'a>(
     while start < c.len {
         let most = output.len();
         let r = capture::samples(c, samples, l1, l2, l3, l4, start, most, output);
-        let n = least(least(count_of(r), output.len()), c.len - start);
+        let n = lesser(lesser(count_of(r), output.len()), c.len - start);
         if n == 0 {
             break;
         }
@@ -169,7 +169,7 @@ fn digested(a: Answer, output: &[Mask]) -> Answer {
     if a.refusal != 0 {
         return a;
     }
-    let e = least(a.listed, output.len());
+    let e = lesser(a.listed, output.len());
     one(digest_of_samples(0, &output[0..e]))
 }
 
@@ -191,7 +191,7 @@ pub fn ask<'a>(
         14 => run(f, digest_of_store(c, samples, l1, l2, l3, l4, output)),
         15 => got(capture::get(c, samples, l1, l2, l3, l4, a[0])),
         16 => {
-            let e = least(a[2], output.len());
+            let e = lesser(a[2], output.len());
             copied(capture::samples(c, samples, l1, l2, l3, l4, a[0], a[1], &mut output[0..e]))
         }
         17 => part(capture::raw(c, samples, l1, l2, l3, l4, a[0])),
@@ -213,7 +213,7 @@ pub fn ask<'a>(
             a[4],
         )),
         40 | 41 => {
-            let e = least(a[3], output.len());
+            let e = lesser(a[3], output.len());
             let view = View {
                 start: float_of(a[0]),
                 spp: float_of(a[1]),

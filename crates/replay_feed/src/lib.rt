@@ -1,6 +1,6 @@
 // What a line gives to an append or a push: bytes, runs of equal samples, or noise, handed over in pieces.
 use lines::Mask;
-use replay_text::numbers::least;
+use number::lesser;
 use replay_text::numbers::mask_of;
 use replay_text::numbers::number;
 use replay_text::operations::Operation;
@@ -172,7 +172,7 @@ fn filled_with(feed: Feed, bytes: usize) -> Filled
 pub fn fill(line: &[u8], f: Feed, piece: &mut [u8]) -> Filled
     ensures { λ r. ⌜ Fills f (now (piece .entry)) r ⌝ }
 {
-    let size = least(piece_size(f.unitsize), piece.len());
+    let size = lesser(piece_size(f.unitsize), piece.len());
     let mut feed = f;
     let mut bytes = 0;
     loop {

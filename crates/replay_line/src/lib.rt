@@ -1,6 +1,7 @@
 // One line of a list, over the parts of memory that are lent.
 use feeder::Feeder;
 use lines::Mask;
+use number::lesser;
 use replay_ask::ask;
 use replay_change::write;
 use replay_change::writes;
@@ -8,7 +9,6 @@ use replay_start::Change;
 use replay_start::begin;
 use replay_start::begins;
 use replay_start::leaves;
-use replay_text::numbers::least;
 use replay_text::operations::Operation;
 
 // The lengths that the lent slices have.
@@ -55,12 +55,12 @@ pub fn step(
     output: &mut [Mask],
     piece: &mut [u8],
 ) -> Change {
-    let e = least(lent.samples, samples.len());
-    let e1 = least(lent.l1, l1.len());
-    let e2 = least(lent.l2, l2.len());
-    let e3 = least(lent.l3, l3.len());
-    let e4 = least(lent.l4, l4.len());
-    let er = least(lent.ring, ring.len());
+    let e = lesser(lent.samples, samples.len());
+    let e1 = lesser(lent.l1, l1.len());
+    let e2 = lesser(lent.l2, l2.len());
+    let e3 = lesser(lent.l3, l3.len());
+    let e4 = lesser(lent.l4, l4.len());
+    let er = lesser(lent.ring, ring.len());
     if writes(o.code) {
         return write(
             o,

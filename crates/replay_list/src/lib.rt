@@ -2,8 +2,8 @@
 pub mod state;
 
 use lines::Mask;
+use number::lesser;
 use replay_line::step;
-use replay_text::numbers::least;
 use replay_text::operations::read_operation;
 use replay_text::text::line_after;
 use replay_text::text::line_end;
@@ -39,7 +39,7 @@ pub fn replay_list(
     output: &mut Output,
     piece: &mut Piece,
 ) -> State {
-    let n = least(count, text.len());
+    let n = lesser(count, text.len());
     let mut s = State::start();
     let mut at = 0;
     while at < n {

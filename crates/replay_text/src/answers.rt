@@ -1,9 +1,9 @@
 // The answer to a line, and whether it is the recorded one.
-use crate::numbers::least;
 use crate::numbers::number;
 use crate::numbers::value_of;
 use crate::numbers::wide;
 use lines::Mask;
+use number::lesser;
 
 // A refusal's number or 0, how many values there are, the values, and how many numbers of the output follow.
 pub struct Answer {
@@ -73,7 +73,7 @@ fn and(line: &[u8], c: Compared, value: usize) -> Compared {
 fn and_values(line: &[u8], c: Compared, values: [usize; 5], count: usize) -> Compared {
     let mut d = c;
     let mut i = 0;
-    let end = least(count, 5);
+    let end = lesser(count, 5);
     while i < end {
         d = and(line, d, values[i]);
         i += 1;
@@ -84,7 +84,7 @@ fn and_values(line: &[u8], c: Compared, values: [usize; 5], count: usize) -> Com
 fn and_samples(line: &[u8], c: Compared, output: &[Mask], count: usize) -> Compared {
     let mut d = c;
     let mut i = 0;
-    let end = least(count, output.len());
+    let end = lesser(count, output.len());
     while i < end {
         d = and(line, d, value_of(output[i]));
         i += 1;

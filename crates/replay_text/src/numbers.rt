@@ -75,12 +75,6 @@ pub fn number(line: &[u8], at: usize) -> Parsed
     }
 }
 
-pub fn least(a: usize, b: usize) -> usize
-    ensures { λ r. ⌜ (r ≤ a) × (r ≤ b) ⌝ }
-{
-    if a < b { a } else { b }
-}
-
 // A number as a mask or a sample.
 pub fn mask_of(value: usize) -> Mask
     ensures { λ r. ⌜ r ≡ value % 65536 ⌝ }

@@ -1,6 +1,6 @@
 // What a line begins with: the code of its operation, and its arguments.
-use crate::numbers::least;
 use crate::numbers::number;
+use number::lesser;
 
 // The code, its arguments, and where the bytes after them start. The last argument of 11, 12, 51, 52 and 53 is
 // how many entries follow.
@@ -25,7 +25,7 @@ fn arguments_of(code: usize) -> usize {
 
 pub fn read_operation(line: &[u8]) -> Operation {
     let code = number(line, 0);
-    let end = least(arguments_of(code.value), 7);
+    let end = lesser(arguments_of(code.value), 7);
     let mut arguments = [0; 7];
     let mut next = code.next;
     let mut i = 0;

@@ -5,8 +5,10 @@ use find::find;
 use find::moved;
 use find::near;
 use find::nth;
+use level::CHUNK;
 use level::LEVELS;
 use lines::Mask;
+use number::lesser;
 ghost use mathlib.Core.Path.{_≡_};
 ghost use mathlib.Core.Bool.{false};
 ghost use Prim.Native.Nat.{_+_, _-_, _*_, _≤_, _<_, min};
@@ -20,8 +22,6 @@ ghost use Rattle.search.specs.Part.{Stored, Entered};
 ghost use Rattle.search.specs.Quiet.{beside, quietNth, ChunkHeld, ChunksHeld, QuietChunks};
 ghost use Rattle.search.specs.Answer.{foundOf, nextOf, previousOf};
 
-const CHUNK: usize = 1048576;
-
 // The answer: the number of a refusal, a place and the nodes read, or these alone.
 // 02, CR 3: "Every forward and backward search returns the count of nodes read, samples at level 0 included".
 pub enum Found {
@@ -30,18 +30,12 @@ pub enum Found {
     Nothing(usize),
 }
 
-fn least(a: usize, b: usize) -> usize
-    ensures { λ r. ⌜ r ≡ min a b ⌝ }
-{
-    if a < b { a } else { b }
-}
-
 // Where the stored part of chunk ci ends.
 fn chunk_end(ci: usize, len: usize) -> usize
     requires { ⌜ (ci * chunk ≤ len) × (len ≤ mostSamples) ⌝ }
     ensures { λ r. ⌜ r ≡ min ((ci + 1) * chunk) len ⌝ }
 {
-    least((ci + 1) * CHUNK, len)
+    lesser((ci + 1) * CHUNK, len)
 }
 
 // The search in chunk ci from `at` on, or back from there, with the sample at `seen` as the value next to it. Backward that is
@@ -190,7 +184,7 @@ fn chunks_fwd<'a>(
             false,
             mask,
             ci,
-            whole - least(ci, whole),
+            whole - lesser(ci, whole),
         );
         count += passed; // a step each
         ci += passed;
@@ -347,7 +341,7 @@ pub fn prev_in<'a>(
         unitsize,
         len,
         mask,
-        least(from, len - 1),
+        lesser(from, len - 1),
     )
 }
 

@@ -1,14 +1,16 @@
 // Samples join the stored ones in lent memory, and the nodes above them are made. The calls that store are above.
+use level::CHUNK;
+use level::FAN;
 use lines::Mask;
 use node::Node;
-use rebuild::FAN;
+use number::lesser;
 use rebuild::join_first;
 use rebuild::put_running;
 use rebuild::rebuild_above;
 use rebuild::rebuild_new;
 ghost use mathlib.Core.Path.{_≡_};
 ghost use mathlib.Core.List.{_++_};
-ghost use Prim.Native.Nat.{_+_, _/_, _%_, _≤_, min};
+ghost use Prim.Native.Nat.{_+_, _/_, _%_, _≤_};
 ghost use lib.ListN.{length};
 ghost use lib.Seq.{paste};
 ghost use Rattle.rules.specs.Node.{span};
@@ -17,8 +19,6 @@ ghost use Rattle.node.specs.Memory.{asNode, levelOf};
 ghost use Rattle.rebuild.specs.Rebuild.{newNodes, NodeJoined};
 ghost use Rattle.store.specs.Stored.{LevelsAfter, Stored};
 ghost use Rattle.store.specs.Room.{ChunksRoom, StoreRoom, AppendRoom, PartsRoom};
-
-const CHUNK: usize = 1048576;
 
 // n samples of the bytes join the len stored ones, and the nodes of every level above them are made.
 pub fn append_samples(
@@ -136,11 +136,4 @@ fn rebuild_chunks(samples: &[u8], l1: &mut [Mask], unitsize: usize, from: usize,
         rebuild_new(&samples[a..e], l1, unitsize, base, p / FAN, stop - 1);
         p = stop;
     }
-}
-
-// The lesser of two counts; crates above cut by it too.
-pub fn lesser(a: usize, b: usize) -> usize
-    ensures { λ r. ⌜ r ≡ min a b ⌝ }
-{
-    if a < b { a } else { b }
 }

@@ -1,16 +1,19 @@
 // The node of any range of a capture, by the levels.
 use capture::Capture;
 use capture::refusal;
+use level::CHUNK;
+use level::FAN;
 use level::LEVELS;
 use level::best_level;
 use level::span;
 use lines::Mask;
 use node::Node;
 use node::level_of;
+use number::lesser;
 use range::join_nodes;
 use range::raw_node;
 ghost use mathlib.Core.Path.{_≡_};
-ghost use Prim.Native.Nat.{_≤_, _<_, min};
+ghost use Prim.Native.Nat.{_≤_, _<_};
 ghost use lib.ListN.{length};
 ghost use Rattle.rules.specs.Sample.{sampleOf};
 ghost use Rattle.rules.specs.Node.{chunk};
@@ -22,23 +25,13 @@ ghost use Rattle.range.specs.Part.{partSample};
 ghost use Rattle.capture.specs.Record.{storeOf, lentOf};
 ghost use Rattle.summary.specs.Summary.{runEnd, cutAt, Part, ChunkRoom, chunkNode, Within, byLevels, summed, summedOf, summaryOf};
 
-// The smaller of two numbers.
-pub fn smaller(a: usize, b: usize) -> usize
-    ensures { λ r. ⌜ r ≡ min a b ⌝ }
-{
-    if a < b {
-        return a;
-    }
-    b
-}
-
 // Nodes of s samples go on from pos to the next border of the level above, or to the last that ends by b.
 fn run_end(pos: usize, b: usize, s: usize) -> usize
     requires { ⌜ (pos < b) × (b ≤ mostSamples) × (1 ≤ s) × (s ≤ chunk) ⌝ }
     ensures { λ r. ⌜ r ≡ runEnd s pos b ⌝ }
 {
-    let above = 32 * s;
-    smaller((pos / above + 1) * above, b / s * s)
+    let above = FAN * s;
+    lesser((pos / above + 1) * above, b / s * s)
 }
 
 // A part of a range: its node, and where it ends.
@@ -105,14 +98,12 @@ fn chunk_summary<'a>(
     acc
 }
 
-const CHUNK: usize = 1048576;
-
 // [pos, b) is cut at the end of its first chunk.
 fn cut_at(pos: usize, b: usize) -> usize
     requires { ⌜ (pos < b) × (b ≤ mostSamples) ⌝ }
     ensures { λ r. ⌜ r ≡ cutAt pos b ⌝ }
 {
-    smaller((pos / CHUNK + 1) * CHUNK, b)
+    lesser((pos / CHUNK + 1) * CHUNK, b)
 }
 
 // The node of [pos, end) within one chunk, whose samples are handed on as that part of sample memory.
@@ -203,7 +194,7 @@ pub fn summed_in<'a>(
     requires { ⌜ Sound (storeOf c) (lentOf (now samples) (levelOf (now l1) (now l2) (now l3) (now l4))) ⌝ }
     ensures { λ r. ⌜ summedOf r ≡ given (summaryOf (levelOf (now (l1 .entry)) (now (l2 .entry)) (now (l3 .entry)) (now (l4 .entry))) (sampleOf (c .unitsize) (now (samples .entry))) (c .len) a b) ⌝ }
 {
-    let end = smaller(b, c.len);
+    let end = lesser(b, c.len);
     if end <= a {
         return Summed::Nothing;
     }

@@ -1,23 +1,22 @@
 // Whether the levels are right: each node that covers stored samples against the samples, or the level below it.
 use capture::Capture;
 use capture::refusal;
+use level::FAN;
 use level::LEVELS;
-use level::span;
+use level::nodes_of;
 use lines::Mask;
 use node::Node;
 use node::level_of;
 use node::node_in;
+use number::lesser;
 use range::join_nodes;
 use range::raw_node;
-use summary::smaller;
 ghost use mathlib.Core.Path.{_≡_};
 ghost use mathlib.Core.Bool.{Bool, not};
-ghost use Prim.Native.Nat.{_+_, _*_, _≤_, _<_};
 ghost use Rattle.rules.specs.Wrong.{sameNode, wholeAnswer};
 ghost use Rattle.rules.specs.Sample.{sampleOf};
-ghost use Rattle.rules.specs.Node.{nodesFor, topLevel};
 ghost use Rattle.rules.specs.Answer.{given, unless};
-ghost use Rattle.rules.specs.Refusal.{storeRefusal, mostSamples};
+ghost use Rattle.rules.specs.Refusal.{storeRefusal};
 ghost use Rattle.rules.proofs.Refusal.{Sound};
 ghost use Rattle.node.specs.Memory.{asNode, levelOf, nodeIn};
 ghost use Rattle.capture.specs.Record.{storeOf, lentOf};
@@ -36,15 +35,6 @@ fn same_node(a: Node, b: Node) -> bool
     a.mask == b.mask
 }
 
-// How many nodes of a level cover stored samples.
-fn nodes_of(len: usize, level: usize) -> usize
-    requires { ⌜ (len ≤ mostSamples) × (level ≤ topLevel) ⌝ }
-    ensures { λ r. ⌜ r ≡ nodesFor len level ⌝ }
-{
-    let s = span(level);
-    (len + (s - 1)) / s
-}
-
 // Node j of a level, made from the level below it; level 1 from the samples.
 fn made<'a>(
     c: Capture,
@@ -59,12 +49,12 @@ fn made<'a>(
     requires { ⌜ Numbered (storeOf c) (lentOf (now samples) (levelOf (now l1) (now l2) (now l3) (now l4))) level j ⌝ }
     ensures { λ r. ⌜ asNode r ≡ madeNode (sampleOf (c .unitsize) (now (samples .entry))) (c .len) (levelOf (now (l1 .entry)) (now (l2 .entry)) (now (l3 .entry)) (now (l4 .entry))) level j ⌝ }
 {
-    let a = j * 32;
+    let a = j * FAN;
     if level == 1 {
-        let e = smaller(a + 32, c.len);
+        let e = lesser(a + FAN, c.len);
         return raw_node(samples, c.unitsize, a, e);
     }
-    let e = smaller(a + 32, nodes_of(c.len, level - 1));
+    let e = lesser(a + FAN, nodes_of(c.len, level - 1));
     join_nodes(level_of(l1, l2, l3, l4, level - 1), a, e)
 }
 

@@ -56,7 +56,7 @@ paired : (p : tie.After-pair-of) (side : Option rule.Side) → side ≡ sideAs (
 paired p side e =
     let h = p .before .before in
     let s = start-at p in
-    let clamped : p .before .least .result ≡ min (s .args .tolerance) (s .args .max-gap - 1) = p .before .least .ensures in
+    let clamped : p .before .lesser .result ≡ min (s .args .tolerance) (s .args .max-gap - 1) = p .before .lesser .ensures in
     burst-grown (back-at s) (fore-at s) (s .args .c .len) (s .args .sample) (s .args .max-gap) (s .args .tolerance) (s .args .budget) (h .before .if2 .left) (h .if3 .left) (counted side (p .pair-of .result .read))
     (ap (λ (o : Option rule.Side). counted o (p .pair-of .result .read)) e ∙ p .pair-of .ensures ∙ ap (λ (t : ℕ). pairedBy (back-at s) (fore-at s) (s .args .max-gap) t (s .args .sample)) clamped)
 
@@ -103,11 +103,11 @@ returns-3 c =
     let s = start-of k in
     told k (counted none 0) (burst-narrow (back-at s) (fore-at s) (s .args .c .len) (s .args .sample) (s .args .max-gap) (s .args .tolerance) (s .args .budget) (c .before .if2 .left) (c .if3 .taken))
 
-sub-least : tie.Need-sub-least
-sub-least c = search needs
+sub-lesser : tie.Need-sub-lesser
+sub-lesser c = search needs
 
-least-requires : tie.Need-least-requires
-least-requires c κs = search needs
+lesser-requires : tie.Need-lesser-requires
+lesser-requires c κs = search needs
 
 pair-of-requires : tie.Need-pair-of-requires
 pair-of-requires c κs = stored (c .before .before)
@@ -151,8 +151,8 @@ burst-at-spec =
     returns
     returns-2
     returns-3
-    sub-least
-    least-requires
+    sub-lesser
+    lesser-requires
     pair-of-requires
     enum-known-side
     enum-told

@@ -14,15 +14,15 @@ returns c = let a = c .before .args in sym (ap (λ (b : Bool). cond b 0 (min (to
 to-border-requires : tie.Need-to-border-requires
 to-border-requires c κs = search needs
 
-least-requires : tie.Need-least-requires
-least-requires c κs = search needs
+lesser-requires : tie.Need-lesser-requires
+lesser-requires c κs = search needs
 
 returns-2 : tie.Need-returns-2
 returns-2 c =
     let a = c .before .before .before .args in
-    c .least .ensures
+    c .lesser .ensures
     ∙ ap (λ (x : ℕ). min x 8) (c .before .to-border .ensures)
     ∙ sym (ap (λ (b : Bool). cond b 0 (min (toBorder (a .back) (a .pos)) 8)) (ne-eqb (a .pos % 32) 0 (c .before .before .if1 .left)))
 
 pub few-spec : {M : Type 1} → statement M
-few-spec = tie.close (tie.spec returns to-border-requires least-requires returns-2)
+few-spec = tie.close (tie.spec returns to-border-requires lesser-requires returns-2)

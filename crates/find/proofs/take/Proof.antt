@@ -24,11 +24,11 @@ div-to-border c = omega arith
 to-border-requires : tie.Need-to-border-requires
 to-border-requires c κs = search needs
 
-div-least : tie.Need-div-least
-div-least c = omega arith
+div-lesser : tie.Need-div-lesser
+div-lesser c = omega arith
 
-least-requires : tie.Need-least-requires
-least-requires c κs = search needs
+lesser-requires : tie.Need-lesser-requires
+lesser-requires c κs = search needs
 
 number-requires : tie.Need-number-requires
 number-requires c κs = (omega arith, omega arith)
@@ -44,9 +44,9 @@ run-requires c κs =
     let a = s .args in
     let w = f .before .before .before .before .span in
     take-held (a .back) (a .unitsize) (a .base) (a .hi) (now (a .part)) (levelOf (now (a .l1)) (now (a .l2)) (now (a .l3)) (now (a .l4)))
-    (a .pos) (o .before .left .result) (a .maxl) (o .best-level .result) (w .result) (f .before .before .least .result) (f .before .number .result) (now (f .level-of .result))
+    (a .pos) (o .before .left .result) (a .maxl) (o .best-level .result) (w .result) (f .before .before .lesser .result) (f .before .number .result) (now (f .level-of .result))
     (o .before .left .ensures) (o .best-level .ensures) (w .ensures .0)
-    (f .before .before .least .ensures ∙ ap (λ (x : ℕ). min x (o .before .left .result / w .result)) (f .before .before .before .to-border .ensures)) (f .before .number .ensures) (f .level-of .ensures)
+    (f .before .before .lesser .ensures ∙ ap (λ (x : ℕ). min x (o .before .left .result / w .result)) (f .before .before .before .to-border .ensures)) (f .before .number .ensures) (f .level-of .ensures)
     (s .pre .0) (s .pre .1) (s .pre .2) (s .pre .4) (omega arith)
 
 returns : tie.Need-returns
@@ -57,9 +57,9 @@ returns c =
     let a = s .args in
     let w = f .before .before .before .before .span in
     taken (a .back) (a .unitsize) (a .base) (a .hi) (now (a .part)) (levelOf (now (a .l1)) (now (a .l2)) (now (a .l3)) (now (a .l4)))
-    (a .pos) (o .before .left .result) (a .maxl) (o .best-level .result) (w .result) (f .before .before .least .result) (f .before .number .result) (now (f .level-of .result))
+    (a .pos) (o .before .left .result) (a .maxl) (o .best-level .result) (w .result) (f .before .before .lesser .result) (f .before .number .result) (now (f .level-of .result))
     (o .before .left .ensures) (o .best-level .ensures) (w .ensures .0)
-    (f .before .before .least .ensures ∙ ap (λ (x : ℕ). min x (o .before .left .result / w .result)) (f .before .before .before .to-border .ensures)) (f .before .number .ensures) (f .level-of .ensures)
+    (f .before .before .lesser .ensures ∙ ap (λ (x : ℕ). min x (o .before .left .result / w .result)) (f .before .before .before .to-border .ensures)) (f .before .number .ensures) (f .level-of .ensures)
     (a .mask) (a .before) (c .run .result .count) (c .run .result .value) (c .run .ensures)
 
 pub take-spec : {M : Type 1} → statement M
@@ -71,8 +71,8 @@ take-spec =
     span-requires
     div-to-border
     to-border-requires
-    div-least
-    least-requires
+    div-lesser
+    lesser-requires
     number-requires
     level-of-requires
     run-requires

@@ -22,14 +22,14 @@ samples-requires c κs = search needs
 count-of-requires : tie.Need-count-of-requires Inv-loop μ-loop
 count-of-requires c κs = search needs
 
-least-requires : tie.Need-least-requires Inv-loop μ-loop
-least-requires c κs = search needs
+lesser-requires : tie.Need-lesser-requires Inv-loop μ-loop
+lesser-requires c κs = search needs
 
-sub-least : tie.Need-sub-least Inv-loop μ-loop
-sub-least c = search needs
+sub-lesser : tie.Need-sub-lesser Inv-loop μ-loop
+sub-lesser c = search needs
 
-least-requires-2 : tie.Need-least-requires-2 Inv-loop μ-loop
-least-requires-2 c κs = search needs
+lesser-requires-2 : tie.Need-lesser-requires-2 Inv-loop μ-loop
+lesser-requires-2 c κs = search needs
 
 sub-digest-of-samples : tie.Need-sub-digest-of-samples Inv-loop μ-loop
 sub-digest-of-samples c = search needs
@@ -73,9 +73,9 @@ digest-of-store-spec =
     loop-holds
     samples-requires
     count-of-requires
-    least-requires
-    sub-least
-    least-requires-2
+    lesser-requires
+    sub-lesser
+    lesser-requires-2
     sub-digest-of-samples
     part-digest-of-samples-start
     part-digest-of-samples-end

@@ -17,8 +17,8 @@ abbrev μ-loop : tie.MeasureT-loop
 piece-size-requires : tie.Need-piece-size-requires Inv-loop μ-loop
 piece-size-requires c κs = search needs
 
-least-requires : tie.Need-least-requires Inv-loop μ-loop
-least-requires c κs = search needs
+lesser-requires : tie.Need-lesser-requires Inv-loop μ-loop
+lesser-requires c κs = search needs
 
 loop-holds : tie.Need-loop-holds Inv-loop μ-loop
 loop-holds c = search needs
@@ -69,7 +69,7 @@ fill-spec =
     Inv-loop
     μ-loop
     piece-size-requires
-    least-requires
+    lesser-requires
     loop-holds
     next-run-requires
     loop-less

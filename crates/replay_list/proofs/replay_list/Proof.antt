@@ -13,8 +13,8 @@ abbrev μ-loop : tie.MeasureT-loop
 μ-loop text count samples₀ l1₀ l2₀ l3₀ l4₀ ring₀ output₀ piece₀ n s₀ at₀ samples l1 l2 l3 l4 ring output piece s at =
     n - at
 
-least-requires : tie.Need-least-requires Inv-loop μ-loop
-least-requires c κs = search needs
+lesser-requires : tie.Need-lesser-requires Inv-loop μ-loop
+lesser-requires c κs = search needs
 
 start-requires : tie.Need-start-requires Inv-loop μ-loop
 start-requires c κs = search needs
@@ -68,7 +68,7 @@ replay-list-spec =
     (tie.spec
     Inv-loop
     μ-loop
-    least-requires
+    lesser-requires
     start-requires
     loop-holds
     line-end-requires

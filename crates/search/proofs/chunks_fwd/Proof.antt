@@ -116,8 +116,8 @@ add-count-2 c = omega (arith, coursing-fits (left-at c))
 add-ci : tie.Need-add-ci Inv-loop μ-loop
 add-ci c = omega arith
 
-least-requires : tie.Need-least-requires Inv-loop μ-loop
-least-requires c κs = search needs
+lesser-requires : tie.Need-lesser-requires Inv-loop μ-loop
+lesser-requires c κs = search needs
 
 sub-quiet-chunks : tie.Need-sub-quiet-chunks Inv-loop μ-loop
 sub-quiet-chunks c = omega arith
@@ -164,7 +164,7 @@ chunks-fwd-spec =
     enum-known-p-2
     add-count-2
     add-ci
-    least-requires
+    lesser-requires
     sub-quiet-chunks
     quiet-chunks-requires
     add-count-3

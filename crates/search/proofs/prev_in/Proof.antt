@@ -11,11 +11,11 @@ use Rattle.search.proofs.prev_in.Tie as tie
 returns : tie.Need-returns
 returns c = let a = c .before .before .before .before .before .before .args in previous-nothing allLevels (readerOf (a .unitsize) (now (a .samples)) (levelOf (now (a .l1)) (now (a .l2)) (now (a .l3)) (now (a .l4)))) (a .len) (a .mask) (a .from) (c .if1 .taken)
 
-sub-least : tie.Need-sub-least
-sub-least c = search needs
+sub-lesser : tie.Need-sub-lesser
+sub-lesser c = search needs
 
-least-requires : tie.Need-least-requires
-least-requires c κs = search needs
+lesser-requires : tie.Need-lesser-requires
+lesser-requires c κs = search needs
 
 prev-from-requires : tie.Need-prev-from-requires
 prev-from-requires c κs = search needs
@@ -24,7 +24,7 @@ returns-2 : tie.Need-returns-2
 returns-2 c =
     let known = c .before .before .before in
     let a = known .before .before .before .before .before .args in
-    c .prev-from .ensures ∙ previous-something allLevels (readerOf (a .unitsize) (now (a .samples)) (levelOf (now (a .l1)) (now (a .l2)) (now (a .l3)) (now (a .l4)))) (a .len) (a .mask) (a .from) (c .before .before .if1 .left) (c .before .least .result) (c .before .least .ensures)
+    c .prev-from .ensures ∙ previous-something allLevels (readerOf (a .unitsize) (now (a .samples)) (levelOf (now (a .l1)) (now (a .l2)) (now (a .l3)) (now (a .l4)))) (a .len) (a .mask) (a .from) (c .before .before .if1 .left) (c .before .lesser .result) (c .before .lesser .ensures)
 
 pub prev-in-spec : {M : Type 1} → statement M
-prev-in-spec = tie.close (tie.spec returns sub-least least-requires prev-from-requires returns-2)
+prev-in-spec = tie.close (tie.spec returns sub-lesser lesser-requires prev-from-requires returns-2)

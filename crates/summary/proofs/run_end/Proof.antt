@@ -9,23 +9,23 @@ use Rattle.summary.proofs.run_end.Tie as tie
 mul-above : tie.Need-mul-above
 mul-above c = search needs
 
-div-smaller : tie.Need-div-smaller
-div-smaller c = search needs
+div-lesser : tie.Need-div-lesser
+div-lesser c = search needs
 
-add-smaller : tie.Need-add-smaller
-add-smaller c = omega (arith, div-le-self (c .args .pos) (32 * c .args .s))
+add-lesser : tie.Need-add-lesser
+add-lesser c = omega (arith, div-le-self (c .args .pos) (32 * c .args .s))
 
-mul-smaller : tie.Need-mul-smaller
-mul-smaller c = omega (arith, div-add-mod' (c .args .pos) (32 * c .args .s))
+mul-lesser : tie.Need-mul-lesser
+mul-lesser c = omega (arith, div-add-mod' (c .args .pos) (32 * c .args .s))
 
-div-smaller-2 : tie.Need-div-smaller-2
-div-smaller-2 c = search needs
+div-lesser-2 : tie.Need-div-lesser-2
+div-lesser-2 c = search needs
 
-mul-smaller-2 : tie.Need-mul-smaller-2
-mul-smaller-2 c = omega (arith, div-add-mod' (c .args .b) (c .args .s))
+mul-lesser-2 : tie.Need-mul-lesser-2
+mul-lesser-2 c = omega (arith, div-add-mod' (c .args .b) (c .args .s))
 
-smaller-requires : tie.Need-smaller-requires
-smaller-requires c κs = search needs
+lesser-requires : tie.Need-lesser-requires
+lesser-requires c κs = search needs
 
 returns : tie.Need-returns
 returns c = search needs
@@ -35,10 +35,10 @@ run-end-spec =
     tie.close
     (tie.spec
     mul-above
-    div-smaller
-    add-smaller
-    mul-smaller
-    div-smaller-2
-    mul-smaller-2
-    smaller-requires
+    div-lesser
+    add-lesser
+    mul-lesser
+    div-lesser-2
+    mul-lesser-2
+    lesser-requires
     returns)

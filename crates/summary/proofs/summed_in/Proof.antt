@@ -15,25 +15,25 @@ use Rattle.summary.specs.Summary.{summed}
 use Rattle.summary.proofs.summed_in.Statement.{statement}
 use Rattle.summary.proofs.summed_in.Tie as tie
 
-smaller-requires : tie.Need-smaller-requires
-smaller-requires c κs = search needs
+lesser-requires : tie.Need-lesser-requires
+lesser-requires c κs = search needs
 
 returns : tie.Need-returns
 returns c =
     let a = c .before .before .before .before .before .before .before .args in
-    let h : min (a .b) (a .c .len) ≤ a .a = omega (arith, c .before .smaller .ensures, c .if1 .taken) in
+    let h : min (a .b) (a .c .len) ≤ a .a = omega (arith, c .before .lesser .ensures, c .if1 .taken) in
     sym (ap (λ (t : Bool). given (cond t (some (summed (levelOf (now (a .l1)) (now (a .l2)) (now (a .l3)) (now (a .l4))) (sampleOf (a .c .unitsize) (now (a .samples))) (a .a) (min (a .b) (a .c .len)))) none)) (le-ltb _ _ h))
 
 summary-in-requires : tie.Need-summary-in-requires
-summary-in-requires c κs = record { sound = c .before .before .before .before .before .before .before .pre; order = c .if1 .left; stored = omega (arith, c .before .smaller .ensures) }
+summary-in-requires c κs = record { sound = c .before .before .before .before .before .before .before .pre; order = c .if1 .left; stored = omega (arith, c .before .lesser .ensures) }
 
 returns-2 : tie.Need-returns-2
 returns-2 c =
     let known = c .before .before .before in
     let a = known .before .before .before .before .before .args in
-    let e = c .before .before .smaller .ensures in
+    let e = c .before .before .lesser .ensures in
     let h : a .a < min (a .b) (a .c .len) = omega (arith, e, c .before .if1 .left) in
     ap (λ (n : Node). given (some n)) (c .summary-in .ensures ∙ ap (summed (levelOf (now (a .l1)) (now (a .l2)) (now (a .l3)) (now (a .l4))) (sampleOf (a .c .unitsize) (now (a .samples))) (a .a)) e) ∙ sym (ap (λ (t : Bool). given (cond t (some (summed (levelOf (now (a .l1)) (now (a .l2)) (now (a .l3)) (now (a .l4))) (sampleOf (a .c .unitsize) (now (a .samples))) (a .a) (min (a .b) (a .c .len)))) none)) (lt-ltb _ _ h))
 
 pub summed-in-spec : {M : Type 1} → statement M
-summed-in-spec = tie.close (tie.spec smaller-requires returns summary-in-requires returns-2)
+summed-in-spec = tie.close (tie.spec lesser-requires returns summary-in-requires returns-2)

@@ -21,29 +21,29 @@ mul-a c =
     let a = s .args in
     omega (arith, number-small (storeOf (a .c)) (now (a .samples)) (levelOf (now (a .l1)) (now (a .l2)) (now (a .l3)) (now (a .l4))) (a .level) (a .j) (s .pre))
 
-add-smaller : tie.Need-add-smaller
-add-smaller c =
+add-lesser : tie.Need-add-lesser
+add-lesser c =
     let s = c .before .before .before .before .before .before in
     let a = s .args in
     omega (arith, number-small (storeOf (a .c)) (now (a .samples)) (levelOf (now (a .l1)) (now (a .l2)) (now (a .l3)) (now (a .l4))) (a .level) (a .j) (s .pre))
 
-smaller-requires : tie.Need-smaller-requires
-smaller-requires c κs = search needs
+lesser-requires : tie.Need-lesser-requires
+lesser-requires c κs = search needs
 
 raw-node-requires : tie.Need-raw-node-requires
 raw-node-requires c κs =
     let s = start-at (c .before .before) in
     let a = s .args in
-    samples-room (storeOf (a .c)) (now (a .samples)) (levelOf (now (a .l1)) (now (a .l2)) (now (a .l3)) (now (a .l4))) (a .level) (a .j) (s .pre) (c .smaller .result) (c .before .if1 .taken) (c .smaller .ensures)
+    samples-room (storeOf (a .c)) (now (a .samples)) (levelOf (now (a .l1)) (now (a .l2)) (now (a .l3)) (now (a .l4))) (a .level) (a .j) (s .pre) (c .lesser .result) (c .before .if1 .taken) (c .lesser .ensures)
 
 returns : tie.Need-returns
 returns c =
     let s = start-at (c .before .before .before) in
     let a = s .args in
-    c .raw-node .ensures ∙ made-samples (sampleOf (a .c .unitsize) (now (a .samples))) (a .c .len) (levelOf (now (a .l1)) (now (a .l2)) (now (a .l3)) (now (a .l4))) (a .level) (a .j) (c .before .smaller .result) (c .before .before .if1 .taken) (c .before .smaller .ensures)
+    c .raw-node .ensures ∙ made-samples (sampleOf (a .c .unitsize) (now (a .samples))) (a .c .len) (levelOf (now (a .l1)) (now (a .l2)) (now (a .l3)) (now (a .l4))) (a .level) (a .j) (c .before .lesser .result) (c .before .before .if1 .taken) (c .before .lesser .ensures)
 
-add-smaller-2 : tie.Need-add-smaller-2
-add-smaller-2 c =
+add-lesser-2 : tie.Need-add-lesser-2
+add-lesser-2 c =
     let s = c .before .before .before .before .before .before in
     let a = s .args in
     omega (arith, number-small (storeOf (a .c)) (now (a .samples)) (levelOf (now (a .l1)) (now (a .l2)) (now (a .l3)) (now (a .l4))) (a .level) (a .j) (s .pre))
@@ -54,8 +54,8 @@ sub-nodes-of c = omega (arith, start-at (c .before) .pre .low)
 nodes-of-requires : tie.Need-nodes-of-requires
 nodes-of-requires c κs = let p = start-at (c .before) .pre in omega (arith, p .high, p .sound .len-most, p .sound .capacity-most)
 
-smaller-requires-2 : tie.Need-smaller-requires-2
-smaller-requires-2 c κs = search needs
+lesser-requires-2 : tie.Need-lesser-requires-2
+lesser-requires-2 c κs = search needs
 
 sub-level-of : tie.Need-sub-level-of
 sub-level-of c = omega (arith, start-at (c .before .before .before) .pre .low)
@@ -67,17 +67,17 @@ join-nodes-requires : tie.Need-join-nodes-requires
 join-nodes-requires c κs =
     let s = start-at (c .before .before .before .before) in
     let a = s .args in
-    join-room (storeOf (a .c)) (now (a .samples)) (levelOf (now (a .l1)) (now (a .l2)) (now (a .l3)) (now (a .l4))) (a .level) (a .j) (s .pre) (c .before .smaller2 .result) (now (c .level-of .result)) (omega (arith, s .pre .low, c .before .before .before .if1 .left)) (c .before .smaller2 .ensures ∙ ap (min (a .j * 32 + 32)) (c .before .before .nodes-of .ensures)) (c .level-of .ensures)
+    join-room (storeOf (a .c)) (now (a .samples)) (levelOf (now (a .l1)) (now (a .l2)) (now (a .l3)) (now (a .l4))) (a .level) (a .j) (s .pre) (c .before .lesser2 .result) (now (c .level-of .result)) (omega (arith, s .pre .low, c .before .before .before .if1 .left)) (c .before .lesser2 .ensures ∙ ap (min (a .j * 32 + 32)) (c .before .before .nodes-of .ensures)) (c .level-of .ensures)
 
 returns-2 : tie.Need-returns-2
 returns-2 c =
     let s = start-at (c .before .before .before .before .before) in
     let a = s .args in
-    let e = c .before .before .smaller2 .ensures ∙ ap (min (a .j * 32 + 32)) (c .before .before .before .nodes-of .ensures) in
+    let e = c .before .before .lesser2 .ensures ∙ ap (min (a .j * 32 + 32)) (c .before .before .before .nodes-of .ensures) in
     let h : 2 ≤ a .level = omega (arith, s .pre .low, c .before .before .before .before .if1 .left) in
-    made-below (sampleOf (a .c .unitsize) (now (a .samples))) (a .c .len) (levelOf (now (a .l1)) (now (a .l2)) (now (a .l3)) (now (a .l4))) (a .level) (a .j) (c .before .before .smaller2 .result) (now (c .before .level-of .result)) _ h
-    (join-room (storeOf (a .c)) (now (a .samples)) (levelOf (now (a .l1)) (now (a .l2)) (now (a .l3)) (now (a .l4))) (a .level) (a .j) (s .pre) (c .before .before .smaller2 .result) (now (c .before .level-of .result)) h e (c .before .level-of .ensures) .0)
+    made-below (sampleOf (a .c .unitsize) (now (a .samples))) (a .c .len) (levelOf (now (a .l1)) (now (a .l2)) (now (a .l3)) (now (a .l4))) (a .level) (a .j) (c .before .before .lesser2 .result) (now (c .before .level-of .result)) _ h
+    (join-room (storeOf (a .c)) (now (a .samples)) (levelOf (now (a .l1)) (now (a .l2)) (now (a .l3)) (now (a .l4))) (a .level) (a .j) (s .pre) (c .before .before .lesser2 .result) (now (c .before .level-of .result)) h e (c .before .level-of .ensures) .0)
     e (c .before .level-of .ensures) (c .join-nodes .ensures)
 
 pub made-spec : {M : Type 1} → statement M
-made-spec = tie.close (tie.spec mul-a add-smaller smaller-requires raw-node-requires returns add-smaller-2 sub-nodes-of nodes-of-requires smaller-requires-2 sub-level-of level-of-requires join-nodes-requires returns-2)
+made-spec = tie.close (tie.spec mul-a add-lesser lesser-requires raw-node-requires returns add-lesser-2 sub-nodes-of nodes-of-requires lesser-requires-2 sub-level-of level-of-requires join-nodes-requires returns-2)

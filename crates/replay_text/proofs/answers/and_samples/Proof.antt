@@ -10,8 +10,8 @@ Inv-loop line output count d₀ i₀ end d i = Unit {0}
 abbrev μ-loop : tie.MeasureT-loop
 μ-loop line output count d₀ i₀ end d i = end - i
 
-least-requires : tie.Need-least-requires Inv-loop μ-loop
-least-requires c κs = search needs
+lesser-requires : tie.Need-lesser-requires Inv-loop μ-loop
+lesser-requires c κs = search needs
 
 loop-holds : tie.Need-loop-holds Inv-loop μ-loop
 loop-holds c = search needs
@@ -46,7 +46,7 @@ and-samples-spec =
     (tie.spec
     Inv-loop
     μ-loop
-    least-requires
+    lesser-requires
     loop-holds
     mul-value-of
     shared-slice-read-value-of

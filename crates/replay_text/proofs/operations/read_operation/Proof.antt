@@ -18,8 +18,8 @@ number-requires c κs = search needs
 arguments-of-requires : tie.Need-arguments-of-requires Inv-loop μ-loop
 arguments-of-requires c κs = search needs
 
-least-requires : tie.Need-least-requires Inv-loop μ-loop
-least-requires c κs = search needs
+lesser-requires : tie.Need-lesser-requires Inv-loop μ-loop
+lesser-requires c κs = search needs
 
 loop-holds : tie.Need-loop-holds Inv-loop μ-loop
 loop-holds c = search needs
@@ -53,7 +53,7 @@ read-operation-spec =
     μ-loop
     number-requires
     arguments-of-requires
-    least-requires
+    lesser-requires
     loop-holds
     number-requires-2
     mul-arguments

@@ -1,9 +1,9 @@
--- `whole::nodes_of` meets its contract. Assumes nothing.
+-- `level::nodes_of` meets its contract. Assumes nothing.
 use Prim.Native.Nat.{ℕ, _+_, _-_, _/_}
 use mathlib.Core.Path.{ap}
 use borrow.Author.Needs.{needs}
-use Rattle.whole.proofs.nodes_of.Statement.{statement}
-use Rattle.whole.proofs.nodes_of.Tie as tie
+use Rattle.level.proofs.nodes_of.Statement.{statement}
+use Rattle.level.proofs.nodes_of.Tie as tie
 
 span-requires : tie.Need-span-requires
 span-requires c κs = search needs
