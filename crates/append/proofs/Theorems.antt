@@ -1,5 +1,5 @@
 -- What append's contract means, over the contract itself: `Post` of the call's generated `Reads`.
-use Prim.Native.Nat.{ℕ, _+_, _-_, _*_, _/_, _%_, _≤_, _<_}
+use Prim.Native.Nat.{ℕ, suc, _+_, _-_, _*_, _/_, _%_, _≤_, _<_}
 use mathlib.Core.Path.{_≡_, sym, ap, ap₂, _∙_, subst, subst⁻¹}
 use mathlib.Core.Logic.{_⊎_, inl, inr}
 use mathlib.Core.List.{List, _++_}
@@ -14,7 +14,10 @@ use Rattle.rules.specs.Node.{span, topLevel, levelNode}
 use Rattle.rules.specs.Sample.{sampleOf, sampleCount}
 use Rattle.rules.specs.Refusal.{nodeSize}
 use Rattle.rules.proofs.Refusal.{Sound, MarkInside}
+use Rattle.rules.proofs.Touched.{node-low, node-high}
 use Rattle.node.specs.Memory.{nodeIn, levelOf, Right}
+use Rattle.range.specs.Join.{madeOver}
+use Rattle.range.proofs.Right.{made-true}
 use Rattle.store.specs.Room.{AppendRoom}
 use Rattle.store.proofs.Bytes.{paste-twice}
 use Rattle.store.proofs.Stored.{RoomOrNone, none-samples, none-levels, level-length, level-rest, samples-length, bytes-rest, old-samples, new-samples, has-room, stored-right}
@@ -83,6 +86,13 @@ module _ {c : Capture} {m : Memory} {bytes : List ℕ} {v : Appended} {m′ : Me
   -- Right levels stay right, whether the call refuses or not: for the samples that are stored then, partial last nodes included.
   pub right-stays : RightIn c m → RightIn (recordOf v) m′
   right-stays r = subst⁻¹ (λ (x : Capture). RightIn x m′) (equations .record-is) (stored-right (equations .memory) roomed r)
+
+  -- 01, Store: "Each node touched is made anew from the level below, partial last nodes included." On right levels each node is its nodes of the level below, joined.
+  pub made-anew : RightIn c m → (l j : ℕ) → 1 ≤ l → l < topLevel → j * span (suc l) < recordOf v .len → nodeIn (levels m′ (suc l)) j ≡ madeOver (nodeIn (levels m′ l)) ((recordOf v .len - 1) / span l) j
+  made-anew r l j p q h =
+      right-stays r (suc l) (omega arith) q j h
+      ∙ sym (made-true (sampleOf (recordOf v .unitsize) (m′ .samples)) (recordOf v .len) l ((recordOf v .len - 1) / span l) (nodeIn (levels m′ l)) (right-stays r l p (omega arith))
+      (omega (arith, node-low (recordOf v .len - 1) l)) (omega (arith, node-high (recordOf v .len - 1) l)) j h)
 
   -- The samples that were stored stay, and the ones that are taken follow.
   pub old-stay : (i : ℕ) → i < c .len → sampleOf (c .unitsize) (m′ .samples) i ≡ sampleOf (c .unitsize) (m .samples) i

@@ -134,7 +134,8 @@ fn rebuild_level(below: &[Mask], level: &mut [Mask], first: usize, top: usize)
     }
 }
 
-// Level l + 1, from level l. To n, the node of the new samples in the node of place len there, the nodes behind it are joined; the answer is the same of this level.
+// Level l + 1, from level l, of which n is the node of the new samples in the node of place len. The nodes of level l behind that join n, as far as the node of
+// place len of level l + 1 reaches: the answer is the node of the new samples in this one.
 pub fn rebuild_above(
     below: &[Mask],
     level: &mut [Mask],

@@ -58,6 +58,7 @@ pub nodes :
     × (join (nodeOf s 0 2) (nodeOf s 2 4) ≡ node 1 6 7)
     × (join (node 0 1 0) (node 0 0 0) ≡ node 0 0 1)
     × (join (node 0 1 0) (node 1 1 0) ≡ node 0 1 0)
+    × (join (node 0 1 0) (node 1 0 0) ≡ node 0 0 0)
     × (join (node 0 0 1) (node 0 0 3) ≡ node 0 0 3)
     × (join (node 0 1 3) (node 0 0 1) ≡ node 0 0 3)
     × (mirror (node 1 2 4) ≡ node 2 1 4)
@@ -72,7 +73,7 @@ pub nodes :
     × (quiet (node 1 1 2) 1 1 ≡ true)
     × (quiet (node 1 0 0) 1 1 ≡ true)
 unfolding sampleOf togglesOf nodeOf
-nodes = (refl, refl, refl, refl, refl, refl, refl, refl, refl, refl, refl, refl, refl, refl, refl, refl, refl, refl, refl, refl, refl)
+nodes = (refl, refl, refl, refl, refl, refl, refl, refl, refl, refl, refl, refl, refl, refl, refl, refl, refl, refl, refl, refl, refl, refl)
 
 -- ---- levels; the sample at each place is the place
 abbrev places : ℕ → ℕ

@@ -13,7 +13,7 @@ use Rattle.rules.specs.Floor.{floorOf, nearestOf}
 use Rattle.rules.specs.Pretrigger.{Pretrigger, fraction, seconds, one, mostFraction, times}
 use Rattle.rules.specs.Trigger.{Term, rising, Armed, unarmed, waiting, withTerms, bothAsEdge, matches, fires, firstFire, lastOf}
 use Rattle.rules.specs.Selection.{Settings, Rule, ruleOf, chosen, selection, acceptedFrom, accepted, runOf, markOf, Beside, slotOf, besideOf, Reply, refused, going-on, complete, replyOf, told, repliesFrom, repliesOf}
-use Rattle.rules.specs.Refusal.{Store, Lent, Recorder, levelShort, lineWrong}
+use Rattle.rules.specs.Refusal.{Store, Lent, Recorder, levelShort, recorderRefusal, lineWrong}
 use Rattle.rules.specs.Ring.{written, placeAfter, ringBytes, keptBytes}
 use Rattle.rules.specs.Push.{roomFor, plan, Left, leftOf}
 use Rattle.rules.specs.Start.{freshRecorder, Begun, begun, besideIn, startRule}
@@ -308,8 +308,13 @@ pub refused-push :
     × (leftOf (wrong unarmed) no-memory eight (90 ∷ 91 ∷ []) seven ≡ same 1 (wrong unarmed) (90 ∷ 91 ∷ []))
     × (leftOf (wrong rises) no-memory eight (90 ∷ 91 ∷ []) seven ≡ same 1 (wrong rises) (90 ∷ 91 ∷ []))
     × (push (wrong rises) four (2 ∷ []) ≡ same 1 (wrong rises) four)
+    -- 1 and 2 alone
+    × (recorderRefusal (straight 0 2) enough 3 ≡ 0)
+    × (recorderRefusal (straight 0 2) enough 2 ≡ 2)
+    × (recorderRefusal (straight 0 2) no-memory 3 ≡ 2)
+    × (recorderRefusal (wrong unarmed) no-memory 2 ≡ 1)
 unfolding levelShort sampleOf listFrom matches fires firstFire lastOf placeAfter ringBytes plan leftOf
-refused-push = (refl, refl, refl, refl, refl, refl, refl, refl, refl, refl, refl, refl, refl, refl, refl, refl, refl, refl)
+refused-push = (refl, refl, refl, refl, refl, refl, refl, refl, refl, refl, refl, refl, refl, refl, refl, refl, refl, refl, refl, refl, refl, refl)
 
 -- ---- the record that start gives, and its flag
 abbrev half : Float
