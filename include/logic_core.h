@@ -45,6 +45,23 @@ extern "C" {
 
 #define LC_NONE 100
 
+/* Which number of a record is which. */
+enum lc_record { LC_UNIT = 0, LC_CAPACITY = 1, LC_LEN = 2, LC_MARKED = 3, LC_MARK = 4 };
+
+/* And of a recorder's, which begins with those of its capture; lc_feeder_start says what each is. */
+enum lc_recorder {
+    LC_LIMIT = 5, LC_PRE = 6, LC_WAITS = 7, LC_HIGH_LINES = 8, LC_LOW_LINES = 9, LC_RISING_LINES = 10,
+    LC_FALLING_LINES = 11, LC_EDGE_LINES = 12, LC_KNOWN = 13, LC_PREVIOUS = 14, LC_RING_PLACE = 15, LC_KEPT = 16
+};
+
+/* Which is which behind an out pointer that takes several: the sizes of lc_needs, a node, the ends of lc_burst_at, and the
+ * jumps of lc_mill_burst_at. */
+enum lc_out {
+    LC_SIZE_SAMPLES = 0, LC_SIZE_LEVEL_1 = 1, LC_SIZE_LEVEL_2 = 2, LC_SIZE_LEVEL_3 = 3, LC_SIZE_LEVEL_4 = 4,
+    LC_NODE_FIRST = 0, LC_NODE_LAST = 1, LC_NODE_TOGGLES = 2, LC_BURST_FIRST = 0, LC_BURST_LAST = 1, LC_BURST_JUMPS_END = 2,
+    LC_BURST_JUMPS_START = 3, LC_MILL_JUMPS_END = 0, LC_MILL_JUMPS_START = 1
+};
+
 /* Lent memory in one value: the samples, the levels 1 to 4, and how many elements of each are lent, in lc_needs' order. */
 typedef struct lc_memory {
     uint8_t *samples;
@@ -178,7 +195,7 @@ uint32_t lc_mill_render(const size_t record[5], LC_CONST_MEMORY, uint16_t grant,
 /* Starts a recorder: record becomes its 17 numbers, of which the first five are the record of its capture, and cut becomes
  * 1 where the samples kept before the trigger were cut at the cap, else 0. The lent memory is measured, and not written.
  *
- * The other numbers: limit (samples, 0: none), pre (samples kept before the trigger), waiting (0: it waits for no trigger),
+ * The other numbers: limit (samples, 0: none), pre (samples kept before the trigger), waits (0: it waits for no trigger),
  * the lines of High, Low, Rising, Falling and Edge terms, known (0: there is no previous sample), the previous sample, the
  * place of the ring's next slot, and how many samples the ring has kept. The lines and the previous sample count modulo
  * 65536: what they have above 16 bits is not read.

@@ -1,5 +1,49 @@
 // The exports of logic_core, for Rust; logic_core.h says what each does. Made by host/declare, not to be edited.
 // Who includes this defines `exports!` for it.
+
+#[allow(dead_code)]
+pub mod record {
+    pub const UNIT: usize = 0;
+    pub const CAPACITY: usize = 1;
+    pub const LEN: usize = 2;
+    pub const MARKED: usize = 3;
+    pub const MARK: usize = 4;
+}
+
+#[allow(dead_code)]
+pub mod recorder {
+    pub const LIMIT: usize = 5;
+    pub const PRE: usize = 6;
+    pub const WAITS: usize = 7;
+    pub const HIGH_LINES: usize = 8;
+    pub const LOW_LINES: usize = 9;
+    pub const RISING_LINES: usize = 10;
+    pub const FALLING_LINES: usize = 11;
+    pub const EDGE_LINES: usize = 12;
+    pub const KNOWN: usize = 13;
+    pub const PREVIOUS: usize = 14;
+    pub const RING_PLACE: usize = 15;
+    pub const KEPT: usize = 16;
+}
+
+#[allow(dead_code)]
+pub mod out {
+    pub const SIZE_SAMPLES: usize = 0;
+    pub const SIZE_LEVEL_1: usize = 1;
+    pub const SIZE_LEVEL_2: usize = 2;
+    pub const SIZE_LEVEL_3: usize = 3;
+    pub const SIZE_LEVEL_4: usize = 4;
+    pub const NODE_FIRST: usize = 0;
+    pub const NODE_LAST: usize = 1;
+    pub const NODE_TOGGLES: usize = 2;
+    pub const BURST_FIRST: usize = 0;
+    pub const BURST_LAST: usize = 1;
+    pub const BURST_JUMPS_END: usize = 2;
+    pub const BURST_JUMPS_START: usize = 3;
+    pub const MILL_JUMPS_END: usize = 0;
+    pub const MILL_JUMPS_START: usize = 1;
+}
+
 exports! {
     fn lc_append(
         record: *mut [usize; 5], samples: *mut u8, samples_len: usize, l1: *mut u16, l1_len: usize,

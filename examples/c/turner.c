@@ -55,9 +55,9 @@ int main(void) {
 
     /* Lend as much as lc_needs says; the ring holds what is kept before the trigger, less than the limit. */
     must(lc_needs(CHANNELS, CAPACITY, m.sizes) == 0, "needs");
-    m.samples = lend(m.sizes[0]);
+    m.samples = lend(m.sizes[LC_SIZE_SAMPLES]);
     for (int level = 0; level < 4; level++)
-        m.level[level] = lend(m.sizes[1 + level] * sizeof *m.level[level]);
+        m.level[level] = lend(m.sizes[LC_SIZE_LEVEL_1 + level] * sizeof *m.level[level]);
     uint8_t *ring = lend(LIMIT);
 
     /* A quarter of the limit from before the drive rises. */
@@ -74,9 +74,9 @@ int main(void) {
         code = lc_push(record, LC_LEND(m), ring, LIMIT, bytes, sizeof bytes);
         must(code == 0 || code == LC_NONE, "push");
     }
-    const size_t len = record[2], mark = record[4];
+    const size_t len = record[LC_LEN], mark = record[LC_MARK];
     printf("pushed %zu, stored %zu, mark %zu\n", pushed, len, mark);
-    must(len == LIMIT && record[3] != 0 && mark == LIMIT / 4, "the run's length and mark");
+    must(len == LIMIT && record[LC_MARKED] != 0 && mark == LIMIT / 4, "the run's length and mark");
     for (size_t i = 0; i < len; i++)
         must(m.samples[i] == machine(5000 - mark + i), "the run's samples");
     size_t level, number;
@@ -100,13 +100,15 @@ int main(void) {
 
     size_t ends[4];
     must(lc_burst_at(record, LC_LEND(m), ENCODER, 2000, 100, 0, 1000, ends, &read) == 0, "burst");
-    printf("burst: %zu to %zu, %zu jumps at its end, %zu at its start\n", ends[0], ends[1], ends[2], ends[3]);
-    must(ends[0] == first && ends[1] == last, "the burst's ends");
+    printf("burst: %zu to %zu, %zu jumps at its end, %zu at its start\n", ends[LC_BURST_FIRST], ends[LC_BURST_LAST],
+           ends[LC_BURST_JUMPS_END], ends[LC_BURST_JUMPS_START]);
+    must(ends[LC_BURST_FIRST] == first && ends[LC_BURST_LAST] == last, "the burst's ends");
 
     uint16_t node[3];
     must(lc_summary(record, LC_LEND(m), 0, mark, node) == 0, "summary");
-    printf("before the mark: first %u, last %u, changing %u\n", node[0], node[1], node[2]);
-    must(node[0] == 0 && node[1] == 0 && node[2] == 0, "the summary before the mark");
+    printf("before the mark: first %u, last %u, changing %u\n", node[LC_NODE_FIRST], node[LC_NODE_LAST],
+           node[LC_NODE_TOGGLES]);
+    must(node[LC_NODE_FIRST] == 0 && node[LC_NODE_LAST] == 0 && node[LC_NODE_TOGGLES] == 0, "the summary before the mark");
 
     /* A picture of the drive and the encoder: high -, low _, and | where a line changes within the pixel. */
     uint16_t pixels[2 * WIDTH];

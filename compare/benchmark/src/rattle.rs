@@ -3,7 +3,7 @@
 
 use crate::side::{timed, Side, Timed};
 use crate::work::{Appends, Bursts, Pushes, Ranges, Row, Samples, Wait, Walk, GRANT};
-use port::{mill, Asked, Feeder, Lent, LentMut, Record, Settings};
+use port::{mill, out, record, Asked, Feeder, Lent, LentMut, Record, Settings};
 use std::cell::RefCell;
 
 #[derive(Default)]
@@ -69,8 +69,9 @@ impl Capture {
 
     /// The record with a mark in the middle, and the mark.
     fn marked(&self) -> (Record, i64) {
-        let [unit, capacity, len, ..] = self.record;
-        ([unit, capacity, len, 1, len / 2], (len / 2) as i64)
+        let (mut record, mark) = (self.record, self.record[record::LEN] / 2);
+        (record[record::MARKED], record[record::MARK]) = (1, mark);
+        (record, mark as i64)
     }
 
     fn lent(&self) -> Lent<'_> {
@@ -95,7 +96,7 @@ impl Side for Rattle {
             for push in bytes.chunks(work.push * unit) {
                 capture.append(push);
             }
-            (work.samples.len(), capture.record[2] as u64)
+            (work.samples.len(), capture.record[record::LEN] as u64)
         })
     }
 
@@ -111,7 +112,7 @@ impl Side for Rattle {
             for push in bytes.chunks(work.push * unit) {
                 capture.push(&mut feeder, &mut ring, push);
             }
-            (work.samples.len(), feeder[2] as u64)
+            (work.samples.len(), feeder[record::LEN] as u64)
         })
     }
 
@@ -184,7 +185,7 @@ impl Side for Rattle {
                     [place, work.max_gap, work.budget].map(|n| n as usize);
                 let asked = Asked { mask: 0xFFFF, sample, max_gap, tolerance: 8, budget };
                 match port::burst_at(record, lent, asked, &mut ends, &mut 0) {
-                    0 => (ends[0] + ends[1]) as u64,
+                    0 => (ends[out::BURST_FIRST] + ends[out::BURST_LAST]) as u64,
                     _ => 0,
                 }
             };

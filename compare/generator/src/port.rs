@@ -11,7 +11,7 @@ use crate::document::{listed, optional, refusals};
 use crate::op::{Burst, Lent, Op, Recorder, Store, View};
 use crate::side::{Answer, Side};
 use memory::{pattern, Memory, GUARD};
-use port::{Asked, Record, NONE};
+use port::{record, Asked, Feeder, Record, NONE};
 use recorder::Recording;
 use walk::{Walk, Walked, Way, MOST};
 
@@ -25,8 +25,8 @@ const UNREAD: usize = usize::MAX / 3;
 #[derive(Default)]
 pub struct Port {
     record: Record,
-    /// A recorder's numbers behind its store's.
-    own: [usize; 12],
+    /// A recorder's numbers; of those that are its store's, `record` has the present ones.
+    own: Feeder,
     /// What the recorder, if the record is one's, was given.
     recording: Option<Recording>,
     lent: Lent,
@@ -50,12 +50,25 @@ impl Side for Port {
             // Any number but 0 says that there is a mark; without one the last number says nothing.
             Op::Record(Store { unit, capacity, len, mark }) => {
                 let (marked, mark) = mark.map_or((0, 7), |mark| (3, mark));
-                self.record = [unit, capacity, len, marked, mark].map(|n| n as usize);
+                for (at, number) in [
+                    (record::UNIT, unit),
+                    (record::CAPACITY, capacity),
+                    (record::LEN, len),
+                    (record::MARKED, marked),
+                    (record::MARK, mark),
+                ] {
+                    self.record[at] = number as usize;
+                }
             }
             Op::Feeder(Recorder { limit, pre, kept, place }) => {
-                let [limit, pre, kept, place] = [limit, pre, kept, place].map(|n| n as usize);
-                let [at_limit, at_pre, .., at_place, at_kept] = &mut self.own;
-                (*at_limit, *at_pre, *at_place, *at_kept) = (limit, pre, place, kept);
+                for (at, number) in [
+                    (port::recorder::LIMIT, limit),
+                    (port::recorder::PRE, pre),
+                    (port::recorder::RING_PLACE, place),
+                    (port::recorder::KEPT, kept),
+                ] {
+                    self.own[at] = number as usize;
+                }
             }
             Op::Put { level, index, value } => {
                 self.made = false;
@@ -88,7 +101,7 @@ impl Port {
 
     /// The record's len.
     pub fn len(&self) -> u64 {
-        self.record[2] as u64
+        self.record[record::LEN] as u64
     }
 
     fn answer(&mut self, op: &Op) -> Option<Answer> {
@@ -96,7 +109,7 @@ impl Port {
             Op::Capture { channels, capacity } => self.capture(channels, capacity),
             Op::Append(ref feed) => {
                 let mut last = Ok(Vec::new());
-                for piece in feed.pieces(self.record[0] as u64) {
+                for piece in feed.pieces(self.record[record::UNIT] as u64) {
                     last = self.append(&piece);
                 }
                 last
@@ -104,7 +117,7 @@ impl Port {
             Op::Start(ref settings) => self.start(settings),
             Op::Push(ref feed) => {
                 let mut last = Ok(Vec::new());
-                for piece in feed.pieces(self.record[0] as u64) {
+                for piece in feed.pieces(self.record[record::UNIT] as u64) {
                     last = self.push(&piece);
                 }
                 last
@@ -176,25 +189,26 @@ impl Port {
             self.made = true;
         }
         self.record = record;
-        said(code, || vec![record[0] as u64])
+        said(code, || vec![record[record::UNIT] as u64])
     }
 
     fn append(&mut self, bytes: &[u8]) -> Answer {
-        let [unit, _, len, ..] = self.record;
         let mut record = self.record;
+        let (unit, len) = (record[record::UNIT], record[record::LEN]);
         let code = port::append(&mut record, self.memory.lent_mut(&self.lent).0, bytes);
         self.kept(code, "record", self.record, record);
         if code == 0 {
             self.right.append(unit, len, bytes);
-            self.record[2] = len + bytes.len() / unit;
+            self.record[record::LEN] = len + bytes.len() / unit;
             self.same("record", self.record, record);
         }
-        said(code, || vec![record[2] as u64])
+        said(code, || vec![record[record::LEN] as u64])
     }
 
     /// The stored samples by several calls.
     fn run(&mut self) -> Answer {
-        let [_, _, len, marked, mark] = self.record;
+        let [len, marked, mark] =
+            [record::LEN, record::MARKED, record::MARK].map(|at| self.record[at]);
         let mut piece = vec![0; 65_536];
         let mut all = Vec::new();
         while all.len() < len {
@@ -279,7 +293,7 @@ impl Port {
 
     /// The walk over memory as it is lent.
     fn walk(&self, mask: u16) -> Walk<'_> {
-        Walk { memory: &self.memory, unit: self.record[0], len: self.len(), mask }
+        Walk { memory: &self.memory, unit: self.record[record::UNIT], len: self.len(), mask }
     }
 
     /// The answer of a search or a burst, which is the walk's over any memory, and so is the count of nodes read.

@@ -2,16 +2,19 @@
 
 mod calls;
 
+/// Which number is which: of a record, of a recorder's behind its capture's, and behind out pointers.
+pub use calls::{out, record, recorder};
+
 /// Whether the static library is there. Without it no function here may be called.
 pub const LINKED: bool = cfg!(linked);
 
 /// What a call says when it finds nothing, of levels that are not whole, and of a recording that is complete.
 pub const NONE: u32 = 100;
 
-/// unit, capacity, len, whether there is a mark, the mark
+/// Its numbers have names, [`record`].
 pub type Record = [usize; 5];
 
-/// A recorder's: its capture's five, limit, pre, waiting, the five masks, known, previous, ring place, kept
+/// A recorder's: its capture's five, then its own, [`recorder`]
 pub type Feeder = [usize; 17];
 
 /// Lent memory: sample bytes, and the numbers of the levels 1 to 4.

@@ -1,4 +1,6 @@
 // A capture in lent memory: its record, the one check of every call on it, and the calls that need no summary.
+pub mod record;
+
 use level::CHUNK;
 use level::nodes_of;
 use lines::Mask;
@@ -142,7 +144,7 @@ pub fn refusal<'a>(
 }
 
 // "More than 8 channels means unit 2, else 1."
-fn unit_of(channels: usize) -> usize
+pub fn unit_of(channels: usize) -> usize
     ensures { λ r. ⌜ r ≡ unitOf channels ⌝ }
 {
     if 8 < channels {

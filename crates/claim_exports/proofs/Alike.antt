@@ -7,7 +7,7 @@ use mathlib.Core.Option.{Option, none, some}
 use Prim.Native.Nat.{ℕ, zero, suc, _+_, _*_, _<_}
 use lib.Bits.{bitAnd}
 use lib.Dec.{eqb}
-use lib.ListN.{length, drop, getD}
+use lib.ListN.{length, drop}
 use Rattle.rules.specs.Node.{Node}
 use Rattle.rules.specs.Search.{summary, cutSummary}
 use Rattle.rules.specs.Walk.{Walked, Counted}
@@ -17,6 +17,7 @@ use Rattle.rules.specs.Answer.{unless}
 use Rattle.rules.specs.Pixel.{render, cutPixels}
 use Rattle.claim_alike.specs.Alike.{Alike}
 use Rattle.claim_alike.proofs.Alike.{same-alike, alike-same}
+use Rattle.node.specs.Memory.{nodeIn}
 use Rattle.codes.specs.Record.{captureIn}
 use Rattle.claim_captures.specs.Words.{Memory, at, Same}
 use Rattle.claim_captures.specs.Claim.{Held}
@@ -31,7 +32,7 @@ cut-summed v (some n) old = refl
 
 -- a summary from what is told of it
 read-back : Summed → Option Node
-read-back t = cond (eqb (t .code) 0) (some (record { first = getD (t .node) 0 0; last = getD (t .node) 1 0; toggles = getD (t .node) 2 0 })) none
+read-back t = cond (eqb (t .code) 0) (some (nodeIn (t .node) 0)) none
 
 summed-back : (o : Option Node) (old : List ℕ) → read-back (summed o old) ≡ o
 unfolding read-back

@@ -7,7 +7,7 @@ use Prim.Native.Nat.{ℕ, zero, suc, _+_, _*_}
 use native.Mathlib.Nat.{suc-ne-zero}
 use lib.Dec.{eqb}
 use lib.Ieee.{Float}
-use lib.ListN.{length, drop, getD}
+use lib.ListN.{length, drop}
 use contract.Lifetimes.{Lfts}
 use denote.Ref.{RefT, at-last}
 use Rattle.rules.specs.Sample.{sampleOf, listFrom}
@@ -25,6 +25,7 @@ use Rattle.claim_alike.proofs.Below.{render-below}
 use Rattle.capture.specs.declared.Capture.{Capture}
 use Rattle.capture.specs.declared.Mark.the-variants.{Absent, At}
 use Rattle.capture.specs.Record.{markOf, storeOf, lentOf}
+use Rattle.capture.specs.Numbers.{markedIn, markPlaceIn}
 use Rattle.rules.specs.Reading.{copiedTo}
 use Rattle.capture.proofs.Calls.{over-none}
 use Rattle.summary.specs.Summary.{summed}
@@ -40,7 +41,7 @@ use Rattle.claim_captures.specs.Words.{Memory, levels, Ref, Places, at, Answere
 use Rattle.claim_captures.specs.Claim.{Held}
 use Rattle.claim_captures.specs.Claim as calls
 use Rattle.claim_captures.proofs.Answers.{answers, agree, right, asked-run, copied-inside, drawn-for, anywhere, somewhere}
-use Rattle.claim_exports.specs.Questions.{One, lenIn, markIn, MayGet, MaySamples, MaySummary, MayNext, MayPrevious, MayBurst, MayRender, found, bursted, drawn, viewOf, Answers}
+use Rattle.claim_exports.specs.Questions.{One, markIn, MayGet, MaySamples, MaySummary, MayNext, MayPrevious, MayBurst, MayRender, found, bursted, drawn, viewOf, Answers}
 use Rattle.claim_exports.specs.Questions as told
 
 -- what a question of the calls answers is what its contract asks for
@@ -49,9 +50,9 @@ asked-is a = sym (a .allowed .2) ∙ a .is (a .answer) (a .allowed)
 
 -- the mark, as the record's numbers hold it
 pub mark-held : (numbers : List ℕ) → markOf (captureIn numbers .trigger) ≡ markIn numbers
-mark-held numbers = go (eqb (getD numbers 3 0) 0)
+mark-held numbers = go (eqb (markedIn numbers) 0)
   where
-    go : (b : Bool) → markOf (cond b Absent (At (getD numbers 4 0))) ≡ cond b none (some (getD numbers 4 0))
+    go : (b : Bool) → markOf (cond b Absent (At (markPlaceIn numbers))) ≡ cond b none (some (markPlaceIn numbers))
     go true = refl
     go false = refl
 

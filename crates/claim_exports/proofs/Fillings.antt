@@ -10,6 +10,7 @@ use Rattle.rules.specs.Answer.{given, unless}
 use Rattle.rules.specs.Refusal.{Store, fresh, storeRefusal}
 use Rattle.capture.specs.declared.Capture.{Capture}
 use Rattle.capture.specs.Record.{storeOf, lentOf}
+use Rattle.capture.specs.Numbers.{lenAt}
 use Rattle.append.specs.declared.Appended.{Appended}
 use Rattle.append.specs.Append.{appendedOf, numberOf, recordOf, grown, refusalOf, takenOf}
 use Rattle.codes.specs.Code.{plain, Out}
@@ -64,7 +65,7 @@ module _ (numbers : List ℕ) (size : length numbers ≡ 5) (m : Memory) (bytes 
   reads = ap captureIn (out .numbers-are) ∙ len-back numbers size (c .len + takenOf c (m .samples) (levels m) bytes)
 
   appended-size : length numbers′ ≡ 5
-  appended-size = ap length (out .numbers-are) ∙ length-set numbers 2 (c .len + takenOf c (m .samples) (levels m) bytes) ∙ size
+  appended-size = ap length (out .numbers-are) ∙ length-set numbers lenAt (c .len + takenOf c (m .samples) (levels m) bytes) ∙ size
 
   may-append : calls.MayAppend c m bytes (told .0) m′
   may-append = (([], ([], ([], ([], ([], ([], tt)))))), somewhere, anywhere, record { answer-is = told .1 ∙ ap (unless (refusalOf c (m .samples) (levels m) bytes)) reads; number-is = told .2; record-is = told .3 ∙ reads; memory = out .memory })

@@ -16,6 +16,7 @@ use Rattle.rules.specs.Selection.{Settings, Rule, ruleOf, runOf, Reply, refused
 use Rattle.rules.specs.Selection as selected
 use Rattle.rules.specs.Refusal.{startRefusal}
 use Rattle.capture.specs.Record.{lentOf}
+use Rattle.capture.specs.Numbers.{lenIn}
 use Rattle.feeder.specs.Start.{settingsOf}
 use Rattle.term_bytes.specs.Bytes.{termsIn}
 use Rattle.feeder_codes.specs.Recorder.{wishIn}
@@ -23,7 +24,7 @@ use Rattle.logic_core.proofs.recorder.lc_feeder_start.Reads as lc-feeder-start
 use Rattle.logic_core.proofs.recorder.lc_push.Reads as lc-push
 use Rattle.claim_captures.specs.Words.{levels, Ref, Places, lending, Same}
 use Rattle.claim_captures.specs.Words as words
-use Rattle.claim_exports.specs.Questions.{One, lenIn, markIn, Answers, LookAlike}
+use Rattle.claim_exports.specs.Questions.{One, markIn, Answers, LookAlike}
 
 -- ---- recordings
 -- "the memory lent to it, whatever that holds": a store's, and the ring

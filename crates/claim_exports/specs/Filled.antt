@@ -11,11 +11,12 @@ use denote.Ref.{at-last}
 use Rattle.rules.specs.Sample.{unitOf}
 use Rattle.rules.specs.Refusal.{fresh, storeRefusal}
 use Rattle.capture.specs.Record.{lentOf}
+use Rattle.capture.specs.Numbers.{lenIn}
 use Rattle.logic_core.proofs.lc_start.Reads as lc-start
 use Rattle.logic_core.proofs.lc_append.Reads as lc-append
 use Rattle.claim_captures.specs.Words.{Memory, levels, Ref, Places, lending, Same}
 use Rattle.claim_appends.specs.Claim.{storedFrom, numbersFrom}
-use Rattle.claim_exports.specs.Questions.{lenIn, markIn, Answers, LookAlike}
+use Rattle.claim_exports.specs.Questions.{markIn, Answers, LookAlike}
 
 -- lc_start may give a code and leave these numbers
 abbrev pub MayStore : ℕ → ℕ → Memory → List ℕ → ℕ → List ℕ → Type 0

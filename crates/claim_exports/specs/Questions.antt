@@ -8,7 +8,7 @@ use mathlib.Core.Option.{Option, none, some}
 use Prim.Native.Nat.{ℕ, _*_}
 use lib.Dec.{eqb}
 use lib.Ieee.{Float}
-use lib.ListN.{length, drop, getD}
+use lib.ListN.{length, drop}
 use contract.Lifetimes.{Lfts}
 use denote.Ref.{RefT, at-last}
 use Rattle.rules.specs.Sample.{listFrom, Word, Within}
@@ -19,6 +19,7 @@ use Rattle.rules.specs.Burst.{Burst, burstSearch}
 use Rattle.rules.specs.Pixel.{View, render, cutPixels}
 use Rattle.rules.specs.Refusal.{firstOf, getRow, copied, copyRow, viewRows}
 use Rattle.rules.specs.Answer.{Answer, refused, given, unless}
+use Rattle.capture.specs.Numbers.{lenIn, markedIn, markPlaceIn}
 use Rattle.logic_core.proofs.lc_get.Reads as lc-get
 use Rattle.logic_core.proofs.lc_samples.Reads as lc-samples
 use Rattle.logic_core.proofs.lc_summary.Reads as lc-summary
@@ -28,12 +29,9 @@ use Rattle.logic_core.proofs.lc_burst_at.Reads as lc-burst-at
 use Rattle.logic_core.proofs.lc_render.Reads as lc-render
 use Rattle.claim_captures.specs.Words.{Memory, Ref, Places, lending, at, Answered, Agree, Usize, F64}
 
--- ---- the record's numbers: unit, capacity, len, whether there is a mark (not 0), the mark
-abbrev pub lenIn : List ℕ → ℕ
-lenIn numbers = getD numbers 2 0
-
+-- ---- the record's numbers: which is which, capture.specs.Numbers says
 abbrev pub markIn : List ℕ → Option ℕ
-markIn numbers = cond (eqb (getD numbers 3 0) 0) none (some (getD numbers 4 0))
+markIn numbers = cond (eqb (markedIn numbers) 0) none (some (markPlaceIn numbers))
 
 -- a number behind a pointer
 abbrev pub One : Type 0

@@ -3,23 +3,24 @@ use mathlib.Core.Path.{_≡_, refl, subst⁻¹}
 use mathlib.Core.List.{List, [], _∷_}
 use mathlib.Core.Option.{Option, none, some}
 use Prim.Native.Nat.{ℕ}
-use lib.ListN.{length, getD}
+use lib.ListN.{length}
 use lib.Seq.{sets}
 use Rattle.rules.specs.Sample.{listFrom}
 use Rattle.rules.specs.Refusal.{Store}
 use Rattle.rules.proofs.SampleBytes.{list-whole}
 use Rattle.capture.specs.Record.{storeOf}
+use Rattle.capture.specs.Numbers.{markedAt, markedIn, markPlaceIn}
 use Rattle.codes.specs.Record.{captureIn, markNumbers, storeNumbers, lenNumber}
 
 -- the mark, and whether there is one; where there is none, its number means nothing
-mark-back : (unit capacity len a b : ℕ) (m : Option ℕ) → storeOf (captureIn (sets (unit ∷ capacity ∷ len ∷ a ∷ b ∷ []) 3 (markNumbers m))) ≡ record { unit = unit; capacity = capacity; len = len; mark = m }
+mark-back : (unit capacity len a b : ℕ) (m : Option ℕ) → storeOf (captureIn (sets (unit ∷ capacity ∷ len ∷ a ∷ b ∷ []) markedAt (markNumbers m))) ≡ record { unit = unit; capacity = capacity; len = len; mark = m }
 mark-back unit capacity len a b none = refl
 mark-back unit capacity len a b (some k) = refl
 
 module _ (old : List ℕ) (size : length old ≡ 5) where
   pub store-back : (st : Store) → storeOf (captureIn (storeNumbers st old)) ≡ st
   unfolding listFrom
-  store-back st = subst⁻¹ (λ (l : List ℕ). storeOf (captureIn (storeNumbers st l)) ≡ st) (list-whole 5 old size) (mark-back (st .unit) (st .capacity) (st .len) (getD old 3 0) (getD old 4 0) (st .mark))
+  store-back st = subst⁻¹ (λ (l : List ℕ). storeOf (captureIn (storeNumbers st l)) ≡ st) (list-whole 5 old size) (mark-back (st .unit) (st .capacity) (st .len) (markedIn old) (markPlaceIn old) (st .mark))
 
   -- append writes len alone
   pub len-back : (n : ℕ) → captureIn (lenNumber n old) ≡ record { unitsize = captureIn old .unitsize; capacity = captureIn old .capacity; len = n; trigger = captureIn old .trigger }

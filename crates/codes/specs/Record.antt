@@ -1,10 +1,9 @@
--- The numbers of a capture's record: unit, capacity, len, whether there is a mark (not 0), the mark. And how answers are written as numbers.
+-- A capture's record from its numbers (capture.specs.Numbers) and to them, and how other answers are written as numbers.
 use mathlib.Core.Bool.{Bool, cond}
 use mathlib.Core.List.{List, [], _∷_}
 use mathlib.Core.Option.{Option, none, some}
 use Prim.Native.Nat.{ℕ}
 use lib.Dec.{eqb}
-use lib.ListN.{getD}
 use lib.Seq.{sets}
 use Rattle.rules.specs.Node.{Node}
 use Rattle.rules.specs.Burst.{Burst}
@@ -13,21 +12,22 @@ use Rattle.rules.specs.Answer.{Answer, seen}
 use Rattle.capture.specs.declared.Mark.{Mark}
 use Rattle.capture.specs.declared.Mark.the-variants.{Absent, At}
 use Rattle.capture.specs.declared.Capture.{Capture}
+use Rattle.capture.specs.Numbers.{unitAt, lenAt, unitIn, capacityIn, lenIn, markedIn, markPlaceIn}
 use Rattle.rules.specs.Wrong.{NodeAt}
 
 abbrev pub captureIn : List ℕ → Capture
-captureIn r = record { unitsize = getD r 0 0; capacity = getD r 1 0; len = getD r 2 0; trigger = cond (eqb (getD r 3 0) 0) Absent (At (getD r 4 0)) }
+captureIn r = record { unitsize = unitIn r; capacity = capacityIn r; len = lenIn r; trigger = cond (eqb (markedIn r) 0) Absent (At (markPlaceIn r)) }
 
 abbrev pub markNumbers : Option ℕ → List ℕ
 markNumbers none = 0 ∷ 0 ∷ []
 markNumbers (some k) = 1 ∷ k ∷ []
 
 abbrev pub storeNumbers : Store → List ℕ → List ℕ
-storeNumbers st old = sets old 0 (st .unit ∷ st .capacity ∷ st .len ∷ markNumbers (st .mark))
+storeNumbers st old = sets old unitAt (st .unit ∷ st .capacity ∷ st .len ∷ markNumbers (st .mark))
 
 -- the count of stored samples
 abbrev pub lenNumber : ℕ → List ℕ → List ℕ
-lenNumber len old = sets old 2 (len ∷ [])
+lenNumber len old = sets old lenAt (len ∷ [])
 
 -- what append writes of the record, unless it refuses
 abbrev pub grownLen : Answer Capture → Answer ℕ

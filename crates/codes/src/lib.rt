@@ -1,5 +1,7 @@
 // What the C boundary says of each answer: a code, and numbers behind out pointers.
 // The code is 0; the number of the refusal, which writes nothing; or 100, which is no.
+pub mod out;
+
 use append::Appended;
 use burst::Bursts;
 use capture::Capture;
@@ -8,6 +10,7 @@ use capture::Got;
 use capture::Mark;
 use capture::Needed;
 use capture::Started;
+use capture::record;
 use lines::Mask;
 use render::Drawn;
 use search::Found;
@@ -47,19 +50,19 @@ pub fn flag(b: bool) -> usize
 pub fn capture_in(numbers: &[usize; 5]) -> Capture
     ensures { λ c. ⌜ c ≡ captureIn (now (numbers .entry)) ⌝ }
 {
-    if numbers[3] == 0 {
+    if numbers[record::MARKED] == 0 {
         return Capture {
-            unitsize: numbers[0],
-            capacity: numbers[1],
-            len: numbers[2],
+            unitsize: numbers[record::UNIT],
+            capacity: numbers[record::CAPACITY],
+            len: numbers[record::LEN],
             trigger: Mark::Absent,
         };
     }
     Capture {
-        unitsize: numbers[0],
-        capacity: numbers[1],
-        len: numbers[2],
-        trigger: Mark::At(numbers[4]),
+        unitsize: numbers[record::UNIT],
+        capacity: numbers[record::CAPACITY],
+        len: numbers[record::LEN],
+        trigger: Mark::At(numbers[record::MARK]),
     }
 }
 
@@ -67,18 +70,18 @@ pub fn capture_in(numbers: &[usize; 5]) -> Capture
 fn put_capture(numbers: &mut [usize; 5], c: Capture)
     ensures { λ _. ⌜ now (numbers .exit) ≡ storeNumbers (storeOf c) (now (numbers .entry)) ⌝ }
 {
-    numbers[0] = c.unitsize;
-    numbers[1] = c.capacity;
-    numbers[2] = c.len;
+    numbers[record::UNIT] = c.unitsize;
+    numbers[record::CAPACITY] = c.capacity;
+    numbers[record::LEN] = c.len;
     let mark = c.trigger;
     match mark {
         Mark::Absent => {
-            numbers[3] = 0;
-            numbers[4] = 0;
+            numbers[record::MARKED] = 0;
+            numbers[record::MARK] = 0;
         }
         Mark::At(k) => {
-            numbers[3] = 1;
-            numbers[4] = k;
+            numbers[record::MARKED] = 1;
+            numbers[record::MARK] = k;
         }
     }
 }
@@ -89,11 +92,11 @@ pub fn needed_code(answer: Needed, sizes: &mut [usize; 5]) -> u32
     match answer {
         Needed::Refused(n) => code(n),
         Needed::Memory(m) => {
-            sizes[0] = m.samples;
-            sizes[1] = m.l1;
-            sizes[2] = m.l2;
-            sizes[3] = m.l3;
-            sizes[4] = m.l4;
+            sizes[out::SIZE_SAMPLES] = m.samples;
+            sizes[out::SIZE_LEVEL_1] = m.l1;
+            sizes[out::SIZE_LEVEL_2] = m.l2;
+            sizes[out::SIZE_LEVEL_3] = m.l3;
+            sizes[out::SIZE_LEVEL_4] = m.l4;
             0
         }
     }
@@ -118,7 +121,7 @@ pub fn appended_code(answer: Appended, numbers: &mut [usize; 5]) -> u32
     match answer {
         Appended::Refused(n, _) => code(n),
         Appended::Done(grown) => {
-            numbers[2] = grown.len;
+            numbers[record::LEN] = grown.len;
             0
         }
     }
@@ -169,9 +172,9 @@ pub fn summed_code(answer: Summed, node: &mut [Mask; 3]) -> u32
     match answer {
         Summed::Refused(n) => code(n),
         Summed::Node(n) => {
-            node[0] = n.first;
-            node[1] = n.last;
-            node[2] = n.mask;
+            node[out::NODE_FIRST] = n.first;
+            node[out::NODE_LAST] = n.last;
+            node[out::NODE_TOGGLES] = n.mask;
             0
         }
         Summed::Nothing => NONE,
@@ -201,10 +204,10 @@ pub fn burst_code(answer: Bursts, ends: &mut [usize; 4], read: &mut usize) -> u3
     match answer {
         Bursts::Refused(n) => code(n),
         Bursts::At(b, n) => {
-            ends[0] = b.first;
-            ends[1] = b.last;
-            ends[2] = b.jumps_end;
-            ends[3] = b.jumps_start;
+            ends[out::BURST_FIRST] = b.first;
+            ends[out::BURST_LAST] = b.last;
+            ends[out::BURST_JUMPS_END] = b.jumps_end;
+            ends[out::BURST_JUMPS_START] = b.jumps_start;
             *read = n;
             0
         }

@@ -1,6 +1,7 @@
 // The recorder: its record, the check of the record at every push, and its start.
 use capture::Capture;
 use capture::Mark;
+use capture::unit_of;
 use float::Kept;
 use lines::Mask;
 use terms::Masks;
@@ -12,7 +13,6 @@ ghost use mathlib.Core.Bool.{Bool};
 ghost use mathlib.Core.List.{[], _∷_};
 ghost use lib.ListN.{length};
 ghost use Rattle.rules.specs.Start.{startRule};
-ghost use Rattle.rules.specs.Sample.{unitOf};
 ghost use Rattle.rules.specs.Pretrigger.{preFor};
 ghost use Rattle.rules.specs.Refusal.{firstOf, wishWrong, numberWrong, placeWrong, settingWrong, recorderRefusal, settingsRows};
 ghost use Rattle.terms.specs.Terms.{armedBy};
@@ -207,13 +207,6 @@ fn armed_by(terms: Terms) -> Armed
         return Armed::Waiting(masks.both_as_edge());
     }
     Armed::Unarmed
-}
-
-// More than 8 channels take two bytes a sample.
-fn unit_of(channels: usize) -> usize
-    ensures { λ r. ⌜ r ≡ unitOf channels ⌝ }
-{
-    if 8 < channels { 2 } else { 1 }
 }
 
 // 01's start of a recorder, over terms that are summed up. proofs/Begun: start-rule, for terms that come of a list; begun-sound, of the record.

@@ -15,11 +15,12 @@ use Rattle.rules.specs.Refusal.{Lent, Recorder, startRefusal}
 use Rattle.rules.proofs.Start.{start-passed}
 use Rattle.rules.specs.Push.{Left}
 use Rattle.rules.specs.Start.{begun}
+use Rattle.capture.specs.Numbers.{unitAt, capacityAt, lenAt, markedAt, markAt}
 use Rattle.terms.specs.Terms.{previousOf}
 use Rattle.terms.specs.declared.Previous.the-variants.{Nothing, Sample}
 use Rattle.feeder.specs.declared.Feeder.{Feeder}
 use Rattle.feeder.specs.Record.{recorderOf}
-use Rattle.feeder_numbers.specs.Numbers.{markIn, maskIn, feederFrom, pushedNumbers, recorderNumbers}
+use Rattle.feeder_numbers.specs.Numbers.{knownIn, previousSampleIn, markIn, maskIn, feederFrom, pushedNumbers, recorderNumbers}
 use Rattle.feeder_numbers.proofs.ReadBack.{Follows, recorder-back, pushed-back}
 use Rattle.rules.specs.Push.{leftOf}
 use Rattle.codes.specs.Record.{captureIn}
@@ -45,19 +46,19 @@ module _ (numbers : List ℕ) where
 
   -- its previous sample is cut to 16 lines
   pub held-narrow : NarrowSample (held .previous)
-  held-narrow = go (eqb (getD numbers 13 0) 0)
+  held-narrow = go (eqb (knownIn numbers) 0)
     where
-      go : (b : Bool) → NarrowSample (previousOf (cond b Nothing (Sample (maskIn (getD numbers 14 0)))))
+      go : (b : Bool) → NarrowSample (previousOf (cond b Nothing (Sample (maskIn (previousSampleIn numbers)))))
       go true v e = let z : _≡_ {A = ℕ} 0 1 = cc in absurd (omega arith)
-      go false v e = some-narrow (maskIn (getD numbers 14 0)) (mod-lt (getD numbers 14 0) (omega arith)) v e
+      go false v e = some-narrow (maskIn (previousSampleIn numbers)) (mod-lt (previousSampleIn numbers) (omega arith)) v e
 
   -- the first five numbers are the store's
   pub store-first : captureIn (take 5 numbers) ≡ feederFrom numbers .capture
   store-first = λ i. record {
-    unitsize = at 0 (omega arith) i;
-    capacity = at 1 (omega arith) i;
-    len = at 2 (omega arith) i;
-    trigger = markIn (at 3 (omega arith) i) (at 4 (omega arith) i);
+    unitsize = at unitAt (omega arith) i;
+    capacity = at capacityAt (omega arith) i;
+    len = at lenAt (omega arith) i;
+    trigger = markIn (at markedAt (omega arith) i) (at markAt (omega arith) i);
   }
     where
       at : (k : ℕ) → k < 5 → getD (take 5 numbers) k 0 ≡ getD numbers k 0

@@ -18,7 +18,7 @@ use Rattle.terms.specs.declared.Masks as code
 use Rattle.terms.specs.Terms.{previousOf}
 use Rattle.feeder.specs.declared.Armed.the-variants.{Unarmed, Waiting}
 use Rattle.feeder.specs.Record.{armedAs, recorderOf}
-use Rattle.feeder_numbers.specs.Numbers.{markIn, maskIn, masksIn, armedIn, previousIn, feederFrom, markedNumber, markNumber, waitsNumber, masksOf, pushedNumbers, recorderNumbers}
+use Rattle.feeder_numbers.specs.Numbers.{waitsIn, highLinesIn, lowLinesIn, risingLinesIn, fallingLinesIn, edgeLinesIn, markIn, maskIn, masksIn, armedIn, previousIn, feederFrom, markedNumber, markNumber, waitsNumber, masksOf, pushedNumbers, recorderNumbers}
 
 -- ---- what a record of the code holds: masks and samples of 16 lines
 pub record NarrowMasks (m : Masks) : Type 0 where
@@ -94,7 +94,7 @@ module _ (r : Recorder) (old : List ℕ) (size : length old ≡ 17) where
         store = record { unit = sym (q .unit) i; capacity = sym (q .capacity) i; len = r .store .len; mark = mark-back (r .store .mark) i };
         limit = sym (q .limit) i;
         pre = sym (q .pre) i;
-        armed = armed-stays (getD old 7 0) (masksIn (getD old 8 0) (getD old 9 0) (getD old 10 0) (getD old 11 0) (getD old 12 0)) (r .armed) (q .armed) i;
+        armed = armed-stays (waitsIn old) (masksIn (highLinesIn old) (lowLinesIn old) (risingLinesIn old) (fallingLinesIn old) (edgeLinesIn old)) (r .armed) (q .armed) i;
         previous = previous-back (r .previous) (q .previous) i;
         place = r .place;
         kept = r .kept;

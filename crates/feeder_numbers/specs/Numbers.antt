@@ -1,5 +1,4 @@
--- The 17 numbers of a recorder: unit, capacity, len, whether there is a mark (not 0), the mark; limit, pre, whether it waits (not 0), the lines of
--- High, Low, Rising, Falling, Edge, whether there is a previous sample (not 0), that sample, ring place, kept count. 01: Records.
+-- The 17 numbers of a recorder: which is which, the recorder that they hold, and how it is written. 01: Records.
 use mathlib.Core.Bool.{cond}
 use mathlib.Core.List.{List, [], _∷_}
 use mathlib.Core.Option.{Option, none, some}
@@ -11,12 +10,90 @@ use Rattle.rules.specs.Trigger as rule
 use Rattle.rules.specs.Refusal.{Recorder}
 use Rattle.capture.specs.declared.Mark.{Mark}
 use Rattle.capture.specs.declared.Mark.the-variants.{Absent, At}
+use Rattle.capture.specs.Numbers.{unitAt, lenAt, unitIn, capacityIn, lenIn, markedIn, markPlaceIn}
 use Rattle.terms.specs.declared.Masks.{Masks}
 use Rattle.terms.specs.declared.Previous.{Previous}
 use Rattle.terms.specs.declared.Previous.the-variants.{Nothing, Sample}
 use Rattle.feeder.specs.declared.Armed.{Armed}
 use Rattle.feeder.specs.declared.Armed.the-variants.{Unarmed, Waiting}
 use Rattle.feeder.specs.declared.Feeder.{Feeder}
+
+-- ---- which is which; the first five are its store's (capture.specs.Numbers)
+abbrev pub limitAt : ℕ
+limitAt = 5
+
+abbrev pub preAt : ℕ
+preAt = 6
+
+-- not 0: it waits
+abbrev pub waitsAt : ℕ
+waitsAt = 7
+
+-- the lines of each condition
+abbrev pub highLinesAt : ℕ
+highLinesAt = 8
+
+abbrev pub lowLinesAt : ℕ
+lowLinesAt = 9
+
+abbrev pub risingLinesAt : ℕ
+risingLinesAt = 10
+
+abbrev pub fallingLinesAt : ℕ
+fallingLinesAt = 11
+
+abbrev pub edgeLinesAt : ℕ
+edgeLinesAt = 12
+
+-- not 0: there is a previous sample
+abbrev pub knownAt : ℕ
+knownAt = 13
+
+abbrev pub previousAt : ℕ
+previousAt = 14
+
+-- the ring's next slot
+abbrev pub ringPlaceAt : ℕ
+ringPlaceAt = 15
+
+abbrev pub keptAt : ℕ
+keptAt = 16
+
+abbrev pub limitIn : List ℕ → ℕ
+limitIn r = getD r limitAt 0
+
+abbrev pub preIn : List ℕ → ℕ
+preIn r = getD r preAt 0
+
+abbrev pub waitsIn : List ℕ → ℕ
+waitsIn r = getD r waitsAt 0
+
+abbrev pub highLinesIn : List ℕ → ℕ
+highLinesIn r = getD r highLinesAt 0
+
+abbrev pub lowLinesIn : List ℕ → ℕ
+lowLinesIn r = getD r lowLinesAt 0
+
+abbrev pub risingLinesIn : List ℕ → ℕ
+risingLinesIn r = getD r risingLinesAt 0
+
+abbrev pub fallingLinesIn : List ℕ → ℕ
+fallingLinesIn r = getD r fallingLinesAt 0
+
+abbrev pub edgeLinesIn : List ℕ → ℕ
+edgeLinesIn r = getD r edgeLinesAt 0
+
+abbrev pub knownIn : List ℕ → ℕ
+knownIn r = getD r knownAt 0
+
+abbrev pub previousSampleIn : List ℕ → ℕ
+previousSampleIn r = getD r previousAt 0
+
+abbrev pub ringPlaceIn : List ℕ → ℕ
+ringPlaceIn r = getD r ringPlaceAt 0
+
+abbrev pub keptIn : List ℕ → ℕ
+keptIn r = getD r keptAt 0
 
 -- ---- from numbers
 abbrev pub markIn : ℕ → ℕ → Mark
@@ -37,13 +114,13 @@ previousIn known v = cond (eqb known 0) Nothing (Sample (maskIn v))
 
 abbrev pub feederFrom : List ℕ → Feeder
 feederFrom r = record {
-  capture = record { unitsize = getD r 0 0; capacity = getD r 1 0; len = getD r 2 0; trigger = markIn (getD r 3 0) (getD r 4 0) };
-  limit = getD r 5 0;
-  pre = getD r 6 0;
-  masks = armedIn (getD r 7 0) (masksIn (getD r 8 0) (getD r 9 0) (getD r 10 0) (getD r 11 0) (getD r 12 0));
-  prev = previousIn (getD r 13 0) (getD r 14 0);
-  place = getD r 15 0;
-  kept = getD r 16 0;
+  capture = record { unitsize = unitIn r; capacity = capacityIn r; len = lenIn r; trigger = markIn (markedIn r) (markPlaceIn r) };
+  limit = limitIn r;
+  pre = preIn r;
+  masks = armedIn (waitsIn r) (masksIn (highLinesIn r) (lowLinesIn r) (risingLinesIn r) (fallingLinesIn r) (edgeLinesIn r));
+  prev = previousIn (knownIn r) (previousSampleIn r);
+  place = ringPlaceIn r;
+  kept = keptIn r;
 }
 
 -- ---- to numbers
@@ -69,12 +146,12 @@ maskNumbers m = m .high ∷ m .low ∷ m .rising ∷ m .falling ∷ m .edge ∷ 
 
 -- what a push never changes: unit, capacity, limit, pre, and the lines of each condition
 abbrev pub fixedNumbers : Recorder → List ℕ → List ℕ
-fixedNumbers r old = sets (sets (sets old 0 (r .store .unit ∷ r .store .capacity ∷ [])) 5 (r .limit ∷ r .pre ∷ [])) 8 (maskNumbers (masksOf (r .armed)))
+fixedNumbers r old = sets (sets (sets old unitAt (r .store .unit ∷ r .store .capacity ∷ [])) limitAt (r .limit ∷ r .pre ∷ [])) highLinesAt (maskNumbers (masksOf (r .armed)))
 
 -- what a push may change: len and mark, whether it waits, previous sample, ring place and kept count
 abbrev pub pushedNumbers : Recorder → List ℕ → List ℕ
 pushedNumbers r old =
-    sets (sets (sets old 2 (r .store .len ∷ markedNumber (r .store .mark) ∷ markNumber (r .store .mark) ∷ [])) 7 (waitsNumber (r .armed) ∷ [])) 13
+    sets (sets (sets old lenAt (r .store .len ∷ markedNumber (r .store .mark) ∷ markNumber (r .store .mark) ∷ [])) waitsAt (waitsNumber (r .armed) ∷ [])) knownAt
     (markedNumber (r .previous) ∷ markNumber (r .previous) ∷ r .place ∷ r .kept ∷ [])
 
 abbrev pub recorderNumbers : Recorder → List ℕ → List ℕ

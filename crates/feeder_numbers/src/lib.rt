@@ -1,6 +1,9 @@
 // A recorder's record as 17 numbers, for a caller that has no records. The first five are its store's.
+pub mod recorder;
+
 use capture::Capture;
 use capture::Mark;
+use capture::record;
 use feeder::Armed;
 use feeder::Feeder;
 use lines::Mask;
@@ -65,26 +68,26 @@ pub fn feeder_in(numbers: &[usize; 17]) -> Feeder
     ensures { λ r. ⌜ r ≡ feederFrom (now (numbers .entry)) ⌝ }
 {
     let capture = Capture {
-        unitsize: numbers[0],
-        capacity: numbers[1],
-        len: numbers[2],
-        trigger: mark_in(numbers[3], numbers[4]),
+        unitsize: numbers[record::UNIT],
+        capacity: numbers[record::CAPACITY],
+        len: numbers[record::LEN],
+        trigger: mark_in(numbers[record::MARKED], numbers[record::MARK]),
     };
     let masks = masks_in(
-        numbers[8],
-        numbers[9],
-        numbers[10],
-        numbers[11],
-        numbers[12],
+        numbers[recorder::HIGH_LINES],
+        numbers[recorder::LOW_LINES],
+        numbers[recorder::RISING_LINES],
+        numbers[recorder::FALLING_LINES],
+        numbers[recorder::EDGE_LINES],
     );
     Feeder {
         capture,
-        limit: numbers[5],
-        pre: numbers[6],
-        masks: armed_in(numbers[7], masks),
-        prev: previous_in(numbers[13], numbers[14]),
-        place: numbers[15],
-        kept: numbers[16],
+        limit: numbers[recorder::LIMIT],
+        pre: numbers[recorder::PRE],
+        masks: armed_in(numbers[recorder::WAITS], masks),
+        prev: previous_in(numbers[recorder::KNOWN], numbers[recorder::PREVIOUS]),
+        place: numbers[recorder::RING_PLACE],
+        kept: numbers[recorder::KEPT],
     }
 }
 
@@ -153,14 +156,14 @@ pub fn put_pushed(numbers: &mut [usize; 17], f: Feeder)
     let mark = c.trigger;
     let armed = f.masks;
     let prev = f.prev;
-    numbers[2] = c.len;
-    numbers[3] = marked(mark);
-    numbers[4] = mark_place(mark);
-    numbers[7] = waits(armed);
-    numbers[13] = known(prev);
-    numbers[14] = sample_of(prev);
-    numbers[15] = f.place;
-    numbers[16] = f.kept;
+    numbers[record::LEN] = c.len;
+    numbers[record::MARKED] = marked(mark);
+    numbers[record::MARK] = mark_place(mark);
+    numbers[recorder::WAITS] = waits(armed);
+    numbers[recorder::KNOWN] = known(prev);
+    numbers[recorder::PREVIOUS] = sample_of(prev);
+    numbers[recorder::RING_PLACE] = f.place;
+    numbers[recorder::KEPT] = f.kept;
 }
 
 // All numbers become a recorder's.
@@ -170,14 +173,14 @@ pub fn put_feeder(numbers: &mut [usize; 17], f: Feeder)
     let c = f.capture;
     let armed = f.masks;
     let masks = masks_of(armed);
-    numbers[0] = c.unitsize;
-    numbers[1] = c.capacity;
-    numbers[5] = f.limit;
-    numbers[6] = f.pre;
-    numbers[8] = masks.high as usize;
-    numbers[9] = masks.low as usize;
-    numbers[10] = masks.rising as usize;
-    numbers[11] = masks.falling as usize;
-    numbers[12] = masks.edge as usize;
+    numbers[record::UNIT] = c.unitsize;
+    numbers[record::CAPACITY] = c.capacity;
+    numbers[recorder::LIMIT] = f.limit;
+    numbers[recorder::PRE] = f.pre;
+    numbers[recorder::HIGH_LINES] = masks.high as usize;
+    numbers[recorder::LOW_LINES] = masks.low as usize;
+    numbers[recorder::RISING_LINES] = masks.rising as usize;
+    numbers[recorder::FALLING_LINES] = masks.falling as usize;
+    numbers[recorder::EDGE_LINES] = masks.edge as usize;
     put_pushed(numbers, f);
 }

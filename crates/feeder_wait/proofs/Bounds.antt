@@ -8,12 +8,13 @@ use native.Mathlib.Nat.{mul-le-mul}
 use native.Mathlib.Omega.{arith}
 use lib.Bits.{bitOr}
 use lib.Dec.{eqb, ltb}
-use lib.ListN.{getD}
 use borrow.Author.Tests.{ne-eqb, le-ltb}
 use Rattle.rules.specs.Refusal.{Store, Lent, mostSamples, unitWrong, storeWrong, lentShort}
 use Rattle.rules.proofs.Bits.{or-zero-left, or-zero-right}
 use Rattle.rules.proofs.Refusal.{neither, Ranged, ranged}
+use Rattle.capture.specs.Numbers.{unitIn, capacityIn, lenIn, markedIn, markPlaceIn}
 use Rattle.feeder.proofs.Rows.{store-passed}
+use Rattle.feeder_numbers.specs.Numbers.{limitIn, preIn, waitsIn, keptIn}
 use Rattle.feeder_wait.specs.Wait.{Waiting}
 
 -- a store with nothing in it
@@ -36,27 +37,27 @@ not-wrong unit capacity known some-slots most =
 module _ (r : List ℕ) where
   -- its store, with nothing in it
   abbrev pub emptyOf : Store
-  emptyOf = empty (getD r 0 0) (getD r 1 0)
+  emptyOf = empty (unitIn r) (capacityIn r)
 
-  module _ (unit : unitWrong (getD r 0 0) ≡ false) (most : getD r 1 0 ≤ mostSamples) (pre-most : getD r 6 0 < getD r 1 0) where
+  module _ (unit : unitWrong (unitIn r) ≡ false) (most : capacityIn r ≤ mostSamples) (pre-most : preIn r < capacityIn r) where
     right : storeWrong emptyOf ≡ false
-    right = not-wrong (getD r 0 0) (getD r 1 0) unit (omega arith) most
+    right = not-wrong (unitIn r) (capacityIn r) unit (omega arith) most
 
     in-range : Ranged emptyOf
     in-range = ranged emptyOf right
 
-    pub slots-fit : getD r 6 0 * getD r 0 0 < 2 ^ 64
+    pub slots-fit : preIn r * unitIn r < 2 ^ 64
     slots-fit =
-        let less : getD r 6 0 ≤ 67108864 = omega arith in
+        let less : preIn r ≤ 67108864 = omega arith in
         omega (arith, mul-le-mul less (in-range .unit-size .most))
 
     module _ (lent : Lent) (ring : ℕ) where
-      pub waiting-is : getD r 7 0 ≡ 1 → bitOr (bitOr (getD r 2 0) (getD r 3 0)) (getD r 4 0) ≡ 0 → getD r 5 0 ≤ getD r 1 0 → getD r 16 0 ≤ getD r 6 0 → lentShort emptyOf lent ≡ false → getD r 6 0 * getD r 0 0 ≤ ring → Waiting r lent ring
+      pub waiting-is : waitsIn r ≡ 1 → bitOr (bitOr (lenIn r) (markedIn r)) (markPlaceIn r) ≡ 0 → limitIn r ≤ capacityIn r → keptIn r ≤ preIn r → lentShort emptyOf lent ≡ false → preIn r * unitIn r ≤ ring → Waiting r lent ring
       waiting-is waits zero limit kept enough slots = record {
         waits = waits;
-        len = or-zero-left (getD r 2 0) (getD r 3 0) first;
-        unmarked = or-zero-right (getD r 2 0) (getD r 3 0) first;
-        mark = or-zero-right (bitOr (getD r 2 0) (getD r 3 0)) (getD r 4 0) zero;
+        len = or-zero-left (lenIn r) (markedIn r) first;
+        unmarked = or-zero-right (lenIn r) (markedIn r) first;
+        mark = or-zero-right (bitOr (lenIn r) (markedIn r)) (markPlaceIn r) zero;
         store = store-passed emptyOf lent right enough .0;
         limit-most = limit;
         pre-most = pre-most;
@@ -64,5 +65,5 @@ module _ (r : List ℕ) where
         slots = slots;
       }
         where
-          first : bitOr (getD r 2 0) (getD r 3 0) ≡ 0
-          first = or-zero-left (bitOr (getD r 2 0) (getD r 3 0)) (getD r 4 0) zero
+          first : bitOr (lenIn r) (markedIn r) ≡ 0
+          first = or-zero-left (bitOr (lenIn r) (markedIn r)) (markPlaceIn r) zero

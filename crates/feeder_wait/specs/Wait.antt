@@ -4,7 +4,7 @@ use mathlib.Core.Bool.{Bool, true, false}
 use mathlib.Core.List.{List, [], _∷_}
 use mathlib.Core.Option.{none}
 use Prim.Native.Nat.{ℕ, _+_, _-_, _*_, _/_, _≤_, _<_, min}
-use lib.ListN.{length, getD}
+use lib.ListN.{length}
 use lib.Seq.{sets}
 use Rattle.rules.specs.Sample.{sampleOf, samplesOf, UnitSize}
 use Rattle.rules.specs.Trigger.{firstFire}
@@ -17,28 +17,29 @@ use Rattle.rules.specs.Push.{waitedFor}
 use Rattle.terms.specs.declared.Masks.{Masks}
 use Rattle.terms.specs.Terms.{asMasks, previousOf}
 use Rattle.feeder.specs.Record.{recorderOf}
-use Rattle.feeder_numbers.specs.Numbers.{masksIn, previousIn, feederFrom, pushedNumbers}
+use Rattle.capture.specs.Numbers.{unitIn, capacityIn, lenIn, markedIn, markPlaceIn}
+use Rattle.feeder_numbers.specs.Numbers.{knownAt, limitIn, preIn, waitsIn, highLinesIn, lowLinesIn, risingLinesIn, fallingLinesIn, edgeLinesIn, knownIn, previousSampleIn, ringPlaceIn, keptIn, masksIn, previousIn, feederFrom, pushedNumbers}
 use Rattle.rules.specs.Push.{leftOf}
 
 -- the recorder waits, nothing is stored and there is no mark; rows 1 and 2 do not hold, but for the ring's place
 pub record Waiting (numbers : List ℕ) (lent : Lent) (ring : ℕ) : Type 0 where
-  pub waits : getD numbers 7 0 ≡ 1
-  pub len : getD numbers 2 0 ≡ 0
-  pub unmarked : getD numbers 3 0 ≡ 0
-  pub mark : getD numbers 4 0 ≡ 0
-  pub store : Sound (record { unit = getD numbers 0 0; capacity = getD numbers 1 0; len = 0; mark = none }) lent
-  pub limit-most : getD numbers 5 0 ≤ getD numbers 1 0
-  pub pre-most : getD numbers 6 0 < getD numbers 1 0
-  pub kept-most : getD numbers 16 0 ≤ getD numbers 6 0
-  pub slots : getD numbers 6 0 * getD numbers 0 0 ≤ ring
+  pub waits : waitsIn numbers ≡ 1
+  pub len : lenIn numbers ≡ 0
+  pub unmarked : markedIn numbers ≡ 0
+  pub mark : markPlaceIn numbers ≡ 0
+  pub store : Sound (record { unit = unitIn numbers; capacity = capacityIn numbers; len = 0; mark = none }) lent
+  pub limit-most : limitIn numbers ≤ capacityIn numbers
+  pub pre-most : preIn numbers < capacityIn numbers
+  pub kept-most : keptIn numbers ≤ preIn numbers
+  pub slots : preIn numbers * unitIn numbers ≤ ring
 
 -- ---- n samples of a unit
 abbrev pub masksOf : List ℕ → Masks
-masksOf r = masksIn (getD r 8 0) (getD r 9 0) (getD r 10 0) (getD r 11 0) (getD r 12 0)
+masksOf r = masksIn (highLinesIn r) (lowLinesIn r) (risingLinesIn r) (fallingLinesIn r) (edgeLinesIn r)
 
 -- the first of n samples that fires, n where none does
 abbrev pub fireOf : List ℕ → List ℕ → ℕ → ℕ → ℕ
-fireOf numbers bytes unit n = firstFire (asMasks (masksOf numbers)) (previousOf (previousIn (getD numbers 13 0) (getD numbers 14 0))) (units unit n bytes)
+fireOf numbers bytes unit n = firstFire (asMasks (masksOf numbers)) (previousOf (previousIn (knownIn numbers) (previousSampleIn numbers))) (units unit n bytes)
 
 -- the samples in len bytes
 pub record Count (unit len n : ℕ) : Type 0 where
@@ -62,17 +63,17 @@ pub record FewRoom (numbers : List ℕ) (ring bytes unit n : ℕ) : Type 0 where
   pub two-bytes : 2 ≤ n * unit
   pub few-bytes : n * unit ≤ 8
   pub samples : n * unit ≤ bytes
-  pub place-inside : getD numbers 15 0 < getD numbers 6 0
-  pub pre-most : getD numbers 6 0 ≤ mostSamples
-  pub ahead : n < getD numbers 6 0 - getD numbers 15 0
-  pub kept-most : getD numbers 16 0 ≤ getD numbers 6 0
-  pub slots : getD numbers 6 0 * unit ≤ ring
+  pub place-inside : ringPlaceIn numbers < preIn numbers
+  pub pre-most : preIn numbers ≤ mostSamples
+  pub ahead : n < preIn numbers - ringPlaceIn numbers
+  pub kept-most : keptIn numbers ≤ preIn numbers
+  pub slots : preIn numbers * unit ≤ ring
 
 -- none fires; they went to the ring, and previous sample, place and kept count are theirs
 pub record FewWent (numbers ring bytes : List ℕ) (unit n : ℕ) (numbers′ ring′ : List ℕ) : Type 0 where
   pub none-fires : fireOf numbers bytes unit n ≡ n
-  pub numbers-are : numbers′ ≡ sets numbers 13 (1 ∷ sampleOf unit bytes (n - 1) ∷ (getD numbers 15 0 + n) ∷ min (getD numbers 6 0) (getD numbers 16 0 + n) ∷ [])
-  pub ring-is : ring′ ≡ ringBytes unit (getD numbers 6 0) ring (getD numbers 15 0) n bytes
+  pub numbers-are : numbers′ ≡ sets numbers knownAt (1 ∷ sampleOf unit bytes (n - 1) ∷ (ringPlaceIn numbers + n) ∷ min (preIn numbers) (keptIn numbers + n) ∷ [])
+  pub ring-is : ring′ ≡ ringBytes unit (preIn numbers) ring (ringPlaceIn numbers) n bytes
 
 -- or nothing is written
 pub record Untouched (numbers ring numbers′ ring′ : List ℕ) : Type 0 where
@@ -86,7 +87,7 @@ FewAfter false numbers ring bytes unit n numbers′ ring′ = Untouched numbers 
 -- ---- a push
 -- the recorder once the samples of the bytes went to the ring
 abbrev pub waitedOf : List ℕ → List ℕ → Recorder
-waitedOf numbers bytes = waitedFor (recorderOf (feederFrom numbers)) (samplesOf (getD numbers 0 0) bytes)
+waitedOf numbers bytes = waitedFor (recorderOf (feederFrom numbers)) (samplesOf (unitIn numbers) bytes)
 
 -- what a push leaves, over any sample memory s: it goes on
 pub record ShortWent (numbers : List ℕ) (lent : Lent) (ring bytes numbers′ ring′ : List ℕ) : Type 0 where

@@ -2,9 +2,11 @@
 use capture::Capture;
 use capture::Mark;
 use capture::memory_short;
+use capture::record;
 use capture::unit_wrong;
 use feeder_numbers::masks_in;
 use feeder_numbers::previous_in;
+use feeder_numbers::recorder;
 use feeder_scan::any_level;
 use feeder_scan::fire_few;
 use lines::Mask;
@@ -37,14 +39,14 @@ fn waits<'a>(
 ) -> bool
     ensures { λ r. ⌜ (r ≡ true → Waiting (now (numbers .entry)) (lentOf (now (samples .entry)) (levelOf (now (l1 .entry)) (now (l2 .entry)) (now (l3 .entry)) (now (l4 .entry)))) ring) ⌝ }
 {
-    if numbers[7] != 1 {
+    if numbers[recorder::WAITS] != 1 {
         return false;
     }
-    let unitsize = numbers[0];
+    let unitsize = numbers[record::UNIT];
     if unit_wrong(unitsize) {
         return false;
     }
-    let capacity = numbers[1];
+    let capacity = numbers[record::CAPACITY];
     if MOST_SAMPLES < capacity {
         return false;
     }
@@ -57,20 +59,20 @@ fn waits<'a>(
     if memory_short(capture, samples, l1, l2, l3, l4) {
         return false;
     }
-    if capacity < numbers[5] {
+    if capacity < numbers[recorder::LIMIT] {
         return false;
     }
-    let pre = numbers[6];
+    let pre = numbers[recorder::PRE];
     if capacity <= pre {
         return false;
     }
-    if pre < numbers[16] {
+    if pre < numbers[recorder::KEPT] {
         return false;
     }
     if ring < pre * unitsize {
         return false;
     }
-    numbers[2] | numbers[3] | numbers[4] == 0
+    numbers[record::LEN] | numbers[record::MARKED] | numbers[record::MARK] == 0
 }
 
 // Whether one of n samples fires. Levels come first: most often none has them, and then neither the previous sample nor a pair is looked at.
@@ -79,14 +81,14 @@ fn fires(numbers: &[usize; 17], bytes: &[u8], unitsize: usize, n: usize) -> bool
     ensures { λ r. ⌜ r ≡ ltb (fireOf (now (numbers .entry)) (now (bytes .entry)) unitsize n) n ⌝ }
 {
     let masks = masks_in(
-        numbers[8],
-        numbers[9],
-        numbers[10],
-        numbers[11],
-        numbers[12],
+        numbers[recorder::HIGH_LINES],
+        numbers[recorder::LOW_LINES],
+        numbers[recorder::RISING_LINES],
+        numbers[recorder::FALLING_LINES],
+        numbers[recorder::EDGE_LINES],
     );
     if any_level(masks, bytes, unitsize, n) {
-        let prev = previous_in(numbers[13], numbers[14]);
+        let prev = previous_in(numbers[recorder::KNOWN], numbers[recorder::PREVIOUS]);
         return fire_few(masks, prev, bytes, unitsize, n) < n;
     }
     false
@@ -159,15 +161,15 @@ fn wait_few(
     if fires(&*numbers, bytes, unitsize, n) {
         return false;
     }
-    let pre = numbers[6];
-    let place = numbers[15];
-    let kept = numbers[16];
+    let pre = numbers[recorder::PRE];
+    let place = numbers[recorder::RING_PLACE];
+    let kept = numbers[recorder::KEPT];
     let last = get(bytes, unitsize, n - 1);
     copy_few(ring, place * unitsize, bytes, n * unitsize);
-    numbers[13] = 1;
-    numbers[14] = last as usize;
-    numbers[15] = place + n;
-    numbers[16] = kept + lesser(n, pre - kept);
+    numbers[recorder::KNOWN] = 1;
+    numbers[recorder::PREVIOUS] = last as usize;
+    numbers[recorder::RING_PLACE] = place + n;
+    numbers[recorder::KEPT] = kept + lesser(n, pre - kept);
     true
 }
 
@@ -199,8 +201,8 @@ pub fn wait_short<'a>(
     if !waiting {
         return false;
     }
-    let pre = numbers[6];
-    let place = numbers[15];
+    let pre = numbers[recorder::PRE];
+    let place = numbers[recorder::RING_PLACE];
     if pre <= place {
         return false;
     }
@@ -214,7 +216,7 @@ pub fn wait_short<'a>(
     if pre - place <= len {
         return false;
     }
-    let unitsize = numbers[0];
+    let unitsize = numbers[record::UNIT];
     let n = count_in(unitsize, len);
     wait_few(numbers, ring, bytes, unitsize, n)
 }

@@ -6,7 +6,7 @@ use Prim.Native.Nat.{ℕ, zero, suc, _+_}
 use native.Mathlib.Nat.{add-zero, suc-ne-zero}
 use borrow.Author.Tests.{ne-eqb}
 use lib.Ieee.{Float}
-use lib.ListN.{length, getD, set}
+use lib.ListN.{length, set}
 use lib.Seq.{set-getD}
 use Rattle.rules.specs.Reading.{copiedTo}
 use Rattle.rules.specs.Answer.{Answer, unless, unrefused}
@@ -16,6 +16,7 @@ use Rattle.rules.specs.Refusal.{copied, renderRefusal}
 use Rattle.capture.specs.declared.Capture.{Capture}
 use Rattle.capture.specs.declared.Copied.{Copied}
 use Rattle.capture.specs.Record.{storeOf, lentOf}
+use Rattle.capture.specs.Numbers.{lenAt, lenIn}
 use Rattle.capture.specs.Calls.{Copies, copiedOf}
 use Rattle.summary.specs.Summary.{summed}
 use Rattle.render.specs.declared.Drawn.{Drawn}
@@ -76,9 +77,9 @@ module _ (bytes samples : List ℕ) (levels : ℕ → List ℕ) (samples′ : Li
   -- where a row refuses, len stays, and so it may be left unwritten
   len-stays : (numbers : List ℕ) → (refusalOf (captureIn numbers) samples levels bytes ≡ 0 → ⊥) → lenNumber (captureIn numbers .len + takenOf (captureIn numbers) samples levels bytes) numbers ≡ numbers
   len-stays numbers h =
-      ap (λ (k : ℕ). set numbers 2 (getD numbers 2 0 + k)) (taken-none (captureIn numbers) bytes samples levels h)
-      ∙ ap (λ (k : ℕ). set numbers 2 k) (add-zero (getD numbers 2 0))
-      ∙ set-getD numbers 2 0
+      ap (λ (k : ℕ). set numbers lenAt (lenIn numbers + k)) (taken-none (captureIn numbers) bytes samples levels h)
+      ∙ ap (λ (k : ℕ). set numbers lenAt k) (add-zero (lenIn numbers))
+      ∙ set-getD numbers lenAt 0
 
   pub appends-told : {c : Capture} (r : Appended) (code : ℕ) (numbers numbers′ : List ℕ)
       → c ≡ captureIn numbers → Appends c bytes samples levels r samples′ levels′

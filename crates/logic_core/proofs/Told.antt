@@ -4,12 +4,12 @@ use mathlib.Core.Bool.{Bool, true, false}
 use mathlib.Core.List.{List}
 use Prim.Native.Nat.{ℕ, _-_}
 use native.Mathlib.Nat.{sub-self}
-use lib.ListN.{getD}
 use Rattle.rules.specs.Selection.{going-on}
 use Rattle.store.specs.Stored.{LevelsAfter}
 use Rattle.store.proofs.Levels.{levels-none}
 use Rattle.rules.specs.Push.{Left, leftOf}
 use Rattle.capture.specs.Record.{lentOf}
+use Rattle.capture.specs.Numbers.{unitIn, lenIn}
 use Rattle.feeder.specs.declared.Feeder.{Feeder}
 use Rattle.feeder.specs.Record.{recorderOf}
 use Rattle.feeder_push.specs.declared.Pushed.{Pushed}
@@ -43,8 +43,8 @@ short-told numbers bytes samples levels ring numbers′ ring′ d = record {
   numbers-are = d .numbers-are ∙ ap (λ (x : Left). numbersAfter (x .reply) (x .recorder) numbers) left;
   samples-are = ap (λ (x : Left). x .samples) left;
   ring-is = ap (λ (x : Left). x .ring) left;
-  levels-are = subst (λ (x : Left). LevelsAfter (getD numbers 0 0) (getD numbers 2 0) (x .recorder .store .len - getD numbers 2 0) samples levels levels) left
-      (levels-none (getD numbers 0 0) (getD numbers 2 0) (getD numbers 2 0 - getD numbers 2 0) samples levels (sub-self (getD numbers 2 0)));
+  levels-are = subst (λ (x : Left). LevelsAfter (unitIn numbers) (lenIn numbers) (x .recorder .store .len - lenIn numbers) samples levels levels) left
+      (levels-none (unitIn numbers) (lenIn numbers) (lenIn numbers - lenIn numbers) samples levels (sub-self (lenIn numbers)));
 }
   where
     left : record { reply = going-on; recorder = waitedOf numbers bytes; samples = samples; ring = ring′ } ≡ leftOf (recorderOf (feederFrom numbers)) (lentOf samples levels) samples ring bytes

@@ -2,6 +2,7 @@
 use codes::NONE;
 use codes::code;
 use codes::flag;
+use codes::out;
 use mill_read::Bounded;
 use mill_search::Bursts;
 use mill_search::Found;
@@ -62,8 +63,8 @@ pub fn burst_code(
             let stop = b.last;
             *first = start;
             *last = stop;
-            jumps[0] = b.jumps_end;
-            jumps[1] = b.jumps_start;
+            jumps[out::MILL_JUMPS_END] = b.jumps_end;
+            jumps[out::MILL_JUMPS_START] = b.jumps_start;
             *read = n;
             0
         }

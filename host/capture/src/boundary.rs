@@ -9,10 +9,10 @@ use crate::memory::Memory;
 use crate::mode::DefaultMode;
 use crate::{Burst, Counted, Extent, Lines, Node, Refusal};
 
-/// unit, capacity, len, whether there is a mark, the mark
+/// The record of a capture; [`record`] says which number is which.
 pub type Record = [usize; 5];
 
-/// The record of a recorder: that of its capture, then its own numbers.
+/// The record of a recorder: that of its capture, then its own numbers, [`recorder`].
 pub type RecorderRecord = [usize; 17];
 
 /// A refusal, or whether there is an answer.
@@ -117,6 +117,14 @@ pub fn whole(record: &Record, memory: &Memory) -> Result<Option<(usize, usize)>,
     Ok((!whole).then_some((level, number)))
 }
 
+fn node_of(node: [Lines; 3]) -> Node {
+    Node {
+        first: node[out::NODE_FIRST],
+        last: node[out::NODE_LAST],
+        toggles: node[out::NODE_TOGGLES],
+    }
+}
+
 pub fn summary(
     record: &Record,
     memory: &Memory,
@@ -125,8 +133,7 @@ pub fn summary(
 ) -> Result<Option<Node>, Refusal> {
     let mut node = [0; 3];
     let found = answered(call!(lc_summary, (record), memory.as_ptr, (a, b, &mut node)))?;
-    let [first, last, toggles] = node;
-    Ok(found.then_some(Node { first, last, toggles }))
+    Ok(found.then_some(node_of(node)))
 }
 
 /// Defines searches that write a place, and the nodes read, behind the arguments of their own.
@@ -170,8 +177,13 @@ pub fn burst_at(
         memory.as_ptr,
         (mask, sample, max_gap, tolerance, budget, &mut ends, &mut read)
     );
-    let [first, last, jumps_at_end, jumps_at_start] = ends;
-    counted(code, Burst { first, last, jumps_at_end, jumps_at_start }, read)
+    let burst = Burst {
+        first: ends[out::BURST_FIRST],
+        last: ends[out::BURST_LAST],
+        jumps_at_end: ends[out::BURST_JUMPS_END],
+        jumps_at_start: ends[out::BURST_JUMPS_START],
+    };
+    counted(code, burst, read)
 }
 
 /// Two numbers of the output for each pixel.
@@ -235,8 +247,7 @@ pub fn mill_summary(
     let mut node = [0; 3];
     let code = call!(lc_mill_summary, (record), memory.as_ptr, (grant, a, b, &mut node));
     let found = answered(code)?;
-    let [first, last, toggles] = node;
-    Ok(found.then_some(Node { first, last, toggles }))
+    Ok(found.then_some(node_of(node)))
 }
 
 pub fn mill_burst_at(
@@ -257,7 +268,7 @@ pub fn mill_burst_at(
             &mut read
         )
     );
-    let [jumps_at_end, jumps_at_start] = jumps;
+    let (jumps_at_end, jumps_at_start) = (jumps[out::MILL_JUMPS_END], jumps[out::MILL_JUMPS_START]);
     counted(code, Burst { first, last, jumps_at_end, jumps_at_start }, read)
 }
 

@@ -1,6 +1,6 @@
 //! A capture and its questions.
 
-use crate::boundary::{self, Record};
+use crate::boundary::{self, record, Record};
 use crate::memory::{Memory, Needs};
 use crate::{Burst, Changes, Counted, Lines, Node, Pixel, Refusal, View, WrongNode, MOST_PIXELS};
 use std::fmt;
@@ -67,17 +67,17 @@ impl Capture {
 
     /// The bytes of a sample, 1 or 2.
     pub fn unit(&self) -> usize {
-        self.record[0]
+        self.record[record::UNIT]
     }
 
     /// The most samples that it can hold.
     pub fn capacity(&self) -> usize {
-        self.record[1]
+        self.record[record::CAPACITY]
     }
 
     /// The count of stored samples.
     pub fn len(&self) -> usize {
-        self.record[2]
+        self.record[record::LEN]
     }
 
     /// Whether no sample is stored.
@@ -87,8 +87,7 @@ impl Capture {
 
     /// The place of the sample that fired the trigger. Only a [`Recorder`](crate::Recorder) sets it.
     pub fn mark(&self) -> Option<usize> {
-        let [.., marked, mark] = self.record;
-        (marked != 0).then_some(mark)
+        (self.record[record::MARKED] != 0).then_some(self.record[record::MARK])
     }
 
     /// The sample at a place. Refuses with [`Refusal::Place`] at and after the end.

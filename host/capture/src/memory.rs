@@ -1,6 +1,7 @@
 //! The memory that a capture is lent.
 
-use crate::{boundary, Refusal};
+use crate::boundary::{self, out};
+use crate::Refusal;
 
 /// How much memory a capture takes.
 ///
@@ -23,8 +24,9 @@ impl Needs {
     /// What a capture of so many channels and samples takes. More than 8 channels take two bytes a sample, else
     /// one.
     pub fn of(channels: usize, capacity: usize) -> Result<Needs, Refusal> {
-        let [samples, levels @ ..] = boundary::needs(channels, capacity)?;
-        Ok(Needs { samples, levels })
+        let sizes = boundary::needs(channels, capacity)?;
+        let levels = [out::SIZE_LEVEL_1, out::SIZE_LEVEL_2, out::SIZE_LEVEL_3, out::SIZE_LEVEL_4];
+        Ok(Needs { samples: sizes[out::SIZE_SAMPLES], levels: levels.map(|at| sizes[at]) })
     }
 
     /// All of it in bytes.

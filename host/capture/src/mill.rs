@@ -1,6 +1,6 @@
 //! A mill's reader: granted lines, and places that count from the mark.
 
-use crate::boundary::{self, Record};
+use crate::boundary::{self, record, Record};
 use crate::memory::Memory;
 use crate::{Burst, Capture, Counted, Extent, Lines, Node, Pixel, Refusal, View, MOST_PIXELS};
 use std::fmt;
@@ -83,9 +83,9 @@ impl Capture {
     /// # Ok::<(), capture::Refusal>(())
     /// ```
     pub fn mill_with_mark(&self, grant: Lines, mark: usize) -> Option<Mill<'_>> {
-        let [unit, capacity, len, ..] = self.record;
-        let record = [unit, capacity, len, 1, mark];
-        (mark <= len).then_some(Mill { record, memory: &self.memory, grant })
+        let mut record = self.record;
+        (record[record::MARKED], record[record::MARK]) = (1, mark);
+        (mark <= self.len()).then_some(Mill { record, memory: &self.memory, grant })
     }
 }
 
@@ -148,7 +148,7 @@ impl Mill<'_> {
     pub fn samples(&self, start: i64, count: usize) -> Result<Vec<Lines>, Refusal> {
         let left = usize::try_from(self.extent().end.saturating_sub(start)).unwrap_or(0);
         // Before the first sample it is refused, and needs no memory for that.
-        let mut output = vec![0; count.min(left).min(self.record[2])];
+        let mut output = vec![0; count.min(left).min(self.record[record::LEN])];
         let copied = self.samples_to(start, &mut output)?;
         output.truncate(copied);
         Ok(output)

@@ -1,6 +1,6 @@
 //! A recorder: it fills a capture through a trigger.
 
-use crate::boundary::{self, RecorderStart};
+use crate::boundary::{self, recorder, Record, RecorderRecord, RecorderStart};
 use crate::memory::{Memory, Needs};
 use crate::{Capture, Refusal, Settings, Wish};
 use std::fmt;
@@ -40,9 +40,8 @@ pub enum Pushed {
 #[derive(Clone)]
 pub struct Recorder {
     capture: Capture,
-    /// The recorder's own numbers: limit, pre, whether it waits, the five masks of its terms, whether there is a
-    /// previous sample, that sample, the place of the ring's next slot, and how many samples the ring has kept.
-    own: [usize; 12],
+    /// The recorder's record; the capture has a copy of the numbers that are its own.
+    record: RecorderRecord,
     ring: Vec<u8>,
     cut: bool,
 }
@@ -76,11 +75,10 @@ impl Recorder {
         let asked = RecorderStart { channels, capacity, limit, terms: &terms, seconds, wish, rate };
         let (record, cut) = boundary::recorder_start(asked, &memory, &ring)?;
 
-        let (record, own) = apart(record);
-        let capture = Capture { record, memory };
-        ring.truncate(own[1] * capture.unit());
+        let capture = Capture { record: first(record), memory };
+        ring.truncate(record[recorder::PRE] * capture.unit());
         ring.shrink_to_fit();
-        Ok(Recorder { capture, own, ring, cut })
+        Ok(Recorder { capture, record, ring, cut })
     }
 
     /// Takes the whole samples of `bytes`, of one byte or two each, low byte first. A leftover byte is dropped.
@@ -99,10 +97,9 @@ impl Recorder {
     /// # Ok::<(), Refusal>(())
     /// ```
     pub fn push(&mut self, bytes: &[u8]) -> Result<Pushed, Refusal> {
-        let mut record = together(self.capture.record, self.own);
-        let going_on =
-            boundary::push(&mut record, &mut self.capture.memory, &mut self.ring, bytes)?;
-        (self.capture.record, self.own) = apart(record);
+        let Recorder { capture, record, ring, .. } = self;
+        let going_on = boundary::push(record, &mut capture.memory, ring, bytes)?;
+        capture.record = first(*record);
         Ok(if going_on { Pushed::GoingOn } else { Pushed::Complete })
     }
 
@@ -118,17 +115,17 @@ impl Recorder {
 
     /// Whether it still waits for its trigger.
     pub fn is_armed(&self) -> bool {
-        self.own[2] != 0
+        self.record[recorder::WAITS] != 0
     }
 
     /// The most samples that it stores; 0 is no limit.
     pub fn limit(&self) -> usize {
-        self.own[0]
+        self.record[recorder::LIMIT]
     }
 
     /// How many samples it keeps from before the trigger.
     pub fn pretrigger(&self) -> usize {
-        self.own[1]
+        self.record[recorder::PRE]
     }
 
     /// Whether more seconds were wished for before the trigger than the ring may hold, 67,108,864 bytes.
@@ -137,19 +134,9 @@ impl Recorder {
     }
 }
 
-/// The record of the capture, and the recorder's own numbers behind it.
-fn apart(record: boundary::RecorderRecord) -> (boundary::Record, [usize; 12]) {
-    let [unit, capacity, len, marked, mark, own @ ..] = record;
-    ([unit, capacity, len, marked, mark], own)
-}
-
-fn together(
-    [unit, capacity, len, marked, mark]: boundary::Record,
-    own: [usize; 12],
-) -> boundary::RecorderRecord {
-    let mut record = [unit, capacity, len, marked, mark, 0, 0, 0, 0, 0, 0, 0, 0, 0, 0, 0, 0];
-    record[5..].copy_from_slice(&own);
-    record
+/// The record of its capture, with which a recorder's begins.
+fn first(record: RecorderRecord) -> Record {
+    std::array::from_fn(|at| record[at])
 }
 
 impl fmt::Debug for Recorder {

@@ -3,6 +3,7 @@
 use crate::difference::{made, Item};
 use crate::export::{Export, Kind, Number, Parameter};
 use crate::lines;
+use crate::names::{self, Names};
 
 const COLUMNS: usize = 125;
 
@@ -113,9 +114,10 @@ fn lent_items(memory: Memory) -> Vec<Item> {
 }
 
 /// What the header must have.
-pub fn items(exports: &[Export]) -> Vec<Item> {
+pub fn items(exports: &[Export], names: &[Names]) -> Vec<Item> {
     let memory = memory(exports);
-    let mut items = memory.map(lent_items).unwrap_or_default();
+    let mut items: Vec<_> = names.iter().map(|names| names::in_c(names, COLUMNS)).collect();
+    items.extend(memory.map(lent_items).unwrap_or_default());
     for export in exports {
         items.push(made(&export.name, declaration(export, memory), &export.place));
     }
@@ -153,6 +155,8 @@ pub fn find(header: &str) -> Vec<Item> {
             directive(rest)
         } else if rest.starts_with("typedef struct lc_memory") {
             (through(rest, "} lc_memory;"), Some("lc_memory"))
+        } else if rest.starts_with("enum lc_") {
+            (through(rest, "};"), Some(lines::word(&rest["enum ".len()..])))
         } else {
             let length = rest.find([';', '{', '}']).map_or(rest.len(), |end| end + 1);
             (length, name_declared(&rest[..length]))

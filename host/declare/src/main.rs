@@ -14,7 +14,7 @@ fn run(check: bool) -> Result<(), Vec<String>> {
     let placed = declarations.make();
     declarations.write(&repository).map_err(|line| vec![line])?;
     placed.map_err(|mut lines| {
-        let place = "for one that is missing, write its comment where it belongs and `void lc_its_name();` under it";
+        let place = "for one that is missing, write its comment where it belongs and `void lc_its_name();`, for names `enum lc_its_name {};`, under it";
         lines.push(format!("{place}, and run this again"));
         lines
     })

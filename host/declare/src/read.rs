@@ -9,10 +9,10 @@ use std::collections::HashMap;
 const OUTSIDE: [(&str, &str); 2] = [("numbers", "record"), ("at", "place")];
 
 /// A word, a number, or a sign, with its line.
-type Token<'a> = (&'a str, usize);
+pub type Token<'a> = (&'a str, usize);
 
 /// The tokens of a file, without comments. Of strings only "C" is one.
-fn tokens(text: &str) -> Vec<Token<'_>> {
+pub fn tokens(text: &str) -> Vec<Token<'_>> {
     let mut found = Vec::new();
     for (number, line) in text.lines().enumerate() {
         let code = line.split("//").next().unwrap_or_default();
@@ -43,8 +43,8 @@ enum Type<'a> {
 }
 
 /// Tokens that are read one after the other.
-struct Reader<'t, 'a> {
-    tokens: &'t [Token<'a>],
+pub struct Reader<'t, 'a> {
+    pub tokens: &'t [Token<'a>],
 }
 
 impl<'a> Reader<'_, 'a> {
@@ -106,6 +106,18 @@ impl<'a> Reader<'_, 'a> {
         let name = self.name()?;
         self.must("=")?;
         Some((name, self.a_type()?))
+    }
+
+    /// A constant, `const NAME: usize = 5;`.
+    pub fn constant(&mut self) -> Option<(&'a str, usize)> {
+        self.must("const")?;
+        let name = self.name()?;
+        for token in [":", "usize", "="] {
+            self.must(token)?;
+        }
+        let number = self.next()?.parse().ok()?;
+        self.must(";")?;
+        Some((name, number))
     }
 
     /// The parameters in brackets and the result, behind a function's name.

@@ -3,6 +3,7 @@
 use crate::difference::{made, Item};
 use crate::export::{Export, Kind, Number, Parameter};
 use crate::lines;
+use crate::names::{self, Names};
 
 const COLUMNS: usize = 100;
 
@@ -29,21 +30,28 @@ fn declaration(export: &Export) -> String {
     format!("{begin}\n        {}\n    ) -> {result};", lines::filled(&parts, 8, COLUMNS))
 }
 
+fn declarations(exports: &[Export]) -> impl Iterator<Item = Item> + '_ {
+    exports.iter().map(|export| made(&export.name, declaration(export), &export.place))
+}
+
 /// What the file must have.
-pub fn items(exports: &[Export]) -> Vec<Item> {
-    let item = |export: &Export| made(&export.name, declaration(export), &export.place);
-    exports.iter().map(item).collect()
+pub fn items(exports: &[Export], names: &[Names]) -> Vec<Item> {
+    names.iter().map(names::in_rust).chain(declarations(exports)).collect()
 }
 
 /// The file.
-pub fn file(exports: &[Export]) -> String {
+pub fn file(exports: &[Export], names: &[Names]) -> String {
     let mut text = String::from(
         "// The exports of logic_core, for Rust; logic_core.h says what each does. Made by host/declare, not to be edited.
 // Who includes this defines `exports!` for it.
-exports! {
+
 ",
     );
-    for item in items(exports) {
+    for names in names {
+        text += &format!("#[allow(dead_code)]\n{}\n\n", names::in_rust(names).text);
+    }
+    text += "exports! {\n";
+    for item in declarations(exports) {
         text += &format!("    {}\n", item.text);
     }
     text + "}\n"
@@ -52,6 +60,10 @@ exports! {
 /// What the file has.
 pub fn find(text: &str) -> Vec<Item> {
     let mut found = Vec::new();
+    for (at, start) in text.match_indices("pub mod ") {
+        let end = text[at..].find('}').map_or(text.len(), |length| at + length + 1);
+        found.push(Item::standing(lines::word(&text[at + start.len()..]), text, at..end));
+    }
     for (at, _) in text.match_indices("fn lc_") {
         let result = text[at..].find("->").map_or(text.len(), |length| at + length);
         let end = text[result..].find(';').map_or(text.len(), |length| result + length + 1);

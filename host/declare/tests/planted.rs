@@ -1,6 +1,6 @@
 //! Differences, planted one at a time: each is one line that says where it is and what it should be.
 
-use declare::{exports, Declarations, File};
+use declare::{exports, names, Declarations, File};
 
 const SOURCE: &str = r#"
 // A question and a push.
@@ -26,8 +26,16 @@ pub extern "C" fn lc_push(numbers: &mut [usize; 17], samples: &mut [u8], l1: &mu
 }
 "#;
 
+const NAMING: &str = "// Which is which.
+pub const UNIT: usize = 0;
+// const is a word
+pub const LEN: usize = 1;
+";
+
 const HEADER: &str = "/* It is lent void lc_memory(). */
 #ifndef LOGIC_CORE_H
+/* Which is which. */
+enum lc_record {};
 typedef struct lc_memory {
 } lc_memory;
 #define LC_LEND
@@ -43,6 +51,8 @@ void lc_push();
 
 const MADE: &str = "/* It is lent void lc_memory(). */
 #ifndef LOGIC_CORE_H
+/* Which is which. */
+enum lc_record { LC_UNIT = 0, LC_LEN = 1 };
 typedef struct lc_memory {
     uint8_t *samples;
     uint16_t *level[4];
@@ -65,7 +75,14 @@ void lc_push(size_t record[17], LC_MEMORY, const uint8_t *bytes, size_t bytes_le
 #endif
 ";
 
-const RUST: &str = "exports! {
+const RUST: &str = "
+#[allow(dead_code)]
+pub mod record {
+    pub const UNIT: usize = 0;
+    pub const LEN: usize = 1;
+}
+
+exports! {
     fn lc_get(
         record: *const [usize; 5], samples: *const u8, samples_len: usize,
         l1: *const u16, l1_len: usize, l2: *const u16, l2_len: usize,
@@ -79,11 +96,16 @@ const RUST: &str = "exports! {
 }
 ";
 
+fn file(name: &str, text: &str) -> [File; 1] {
+    [File { name: name.into(), text: text.into() }]
+}
+
 /// The declarations that a source makes, put into a header.
 fn made(source: &str, header: &str) -> Result<Declarations, Vec<String>> {
-    let file = |name: &str, text: &str| [File { name: name.into(), text: text.into() }];
     let exports = exports(&file("it.rt", source), &file("lines.rt", "pub type Mask = u16;"))?;
-    let mut declarations = Declarations { exports, header: header.into(), rust: String::new() };
+    let names = names(&file("src/record.rt", NAMING))?;
+    let mut declarations =
+        Declarations { exports, names, header: header.into(), rust: String::new() };
     declarations.make()?;
     assert_eq!(declarations.differences(), [""; 0]);
     Ok(declarations)
@@ -151,6 +173,8 @@ fn a_difference_in_the_header_is_one_line() {
             "(m).level[1], (m).sizes[1]",
             "LC_LEND has `.level[1]` where the exports' lent memory makes `.level[0]`",
         ),
+        ("LC_LEN = 1", "LC_LEN = 2", "lc_record has `LC_LEN = 2` where src/record.rt makes `LC_LEN = 1`"),
+        (", LC_LEN = 1", "", "lc_record lacks `LC_LEN = 1` at its end, which src/record.rt makes"),
         (
             "uint16_t *level[4]",
             "uint8_t *level[4]",
@@ -189,7 +213,12 @@ fn a_difference_in_the_rust_is_one_line() {
         ("i: usize", "i: u16", "lc_get has `i: u16` where it.rt:4 makes `i: usize`"),
         ("-> u32", "-> u64", "lc_get has `-> u64` where it.rt:4 makes `-> u32`"),
         ("    fn lc_push(\n", "", "lc_push is missing; it.rt:20 makes it"),
-        ("}\n", "    fn lc_odd() -> ();\n}\n", "lc_odd is no export's"),
+        ("-> ();\n}\n", "-> ();\n    fn lc_odd() -> ();\n}\n", "lc_odd is no export's"),
+        (
+            "LEN: usize = 1",
+            "LEN: usize = 2",
+            "record has `pub const LEN: usize = 2` where src/record.rt makes `pub const LEN: usize = 1`",
+        ),
         ("exports! {\n", "exports! {\n\n", "is laid out otherwise"),
     ] {
         let mut declarations = right();
@@ -201,8 +230,17 @@ fn a_difference_in_the_rust_is_one_line() {
 #[test]
 fn a_difference_in_the_source_is_a_line_for_each_file() {
     let differs = |old: &str, new: &str, header: &str, rust: &str| {
-        let exports = made(&planted(SOURCE, old, new), HEADER).unwrap().exports;
-        let lines = Declarations { exports, ..right() }.differences();
+        let declarations = match SOURCE.contains(old) {
+            true => {
+                let exports = made(&planted(SOURCE, old, new), HEADER).unwrap().exports;
+                Declarations { exports, ..right() }
+            }
+            false => {
+                let names = names(&file("src/record.rt", &planted(NAMING, old, new))).unwrap();
+                Declarations { names, ..right() }
+            }
+        };
+        let lines = declarations.differences();
         assert_eq!(
             lines,
             [format!("include/logic_core.h: {header}"), format!("include/logic_core.rs: {rust}")]
@@ -226,6 +264,12 @@ fn a_difference_in_the_source_is_a_line_for_each_file() {
         "lc_push has `const uint8_t *bytes` where it.rt:20 makes `uint8_t *bytes`",
         "lc_push has `bytes: *const u8` where it.rt:20 makes `bytes: *mut u8`",
     );
+    differs(
+        "LEN: usize = 1",
+        "LEN: usize = 2",
+        "lc_record has `LC_LEN = 1` where src/record.rt makes `LC_LEN = 2`",
+        "record has `pub const LEN: usize = 1` where src/record.rt makes `pub const LEN: usize = 2`",
+    );
     // where one slice of lent memory differs from the others, all are spelled out
     differs(
         "l3: &'a [Mask]",
@@ -233,6 +277,15 @@ fn a_difference_in_the_source_is_a_line_for_each_file() {
         "lc_get has `LC_CONST_MEMORY` where it.rt:4 makes `const uint8_t *samples`",
         "lc_get has `l3: *const u16` where it.rt:4 makes `l3: *const u8`",
     );
+}
+
+#[test]
+fn names_that_cannot_be_told_apart_or_read_are_said() {
+    let said = |text: &str| names(&file("src/record.rt", text)).unwrap_err();
+    let twice = format!("{NAMING}pub const LEN: usize = 2;\n");
+    assert_eq!(said(&twice), ["src/record.rt:5: LEN is named twice"]);
+    let odd = "pub const LEN: usize = UNIT + 1;";
+    assert_eq!(said(odd), ["src/record.rt:1: a constant that cannot be read"]);
 }
 
 #[test]

@@ -6,7 +6,7 @@ use crate::document::listed;
 use crate::op::{Ask, Burst, Mill};
 use crate::side::Answer;
 use port::mill::Asked;
-use port::{Lent, Record};
+use port::{record, Lent, Record};
 
 impl Port {
     pub fn mill(&mut self, Mill { grant, ask }: Mill) -> Answer {
@@ -96,11 +96,10 @@ impl Port {
 
     /// Where the mill's places count from.
     fn origin(&self) -> u64 {
-        let [.., marked, mark] = self.record;
-        if marked == 0 {
+        if self.record[record::MARKED] == 0 {
             0
         } else {
-            mark as u64
+            self.record[record::MARK] as u64
         }
     }
 

@@ -5,7 +5,7 @@ use crate::document::rules;
 use crate::feed::to_bytes;
 use crate::op::{Condition, Settings, Wish};
 use crate::side::Answer;
-use port::{Feeder, NONE};
+use port::{record, recorder, Feeder, NONE};
 
 pub struct Recording {
     settings: Settings,
@@ -25,19 +25,18 @@ fn condition(condition: Condition) -> u8 {
 
 impl Port {
     pub fn waits(&self) -> bool {
-        self.own[2] != 0
+        self.own[recorder::WAITS] != 0
     }
 
     fn feeder(&self) -> Feeder {
-        let mut feeder = [0; 17];
-        feeder[..5].copy_from_slice(&self.record);
-        feeder[5..].copy_from_slice(&self.own);
+        let mut feeder = self.own;
+        feeder[..self.record.len()].copy_from_slice(&self.record);
         feeder
     }
 
     fn set(&mut self, feeder: Feeder) {
-        self.record.copy_from_slice(&feeder[..5]);
-        self.own.copy_from_slice(&feeder[5..]);
+        self.record = std::array::from_fn(|at| feeder[at]);
+        self.own = feeder;
     }
 
     pub fn start(&mut self, settings: &Settings) -> Answer {
@@ -62,15 +61,15 @@ impl Port {
             self.made = true;
             self.set(feeder);
         }
-        said(code, || vec![feeder[0] as u64, feeder[6] as u64, cut as u64])
+        said(code, || vec![feeder[record::UNIT] as u64, feeder[recorder::PRE] as u64, cut as u64])
     }
 
     /// The record says that memory, whatever it holds, has this many samples; to a recorder they are its run so far.
     pub fn hold(&mut self, len: usize) {
-        self.record[2] = len;
+        self.record[record::LEN] = len;
         self.made = false;
         if let Some(recording) = &mut self.recording {
-            let unit = self.record[0];
+            let unit = self.record[record::UNIT];
             recording.accepted = rules::samples(&self.memory.samples[..len * unit], unit as u64);
         }
     }
@@ -88,29 +87,44 @@ impl Port {
             self.faults.push("a push that is not refused on no recorder".into());
             return Ok(Vec::new());
         };
-        let (unit, len, pre) = (before[0], before[2], before[6]);
+        let [unit, len, pre] = [record::UNIT, record::LEN, recorder::PRE].map(|at| before[at]);
         let Recording { settings, accepted } = &mut recording;
         accepted.extend(rules::samples(bytes, unit as u64));
         let run = rules::select(settings, pre as u64, accepted);
         if !settings.terms.is_empty() && run.fired.is_none() {
-            self.right.wait(unit, pre, before[15], bytes);
+            self.right.wait(unit, pre, before[recorder::RING_PLACE], bytes);
         } else {
             let new = &accepted[run.start..run.end][len..];
             self.right.append(unit, len, &to_bytes(new, unit as u64));
         }
         self.recording = Some(recording);
         // Unit, capacity, limit and pre stay; so do the masks while it waits.
-        let fixed = |f: &Feeder| [f[0], f[1], f[5], f[6]];
+        let fixed = |f: &Feeder| {
+            [record::UNIT, record::CAPACITY, recorder::LIMIT, recorder::PRE].map(|at| f[at])
+        };
         self.same("recorder", fixed(&before), fixed(&feeder));
-        if feeder[7] != 0 {
-            self.same("masks", &before[7..13], &feeder[7..13]);
+        if feeder[recorder::WAITS] != 0 {
+            let masks = |f: &Feeder| {
+                [
+                    recorder::WAITS,
+                    recorder::HIGH_LINES,
+                    recorder::LOW_LINES,
+                    recorder::RISING_LINES,
+                    recorder::FALLING_LINES,
+                    recorder::EDGE_LINES,
+                ]
+                .map(|at| f[at])
+            };
+            self.same("masks", masks(&before), masks(&feeder));
         }
         self.set(feeder);
         Ok(vec![(code == NONE) as u64])
     }
 
     pub fn state(&mut self) -> Answer {
-        let [.., known, previous, place, kept] = self.own.map(|n| n as u64);
+        let [known, previous, place, kept] =
+            [recorder::KNOWN, recorder::PREVIOUS, recorder::RING_PLACE, recorder::KEPT]
+                .map(|at| self.own[at] as u64);
         let previous = if known == 0 { 0 } else { previous };
         Ok(vec![kept, place, (known != 0) as u64, previous])
     }

@@ -6,7 +6,6 @@ use borrow.Author.Needs.{needs}
 use borrow.Author.Tests.{le-ltb}
 use denote.Ref.{now}
 use lib.Dec.{ltb}
-use lib.ListN.{getD}
 use Rattle.rules.specs.Sample.{sampleOf}
 use Rattle.rules.specs.Trigger.{firstFire}
 use Rattle.rules.proofs.Sample.{list-length}
@@ -14,7 +13,7 @@ use Rattle.feeder_lists.specs.Bytes.{units}
 use Rattle.terms.specs.declared.Masks.{Masks}
 use Rattle.terms.specs.declared.Previous.{Previous}
 use Rattle.terms.specs.Terms.{asMasks, previousOf}
-use Rattle.feeder_numbers.specs.Numbers.{previousIn}
+use Rattle.feeder_numbers.specs.Numbers.{knownIn, previousSampleIn, previousIn}
 use Rattle.feeder_wait.proofs.fires.Statement.{statement}
 use Rattle.feeder_wait.proofs.fires.Tie as tie
 
@@ -63,8 +62,8 @@ returns-2 c =
     let a = c .before .before .before .before .before .before .before .before .before .args in
     sym
     (ap (λ (x : ℕ). ltb x (a .n))
-    (ap (λ (m : Masks). firstFire (asMasks m) (previousOf (previousIn (getD (now (a .numbers)) 13 0) (getD (now (a .numbers)) 14 0))) (units (a .unitsize) (a .n) (now (a .bytes)))) (sym (c .before .before .masks-in .ensures))
-    ∙ c .before .any-level .ensures (c .if1 .left) (previousOf (previousIn (getD (now (a .numbers)) 13 0) (getD (now (a .numbers)) 14 0)))
+    (ap (λ (m : Masks). firstFire (asMasks m) (previousOf (previousIn (knownIn (now (a .numbers))) (previousSampleIn (now (a .numbers))))) (units (a .unitsize) (a .n) (now (a .bytes)))) (sym (c .before .before .masks-in .ensures))
+    ∙ c .before .any-level .ensures (c .if1 .left) (previousOf (previousIn (knownIn (now (a .numbers))) (previousSampleIn (now (a .numbers)))))
     ∙ list-length (sampleOf (a .unitsize) (now (a .bytes))) 0 (a .n))
     ∙ le-ltb (a .n) (a .n) (omega arith))
 

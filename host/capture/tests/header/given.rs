@@ -1,5 +1,6 @@
 //! What calls are given, and the pages in which it is lent.
 
+use crate::calls::{record, recorder};
 use crate::pages::Pages;
 
 pub const CAPACITY: usize = 64;
@@ -56,6 +57,19 @@ impl Given {
             numbers.resize(3 * CAPACITY.div_ceil(span), 0);
             numbers
         });
+        let mut record = [0; 17];
+        for (at, number) in [
+            (record::UNIT, 2),
+            (record::CAPACITY, CAPACITY),
+            (record::LEN, LEN),
+            (record::MARKED, 1),
+            (record::MARK, MARK),
+            (recorder::PRE, 8),
+            (recorder::KNOWN, 1),
+            (recorder::PREVIOUS, 3),
+        ] {
+            record[at] = number;
+        }
         Given {
             channels: 16,
             capacity: CAPACITY,
@@ -64,7 +78,7 @@ impl Given {
             seconds: false,
             wish: 0.5,
             rate: 1000,
-            record: [2, CAPACITY, LEN, 1, MARK, 0, 8, 0, 0, 0, 0, 0, 0, 1, 3, 0, 0],
+            record,
             samples,
             levels,
             ring: vec![0; 16],
@@ -81,6 +95,13 @@ impl Given {
             grant: 0b11,
             mill_place: 2,
             mill_end: 15,
+        }
+    }
+
+    /// Nothing is stored, and there is no mark.
+    pub fn empty(&mut self) {
+        for at in [record::LEN, record::MARKED, record::MARK] {
+            self.record[at] = 0;
         }
     }
 

@@ -2,7 +2,7 @@
 //! output and what out pointers point at lie in pages that may not be written, and does not fault. Calls that answer write no
 //! more than the header says.
 
-use crate::calls::{self, EXPORTS};
+use crate::calls::{self, recorder, EXPORTS};
 use crate::given::{Given, Lent, LEN};
 use crate::pages::{ended, Ended, Pages};
 use crate::rows::{self, Row};
@@ -27,8 +27,8 @@ impl Tried {
 
 /// The recorder waits for line 15 to be high, with nothing stored.
 fn waits(g: &mut Given) {
-    g.record[2..5].fill(0);
-    (g.record[7], g.record[8]) = (1, 1 << 15);
+    g.empty();
+    (g.record[recorder::WAITS], g.record[recorder::HIGH_LINES]) = (1, 1 << 15);
 }
 
 fn waits_for_many(g: &mut Given) {
@@ -38,7 +38,7 @@ fn waits_for_many(g: &mut Given) {
 
 /// It waits for line 15 to be low, which it is.
 fn fires(g: &mut Given) {
-    (g.record[7], g.record[9]) = (1, 1 << 15);
+    (g.record[recorder::WAITS], g.record[recorder::LOW_LINES]) = (1, 1 << 15);
 }
 
 /// Each export with a code.

@@ -1,5 +1,6 @@
 //! What each row refuses.
 
+use crate::calls::{record, recorder};
 use crate::given::{Given, CAPACITY, LEN, MARK};
 
 const MOST_SAMPLES: usize = 67_108_864;
@@ -12,12 +13,12 @@ fn shorten<T>(lent: &mut Vec<T>) {
 }
 
 pub const STORE: &[Row] = &[
-    (1, "unit 0", |g| g.record[0] = 0),
-    (1, "unit 3", |g| g.record[0] = 3),
-    (1, "capacity 0", |g| g.record[1..3].fill(0)),
-    (1, "a capacity above the most", |g| g.record[1] = MOST_SAMPLES + 1),
-    (1, "len above the capacity", |g| g.record[2] = CAPACITY + 1),
-    (1, "a mark past len", |g| (g.record[3], g.record[4]) = (1, LEN + 1)),
+    (1, "unit 0", |g| g.record[record::UNIT] = 0),
+    (1, "unit 3", |g| g.record[record::UNIT] = 3),
+    (1, "capacity 0", |g| (g.record[record::CAPACITY], g.record[record::LEN]) = (0, 0)),
+    (1, "a capacity above the most", |g| g.record[record::CAPACITY] = MOST_SAMPLES + 1),
+    (1, "len above the capacity", |g| g.record[record::LEN] = CAPACITY + 1),
+    (1, "a mark past len", |g| (g.record[record::MARKED], g.record[record::MARK]) = (1, LEN + 1)),
     (1, "a record of the greatest numbers", |g| g.record = [usize::MAX; 17]),
 ];
 
@@ -32,11 +33,13 @@ pub const MEMORY: &[Row] = &[
 ];
 
 pub const RECORDER: &[Row] = &[
-    (1, "limit above the capacity", |g| g.record[5] = CAPACITY + 1),
-    (1, "pre at the capacity", |g| g.record[6] = CAPACITY),
-    (1, "more kept than pre", |g| g.record[16] = 9),
-    (1, "a place past the ring", |g| g.record[15] = 8),
-    (1, "len above the limit", |g| (g.record[2], g.record[5]) = (LEN, LEN - 1)),
+    (1, "limit above the capacity", |g| g.record[recorder::LIMIT] = CAPACITY + 1),
+    (1, "pre at the capacity", |g| g.record[recorder::PRE] = CAPACITY),
+    (1, "more kept than pre", |g| g.record[recorder::KEPT] = 9),
+    (1, "a place past the ring", |g| g.record[recorder::RING_PLACE] = 8),
+    (1, "len above the limit", |g| {
+        (g.record[record::LEN], g.record[recorder::LIMIT]) = (LEN, LEN - 1)
+    }),
     (2, "a ring too short", |g| shorten(&mut g.ring)),
     (2, "no ring", |g| g.ring.clear()),
 ];
@@ -44,12 +47,14 @@ pub const RECORDER: &[Row] = &[
 /// Of an append, and of a push that stores.
 pub const FULL: &[Row] = &[
     (8, "more than fits", |g| g.bytes = vec![0; 2 * (CAPACITY - LEN + 1)]),
-    (8, "a few samples that do not fit", |g| (g.record[2], g.record[4]) = (CAPACITY - 1, 0)),
+    (8, "a few samples that do not fit", |g| {
+        (g.record[record::LEN], g.record[record::MARK]) = (CAPACITY - 1, 0)
+    }),
 ];
 
 /// Of a push that fires.
 pub const KEPT_FULL: &[Row] = &[(8, "more than fits with what was kept", |g| {
-    g.record[16] = 8;
+    g.record[recorder::KEPT] = 8;
     g.bytes = vec![0; 2 * (CAPACITY - LEN - 7)];
 })];
 

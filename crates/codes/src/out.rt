@@ -1,0 +1,29 @@
+// Numbers behind an out pointer that takes several: which is which.
+// the memory that a capture takes
+pub const SIZE_SAMPLES: usize = 0;
+
+pub const SIZE_LEVEL_1: usize = 1;
+
+pub const SIZE_LEVEL_2: usize = 2;
+
+pub const SIZE_LEVEL_3: usize = 3;
+
+pub const SIZE_LEVEL_4: usize = 4;
+// a node
+pub const NODE_FIRST: usize = 0;
+
+pub const NODE_LAST: usize = 1;
+
+pub const NODE_TOGGLES: usize = 2;
+// a burst
+pub const BURST_FIRST: usize = 0;
+
+pub const BURST_LAST: usize = 1;
+
+pub const BURST_JUMPS_END: usize = 2;
+
+pub const BURST_JUMPS_START: usize = 3;
+// the jumps of a mill's burst; its ends have pointers of their own
+pub const MILL_JUMPS_END: usize = 0;
+
+pub const MILL_JUMPS_START: usize = 1;
