@@ -9,6 +9,12 @@ use lines::Mask;
 use terms::Condition;
 use terms::Previous;
 use terms::TriggerTerm;
+ghost use mathlib.Core.Path.{_≡_};
+ghost use lib.ListN.{length};
+ghost use Rattle.rules.specs.Start.{startRule};
+ghost use Rattle.node.specs.Memory.{levelOf};
+ghost use Rattle.capture.specs.Record.{lentOf};
+ghost use Rattle.feeder.specs.Start.{startedOf, settingsOf};
 
 pub struct Recorder {
     pub feeder: Feeder,
@@ -37,6 +43,37 @@ fn fresh(started: Started) -> Feeder {
     }
 }
 
+// Start over a lent slice of terms, at 8 lines and 16 samples.
+fn started<'a>(
+    terms: [TriggerTerm; 1],
+    limit: usize,
+    wish: Pretrigger,
+    rate: usize,
+    samples: &[u8],
+    l1: &'a [Mask],
+    l2: &'a [Mask],
+    l3: &'a [Mask],
+    l4: &'a [Mask],
+    ring: &[u8],
+) -> Started
+    ensures { λ r. ⌜ startedOf r ≡ startRule (settingsOf 8 16 limit terms wish rate) (lentOf (now (samples .entry)) (levelOf (now (l1 .entry)) (now (l2 .entry)) (now (l3 .entry)) (now (l4 .entry)))) (length (now (ring .entry))) ⌝ }
+{
+    feeder_start::start_list(
+        8,
+        16,
+        limit,
+        &terms,
+        wish,
+        rate,
+        samples,
+        l1,
+        l2,
+        l3,
+        l4,
+        ring,
+    )
+}
+
 // A fresh recorder that waits for one condition on line 0.
 pub fn waiting(condition: Condition, limit: usize, wish: Pretrigger, rate: usize) -> Recorder {
     let samples = [0u8; 16];
@@ -49,11 +86,9 @@ pub fn waiting(condition: Condition, limit: usize, wish: Pretrigger, rate: usize
         channel: 0,
         condition,
     };
-    let feeder = fresh(feeder::start_one(
-        8,
-        16,
+    let feeder = fresh(started(
+        [term],
         limit,
-        term,
         wish,
         rate,
         &samples,

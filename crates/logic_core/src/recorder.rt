@@ -1,4 +1,4 @@
-// The recorder's calls. Its record is lent as 17 numbers, of which the first five are its store's: questions take those.
+// The recorder's calls. Its record is lent as 17 numbers, of which the first five are its store's: questions take those. `feeder_numbers::recorder` names the others.
 use lines::Mask;
 ghost use mathlib.Core.Path.{_≡_};
 ghost use mathlib.Core.Bool.{Bool};
