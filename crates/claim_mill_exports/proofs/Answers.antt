@@ -147,7 +147,7 @@ module _ {run : List ℕ} {mark : Option ℕ} (numbers : List ℕ) (m : Memory) 
           afar,
           nowhere,
           subst⁻¹ (λ (x : Answer Extent). Out firstPlace (plain x) 0 first (extentFor mark (length run) .first) × Out endPlace (plain x) 0 end (extentFor mark (length run) .end) × Out markedNumber (plain x) 0 marked (bounded (extentFor mark (length run)) .marked)) e
-          (record { code-is = refl; value-is = refl }, record { code-is = refl; value-is = refl }, record { code-is = refl; value-is = refl }),
+              (record { code-is = refl; value-is = refl }, record { code-is = refl; value-is = refl }, record { code-is = refl; value-is = refl }),
         );
       }
 

@@ -19,7 +19,7 @@ use Rattle.rules.proofs.Refusal.{neither, Sound, SoundRecorder}
 use Rattle.capture.proofs.Answer.{refused-is, unless-given, stopped, rows-refuse, rows-decide}
 use Rattle.terms.specs.declared.Terms.{Terms}
 use Rattle.terms.specs.declared.TriggerTerm.{TriggerTerm}
-use Rattle.terms.specs.Terms.{noTerms, withTerm, withTerms, termsOf, armedBy}
+use Rattle.terms.specs.Terms.{termsOf, armedBy}
 use Rattle.terms.proofs.Fold.{terms-wrong, terms-armed}
 use Rattle.feeder.specs.declared.Pretrigger.{Pretrigger}
 use Rattle.feeder.specs.declared.Feeder.{Feeder}
@@ -135,18 +135,6 @@ module _ (channels capacity limit : ℕ) (list : List TriggerTerm) (wish : Pretr
   start-rule =
       ap (λ (w : Bool). unless (firstOf (settingsRows (fresh channels capacity) lent limit w (wishOf wish) rate (preRow (fresh channels capacity) (preOf st) ring ∷ []))) (made (armedBy (termsOf list)))) (terms-wrong list)
       ∙ unless-same (startRefusal st lent ring) (made (armedBy (termsOf list))) (begun st) armed-same
-
--- one term t, added to none
-pub one-rule : (channels capacity limit : ℕ) (t : TriggerTerm) (wish : Pretrigger) (rate : ℕ) (lent : Lent) (ring : ℕ) (n m : Terms) (b : Answer Begun)
-    → n ≡ noTerms
-    → m ≡ withTerm n t
-    → b ≡ startOf channels capacity limit m wish rate lent ring
-    → b ≡ startRule (settingsOf channels capacity limit (t ∷ []) wish rate) lent ring
-unfolding withTerms
-one-rule channels capacity limit t wish rate lent ring n m b en em eb =
-    eb
-    ∙ ap (λ (x : Terms). startOf channels capacity limit x wish rate lent ring) (em ∙ ap (λ (x : Terms). withTerm x t) en)
-    ∙ start-rule channels capacity limit (t ∷ []) wish rate lent ring
 
 -- ---- a fresh recorder
 -- where start refuses nothing, its record and the lent memory are within the bounds that a push asks

@@ -7,12 +7,10 @@ use lines::Mask;
 use terms::Masks;
 use terms::Previous;
 use terms::Terms;
-use terms::TriggerTerm;
 ghost use mathlib.Core.Path.{_≡_};
 ghost use mathlib.Core.Bool.{Bool};
-ghost use mathlib.Core.List.{[], _∷_};
+ghost use mathlib.Core.List.{[]};
 ghost use lib.ListN.{length};
-ghost use Rattle.rules.specs.Start.{startRule};
 ghost use Rattle.rules.specs.Pretrigger.{preFor};
 ghost use Rattle.rules.specs.Refusal.{firstOf, wishWrong, numberWrong, placeWrong, settingWrong, recorderRefusal, settingsRows};
 ghost use Rattle.terms.specs.Terms.{armedBy};
@@ -20,7 +18,7 @@ ghost use Rattle.float.specs.Samples.{keptAs};
 ghost use Rattle.node.specs.Memory.{levelOf};
 ghost use Rattle.capture.specs.Record.{storeOf, lentOf};
 ghost use Rattle.feeder.specs.Record.{wishOf, armedAs, recorderOf};
-ghost use Rattle.feeder.specs.Start.{Workable, startedOf, startOf, settingsOf};
+ghost use Rattle.feeder.specs.Start.{Workable, startedOf, startOf};
 
 // 01's "armed with five masks or unarmed".
 pub enum Armed {
@@ -266,38 +264,4 @@ pub fn start<'a>(
         kept: 0,
     };
     Started::Fresh(feeder, kept.cut)
-}
-
-// The same with one term, by value.
-pub fn start_one<'a>(
-    channels: usize,
-    capacity: usize,
-    limit: usize,
-    term: TriggerTerm,
-    wish: Pretrigger,
-    rate: usize,
-    samples: &[u8],
-    l1: &'a [Mask],
-    l2: &'a [Mask],
-    l3: &'a [Mask],
-    l4: &'a [Mask],
-    ring: &[u8],
-) -> Started
-    ensures { λ r. ⌜ startedOf r ≡ startRule (settingsOf channels capacity limit (term ∷ []) wish rate) (lentOf (now (samples .entry)) (levelOf (now (l1 .entry)) (now (l2 .entry)) (now (l3 .entry)) (now (l4 .entry)))) (length (now (ring .entry))) ⌝ }
-{
-    let terms = Terms::none().with(term);
-    start(
-        channels,
-        capacity,
-        limit,
-        terms,
-        wish,
-        rate,
-        samples,
-        l1,
-        l2,
-        l3,
-        l4,
-        ring,
-    )
 }

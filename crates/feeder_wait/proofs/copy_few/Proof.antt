@@ -9,6 +9,12 @@ use Rattle.feeder_wait.proofs.Ends.{copied}
 use Rattle.feeder_wait.proofs.copy_few.Statement.{statement}
 use Rattle.feeder_wait.proofs.copy_few.Tie as tie
 
+abbrev start-two : tie.After-shared-slice-known5 → tie.Start
+start-two r = r .before .before .before .before .before .before .before
+
+abbrev start-four : tie.After-shared-slice-known9 → tie.Start
+start-four r = r .before .before .before .before .before .before .before
+
 sub-end : tie.Need-sub-end
 sub-end c = search needs
 
@@ -42,9 +48,10 @@ same-length c = search needs
 returns : tie.Need-returns
 unfolding listFrom
 returns c =
-    let s = c .before .before .before .before .before .before .before .before .before .before .before .before .before .before .before in
+    let p = c .before .before .before .before .before .before in
+    let s = start-two (p .before .before) in
     let a = s .args in
-    copied (now (a .bytes)) (a .at) (a .k) 2 (s .pre .held) (a .k - 2) 0 (omega arith) (omega arith) (omega arith) (now (a .ring)) (s .pre .slots) _ _ refl (omega arith) _ _ (c .before .before .before .before .before .before .put-two .ensures) (c .before .before .put-two2 .ensures)
+    copied (now (a .bytes)) (a .at) (a .k) 2 (s .pre .held) (a .k - 2) 0 (omega arith) (omega arith) (omega arith) (now (a .ring)) (s .pre .slots) _ _ refl (omega arith) _ _ (p .put-two .ensures) (c .before .before .put-two2 .ensures)
 
 shared-slice-read-a-2 : tie.Need-shared-slice-read-a-2
 shared-slice-read-a-2 c = search needs
@@ -94,9 +101,10 @@ same-length-2 c = search needs
 returns-2 : tie.Need-returns-2
 unfolding listFrom
 returns-2 c =
-    let s = c .before .before .before .before .before .before .before .before .before .before .before .before .before .before .before .before .before .before .before in
+    let p = c .before .before .before .before .before .before in
+    let s = start-four (p .before .before .before .before .before .before) in
     let a = s .args in
-    copied (now (a .bytes)) (a .at) (a .k) 4 (s .pre .held) 0 (a .k - 4) (omega arith) (omega arith) (omega arith) (now (a .ring)) (s .pre .slots) _ _ (omega arith) refl _ _ (c .before .before .before .before .before .before .put-four .ensures) (c .before .before .put-four2 .ensures)
+    copied (now (a .bytes)) (a .at) (a .k) 4 (s .pre .held) 0 (a .k - 4) (omega arith) (omega arith) (omega arith) (now (a .ring)) (s .pre .slots) _ _ (omega arith) refl _ _ (p .put-four .ensures) (c .before .before .put-four2 .ensures)
 
 pub copy-few-spec : {M : Type 1} → statement M
 copy-few-spec =

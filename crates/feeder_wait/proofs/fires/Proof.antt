@@ -17,6 +17,9 @@ use Rattle.feeder_numbers.specs.Numbers.{knownIn, previousSampleIn, previousIn}
 use Rattle.feeder_wait.proofs.fires.Statement.{statement}
 use Rattle.feeder_wait.proofs.fires.Tie as tie
 
+abbrev start-at : tie.After-masks-in → tie.Start
+start-at m = m .before .before .before .before .before .before .before
+
 element-copy-out-masks-in : tie.Need-element-copy-out-masks-in
 element-copy-out-masks-in c = search needs
 
@@ -52,14 +55,15 @@ fire-few-requires c κs = search needs
 
 returns : tie.Need-returns
 returns c =
-    let a = c .before .before .before .before .before .before .before .before .before .before .before .before .before .args in
+    let m = c .before .before .before .before .before .before in
+    let a = start-at m .args in
     ap (λ (x : ℕ). ltb x (a .n))
     (c .fire-few .ensures
-    ∙ ap₂ (λ (m : Masks) (p : Previous). firstFire (asMasks m) (previousOf p) (units (a .unitsize) (a .n) (now (a .bytes)))) (c .before .before .before .before .before .before .masks-in .ensures) (c .before .previous-in .ensures))
+    ∙ ap₂ (λ (m : Masks) (p : Previous). firstFire (asMasks m) (previousOf p) (units (a .unitsize) (a .n) (now (a .bytes)))) (m .masks-in .ensures) (c .before .previous-in .ensures))
 
 returns-2 : tie.Need-returns-2
 returns-2 c =
-    let a = c .before .before .before .before .before .before .before .before .before .args in
+    let a = start-at (c .before .before) .args in
     sym
     (ap (λ (x : ℕ). ltb x (a .n))
     (ap (λ (m : Masks). firstFire (asMasks m) (previousOf (previousIn (knownIn (now (a .numbers))) (previousSampleIn (now (a .numbers))))) (units (a .unitsize) (a .n) (now (a .bytes)))) (sym (c .before .before .masks-in .ensures))

@@ -8,6 +8,9 @@ use Rattle.feeder_wait.proofs.Short.{few-copy, few-went}
 use Rattle.feeder_wait.proofs.wait_few.Statement.{statement}
 use Rattle.feeder_wait.proofs.wait_few.Tie as tie
 
+abbrev start-at : tie.Else1 → tie.Start
+start-at e = e .before .before .before .before .before
+
 fires-requires : tie.Need-fires-requires
 fires-requires c κs = search needs
 
@@ -28,17 +31,17 @@ sub-get c = search needs
 
 get-requires : tie.Need-get-requires
 get-requires c κs =
-    let s = c .before .before .before .before .before .before .before .before in
+    let s = start-at (c .before .before .before) in
     held _ (s .args .n) _ _ (record { unit-size = s .pre .unit-size; room = s .pre .samples }) (omega (arith, s .pre .some-samples))
 
 mul-copy-few : tie.Need-mul-copy-few
-mul-copy-few c = record { fits = omega (arith, few-copy _ _ _ _ _ (c .before .before .before .before .before .before .before .before .before .before .pre)) }
+mul-copy-few c = record { fits = omega (arith, few-copy _ _ _ _ _ (start-at (c .before .before .before .before .before) .pre)) }
 
 mul-copy-few-2 : tie.Need-mul-copy-few-2
 mul-copy-few-2 c = search needs
 
 copy-few-requires : tie.Need-copy-few-requires
-copy-few-requires c κs = few-copy _ _ _ _ _ (c .before .before .before .before .before .before .before .before .before .before .pre)
+copy-few-requires c κs = few-copy _ _ _ _ _ (start-at (c .before .before .before .before .before) .pre)
 
 element-write-numbers : tie.Need-element-write-numbers
 element-write-numbers c = search needs
@@ -74,7 +77,7 @@ returns-2 : tie.Need-returns-2
 returns-2 c =
     let w = c .before .before .before in
     let i = w .before .before .before .before .before .before in
-    let s = i .before .before .before .before .before in
+    let s = start-at i in
     let a = s .args in
     few-went (now (a .numbers)) (now (a .ring)) (now (a .bytes)) (a .unitsize) (a .n) _ _ _ (s .pre) (sym (i .before .fires .ensures) ∙ i .if1 .left) (w .before .before .get .ensures) (c .lesser .ensures) (w .copy-few .ensures)
 

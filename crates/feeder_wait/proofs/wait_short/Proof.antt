@@ -8,6 +8,13 @@ use Rattle.feeder_wait.proofs.Short.{few-room, short-is}
 use Rattle.feeder_wait.proofs.wait_short.Statement.{statement}
 use Rattle.feeder_wait.proofs.wait_short.Tie as tie
 
+-- past the test that it waits
+abbrev waiting-at : tie.Else5 → tie.Else1
+waiting-at e = e .before .before .before .before .before .before
+
+abbrev start-at : tie.After-slice-known → tie.Start
+start-at s = s .before .before .before .before .before .before
+
 waits-requires : tie.Need-waits-requires
 waits-requires c κs = search needs
 
@@ -40,14 +47,14 @@ element-copy-out-unitsize c = search needs
 
 count-in-requires : tie.Need-count-in-requires
 count-in-requires c κs =
-    let t = c .before .before .before .before .before .before .before in
+    let t = waiting-at (c .before) in
     let w = t .before .waits .ensures (not-false _ (t .if1 .left)) in
     w .store .unit-size
 
 wait-few-requires : tie.Need-wait-few-requires
 wait-few-requires c κs =
     let k = c .before .before in
-    let t = k .before .before .before .before .before .before .before .before in
+    let t = waiting-at (k .before .before) in
     let w = t .before .waits .ensures (not-false _ (t .if1 .left)) in
     let n = k .count-in .ensures in
     few-room _ _ _ _ w (omega arith) _ _ refl (n .held) (omega (arith, n .least)) (n .two-bytes (omega arith)) (omega arith) (omega (arith, n .most))
@@ -58,8 +65,8 @@ same-length c = search needs
 returns-6 : tie.Need-returns-6
 returns-6 c =
     let k = c .before .before .before .before .before in
-    let t = k .before .before .before .before .before .before .before .before in
-    let a = t .before .before .before .before .before .before .before .before .before .before .args in
+    let t = waiting-at (k .before .before) in
+    let a = start-at (t .before .before .before .before) .args in
     let w = t .before .waits .ensures (not-false _ (t .if1 .left)) in
     let n = k .count-in .ensures in
     short-is (now (a .numbers)) _ (now (a .ring)) (now (a .bytes)) w (omega arith) _ _ refl (n .is) (omega (arith, n .least)) (omega (arith, n .most)) _ _ (c .before .before .wait-few .result) (c .before .before .wait-few .ensures)

@@ -12,6 +12,13 @@ use Rattle.feeder_wait.proofs.Bounds.{slots-fit, waiting-is}
 use Rattle.feeder_wait.proofs.waits.Statement.{statement}
 use Rattle.feeder_wait.proofs.waits.Tie as tie
 
+-- past the test of the unit
+abbrev unit-at : tie.Else4 → tie.Else2
+unit-at m = m .before .before .before .before
+
+abbrev start-at : tie.Else2 → tie.Start
+start-at k = let i : tie.After-if12 = k .before .before .before .before in i .before .before .before .before .before .before
+
 element-copy-out-if1 : tie.Need-element-copy-out-if1
 element-copy-out-if1 c = search needs
 
@@ -59,8 +66,9 @@ returns-7 c e = absurd (let z : _≡_ {A = ℕ} 0 1 = cc in omega arith)
 
 mul-if8 : tie.Need-mul-if8
 mul-if8 c =
-    let k = c .before .before .before .before .before .before .before .before .before .before in
-    record { fits = slots-fit (now (c .before .before .before .before .before .before .before .before .before .before .before .before .before .before .before .before .before .before .before .before .args .numbers)) (sym (k .before .unit-wrong .ensures) ∙ k .if2 .left) (c .before .before .before .before .before .before .before .before .if3 .left) (c .before .before .if6 .left) }
+    let m = c .before .before .before .before .before .before in
+    let k = unit-at m in
+    record { fits = slots-fit (now (start-at k .args .numbers)) (sym (k .before .unit-wrong .ensures) ∙ k .if2 .left) (m .before .before .if3 .left) (c .before .before .if6 .left) }
 
 returns-8 : tie.Need-returns-8
 returns-8 c e = absurd (let z : _≡_ {A = ℕ} 0 1 = cc in omega arith)
@@ -78,8 +86,8 @@ returns-9 : tie.Need-returns-9
 returns-9 c e =
     let l = c .before .before .before in
     let m = l .before .before .before .before .before .before .before in
-    let k = m .before .before .before .before in
-    let a = c .before .before .before .before .before .before .before .before .before .before .before .before .before .before .before .before .before .before .before .before .before .before .before .before .args in
+    let k = unit-at m in
+    let a = start-at k .args in
     waiting-is (now (a .numbers)) (sym (k .before .unit-wrong .ensures) ∙ k .if2 .left) (m .before .before .if3 .left) (l .before .before .before .if6 .left) (lentOf (now (a .samples)) (levelOf (now (a .l1)) (now (a .l2)) (now (a .l3)) (now (a .l4)))) (a .ring)
     (k .before .before .before .if1 .left) (eqb-true _ 0 e) (l .before .before .before .before .before .if5 .left) (l .before .if7 .left) (sym (m .before .memory-short .ensures) ∙ m .if4 .left) (l .if8 .left)
 
