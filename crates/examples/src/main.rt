@@ -1,11 +1,9 @@
 // Document 01's sixteen shelf examples, run: a line for each, its number and 1 where it holds, else 0.
 mod answers;
-mod recorder;
-mod stored;
 
+use examples_store::Stored;
 use feeder::Feeder;
 use feeder::Pretrigger;
-use stored::Stored;
 use terms::Condition;
 
 // Answers a case.
@@ -20,31 +18,34 @@ fn say(number: u64, holds: bool) {
 
 // 1 to 5: searches of A.
 fn searches(a: Stored) {
-    say(1, answers::found_at(stored::next(a, 0), 2));
-    say(2, answers::found_nothing(stored::next(a, 7)));
+    say(1, answers::found_at(examples_store::next(a, 0), 2));
+    say(2, answers::found_nothing(examples_store::next(a, 7)));
     say(
         3,
-        answers::found_nothing(stored::next(a, 18446744073709551615)),
+        answers::found_nothing(examples_store::next(a, 18446744073709551615)),
     );
-    say(4, answers::found_at(stored::previous(a, 6), 4));
-    say(5, answers::found_at(stored::previous(a, 100), 7));
+    say(4, answers::found_at(examples_store::previous(a, 6), 4));
+    say(5, answers::found_at(examples_store::previous(a, 100), 7));
 }
 
 // 6 to 10: summaries of A, bursts of A and B.
 fn summaries(a: Stored, b: Stored) {
-    say(6, answers::node_is(stored::summary(a, 0, 8), 0, 3, 3));
-    say(7, answers::no_node(stored::summary(a, 4, 4)));
+    say(
+        6,
+        answers::node_is(examples_store::summary(a, 0, 8), 0, 3, 3),
+    );
+    say(7, answers::no_node(examples_store::summary(a, 4, 4)));
     say(
         8,
-        answers::burst_is(stored::burst(a, 3, 4, 0, 1), 2, 7, 1, 0),
+        answers::burst_is(examples_store::burst(a, 3, 4, 0, 1), 2, 7, 1, 0),
     );
     say(
         9,
-        answers::burst_is(stored::burst(a, 3, 3, 0, 1), 2, 4, 0, 0),
+        answers::burst_is(examples_store::burst(a, 3, 3, 0, 1), 2, 4, 0, 0),
     );
     say(
         10,
-        answers::burst_is(stored::burst(b, 5, 4, 3, 9), 1, 2, 0, 0),
+        answers::burst_is(examples_store::burst(b, 5, 4, 3, 9), 1, 2, 0, 0),
     );
 }
 
@@ -52,26 +53,26 @@ fn summaries(a: Stored, b: Stored) {
 fn pixels(a: Stored) {
     say(
         11,
-        answers::four_are(stored::render(a, 0.0, 4.0, 2), 0, 1, 0, 3),
+        answers::four_are(examples_store::render(a, 0.0, 4.0, 2), 0, 1, 0, 3),
     );
     say(
         12,
-        answers::four_are(stored::render(a, 1.5, 0.5, 1), 0, 1, 9, 9),
+        answers::four_are(examples_store::render(a, 1.5, 0.5, 1), 0, 1, 9, 9),
     );
 }
 
 // 13: 0 0 and 0 1 1 make the run 0 0 1 1, with mark 2.
 fn run_is_right() -> bool {
-    let fresh = recorder::waiting(Condition::Rising, 4, Pretrigger::Fraction(0.5), 0);
-    let first = recorder::push(fresh, b"\x00\x00");
+    let fresh = examples_recorder::waiting(Condition::Rising, 4, Pretrigger::Fraction(0.5), 0);
+    let first = examples_recorder::push(fresh, b"\x00\x00");
     if first.complete {
         return false;
     }
-    let last = recorder::push(first, b"\x00\x01\x01");
+    let last = examples_recorder::push(first, b"\x00\x01\x01");
     if last.complete {
         let f = last.feeder;
         if answers::marked_at(f.capture, 4, 2) {
-            return answers::four_are(recorder::run(last), 0, 0, 1, 1);
+            return answers::four_are(examples_recorder::run(last), 0, 0, 1, 1);
         }
     }
     false
@@ -79,8 +80,8 @@ fn run_is_right() -> bool {
 
 // A recorder after a first sample 1.
 fn after_one(condition: Condition) -> Feeder {
-    let fresh = recorder::waiting(condition, 4, Pretrigger::Fraction(0.5), 0);
-    let last = recorder::push(fresh, b"\x01");
+    let fresh = examples_recorder::waiting(condition, 4, Pretrigger::Fraction(0.5), 0);
+    let last = examples_recorder::push(fresh, b"\x01");
     last.feeder
 }
 
@@ -100,22 +101,22 @@ fn first_sample_is_right() -> bool {
 
 // 15: half a second at three samples a second keeps 2.
 fn seconds_are_right() -> bool {
-    let fresh = recorder::waiting(Condition::Rising, 0, Pretrigger::Seconds(0.5), 3);
+    let fresh = examples_recorder::waiting(Condition::Rising, 0, Pretrigger::Seconds(0.5), 3);
     let f = fresh.feeder;
     f.pre == 2
 }
 
 // 16: get(8) of A is refused with 9, and get(7) is 3.
 fn get_is_right(a: Stored) -> bool {
-    if answers::refused_with(stored::get(a, 8), 9) {
-        return answers::value_is(stored::get(a, 7), 3);
+    if answers::refused_with(examples_store::get(a, 8), 9) {
+        return answers::value_is(examples_store::get(a, 7), 3);
     }
     false
 }
 
 fn main() {
-    let a = stored::holding(b"\x00\x00\x01\x01\x00\x02\x02\x03");
-    let b = stored::holding(b"\x00\x01\x00\x00\x00\x00\x00\x00\x01\x00");
+    let a = examples_store::holding(b"\x00\x00\x01\x01\x00\x02\x02\x03");
+    let b = examples_store::holding(b"\x00\x01\x00\x00\x00\x00\x00\x00\x01\x00");
     searches(a);
     summaries(a, b);
     pixels(a);

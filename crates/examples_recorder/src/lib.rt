@@ -1,5 +1,4 @@
 // A recorder of up to 16 samples of one byte, by value: its record, its memory and whether its last push said complete.
-use crate::stored;
 use feeder::Armed;
 use feeder::Feeder;
 use feeder::Pretrigger;
@@ -31,7 +30,7 @@ pub struct Recorder {
 fn fresh(started: Started) -> Feeder {
     match started {
         Started::Refused(_) => Feeder {
-            capture: stored::nothing(),
+            capture: examples_store::nothing(),
             limit: 0,
             pre: 0,
             masks: Armed::Unarmed,

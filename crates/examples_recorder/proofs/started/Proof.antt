@@ -1,4 +1,4 @@
--- `examples::recorder::started` meets its contract: a walk of its MIR, by hand. The terms are copied to a local of its own, which is lent for a lifetime that is made here and ended after the call.
+-- `examples_recorder::started` meets its contract: a walk of its MIR, by hand. The terms are copied to a local of its own, which is lent for a lifetime that is made here and ended after the call.
 -- Assumes nothing.
 use mathlib.Core.Path.{_≡_, refl, sym, subst}
 use Prim.Native.Nat.{ℕ, _<_, _^_}
@@ -63,10 +63,10 @@ use Rattle.feeder_start.proofs.start_list as list
 use Rattle.feeder_start.proofs.start_list.Symbol as list-def
 use Rattle.feeder_start.proofs.start_list.Symbol.{name as #feeder-start·start-list}
 use Rattle.feeder_start.proofs.start_list.Met as list-thm
-use Rattle.examples.proofs.recorder.started.Key.{name as #examples·started}
-use Rattle.examples.proofs.recorder.started as began
-use Rattle.examples.proofs.recorder.started.Statement as stated
-use Rattle.examples.proofs.recorder.started.Code as code
+use Rattle.examples_recorder.proofs.started.Key.{name as #examples_recorder·started}
+use Rattle.examples_recorder.proofs.started as began
+use Rattle.examples_recorder.proofs.started.Statement as stated
+use Rattle.examples_recorder.proofs.started.Code as code
 
 abbrev stayed : Stays (began.ended .signature .params) (began.ended .kept)
 stayed = (stay-dropped (ArrayOf (plain (λ _. T.the-row)) (λ _. tt) 1) yes, (stay-none (λ _. usize) yes, (stay-none (λ _. P.the-row) yes, (stay-none (λ _. usize) yes, (stay-none-slice (0 ∷ []) tt (plain (λ _. u8)) yes, (stay-none-slice (1 ∷ []) tt (plain (λ _. u16)) yes, (stay-none-slice (1 ∷ []) tt (plain (λ _. u16)) yes, (stay-none-slice (1 ∷ []) tt (plain (λ _. u16)) yes, (stay-none-slice (1 ∷ []) tt (plain (λ _. u16)) yes, (stay-none-slice (2 ∷ []) tt (plain (λ _. u8)) yes, tt))))))))))
@@ -266,6 +266,6 @@ pub started-spec : {M : Type 1} → stated.statement M
 unfolding code.routine tablesOf
 started-spec 𝓤 H 𝓜 𝓖 𝓡 =
     entered 𝓤 H (tripleOf 𝓤 H (𝓖 .A) began.signature (began.spec 𝓤 H (𝓖 .A) (𝓜 .mem) (𝓡 .run)))
-    (tables 𝓤 H 𝓜 𝓡 code.env .C) (tables 𝓤 H 𝓜 𝓡 code.env .Λ) #examples·started code.function (code.unfolded 𝓤 H 𝓜 𝓡)
+    (tables 𝓤 H 𝓜 𝓡 code.env .C) (tables 𝓤 H 𝓜 𝓡 code.env .Λ) #examples_recorder·started code.function (code.unfolded 𝓤 H 𝓜 𝓡)
     (started-meets 𝓤 H (𝓖 .A) (givenOf 𝓤 H 𝓜 𝓖) (𝓜 .mem) (𝓡 .run) (tablesOf 𝓤 H 𝓜 (tables 𝓤 H 𝓜 𝓡 code.env))
     (cited 𝓤 H (Listed 𝓤 H (𝓖 .A) (𝓜 .mem) (𝓡 .run)) 𝓜 𝓡 code.env #feeder-start·start-list list-def.routine code.calls-feeder-start·start-list (list-thm.met 𝓤 H 𝓜 𝓖 𝓡)))
