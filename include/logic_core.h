@@ -21,8 +21,9 @@
  * The record is five numbers: unit (bytes a sample, 1 or 2), capacity (samples, 1 to 67108864), len (stored samples),
  * marked (0: there is no mark), mark (the place of the firing sample; of no meaning where marked is 0).
  *
- * Lent memory belongs to the record: sample bytes, and the levels 1 to 4 of the summary tree, uint16_t numbers, three to a
- * node. Lend the same memory, whole, at every call on the record; nobody else may write in it meanwhile. Lengths count
+ * Lent memory belongs to the record: sample bytes, and the levels 1 to 4 of the summary tree, uint16_t numbers, five to a
+ * node: first sample, last sample, the lines that change inside, and the count of changes inside, its low half and its high
+ * half. Lend the same memory, whole, at every call on the record; nobody else may write in it meanwhile. Lengths count
  * elements. More than lc_needs says may be lent; what is beyond stays untouched. A slice of length 0 needs any pointer that
  * is not null.
  *
@@ -55,7 +56,7 @@ enum lc_recorder {
 };
 
 /* Which is which behind an out pointer that takes several: the sizes of lc_needs, a node, the ends of lc_burst_at, and the
- * jumps of lc_mill_burst_at. */
+ * jumps of lc_mill_burst_at. The numbers of a node begin so in level memory too. */
 enum lc_out {
     LC_SIZE_SAMPLES = 0, LC_SIZE_LEVEL_1 = 1, LC_SIZE_LEVEL_2 = 2, LC_SIZE_LEVEL_3 = 3, LC_SIZE_LEVEL_4 = 4,
     LC_NODE_FIRST = 0, LC_NODE_LAST = 1, LC_NODE_TOGGLES = 2, LC_BURST_FIRST = 0, LC_BURST_LAST = 1, LC_BURST_JUMPS_END = 2,
@@ -108,13 +109,22 @@ uint32_t lc_samples(const size_t record[5], LC_CONST_MEMORY, size_t start, size_
  * It has no code: past the end, and where 1 or 2 would apply, the part is empty (from and to are 0). */
 void lc_raw(const size_t record[5], LC_CONST_MEMORY, size_t chunk, size_t *from, size_t *to);
 
-/* Whether the levels are right: 0 where each node that covers stored samples is the node of its range (nothing is written);
- * LC_NONE, with the level and the number of the first that is not, lowest level first. Refuses with 1 and 2. */
+/* Whether the levels are right: 0 where each node that covers stored samples is the node of its range, in all five numbers
+ * (nothing is written); LC_NONE, with the level and the number of the first that is not, lowest level first. Refuses with 1
+ * and 2. */
 uint32_t lc_whole(const size_t record[5], LC_CONST_MEMORY, size_t *level, size_t *number);
 
-/* The node of the places from a up to b, or up to len: first sample, last sample, and the lines that change inside.
- * LC_NONE where there is no such place (nothing is written). Refuses with 1 and 2. */
-uint32_t lc_summary(const size_t record[5], LC_CONST_MEMORY, size_t a, size_t b, uint16_t node[3]);
+/* The node of the places from a up to b, or up to len: first sample, last sample, and the lines that change inside; count
+ * becomes lc_density's. LC_NONE where there is no such place (nothing is written). Refuses with 1 and 2. */
+uint32_t lc_summary(const size_t record[5], LC_CONST_MEMORY, size_t a, size_t b, uint16_t node[3], uint32_t *count);
+
+/* How many changes there are inside the places from a up to b, or up to len: count becomes the number of places above a, and
+ * below that end, at which any line differs from the sample before. A change at a itself is not among them, so that two
+ * stretches side by side have together the changes of the whole, less one where there is a change at their border. Where
+ * there is no such place, count becomes 0. Refuses with 1 and 2.
+ *
+ * No capture has more than 2^32 - 1 changes; over levels that no call made, a larger sum of their counts is cut there. */
+uint32_t lc_density(const size_t record[5], LC_CONST_MEMORY, size_t a, size_t b, uint32_t *count);
 
 /* The smallest place above from at which a line of the mask differs from the sample before; LC_NONE where there is none
  * (place is not written). Any from is allowed. Refuses with 1 and 2.
@@ -145,7 +155,8 @@ uint32_t lc_render(const size_t record[5], LC_CONST_MEMORY, double start, double
 /* A mill's reader: the calls lc_mill_*, for whoever may see some lines only. Each takes a grant, a mask of lines, and tells
  * nothing of the others: to it, two captures of equal length, mark and granted lines look alike, refusals too, each with its
  * memory lent whole; unit, capacity and the other lines may differ. Who holds the memory can read all lines in it, so the
- * caller keeps the memory and hands on the answers. lc_raw and lc_whole are not for mills.
+ * caller keeps the memory and hands on the answers. lc_density, lc_raw and lc_whole are not for mills: the count of changes,
+ * the bytes and the nodes tell of every line.
  *
  * Samples, nodes and pixels show granted lines only: each number is ANDed with the grant. Places are int64_t numbers that
  * count from the mark, negative before it, or from the first sample where there is no mark: the first sample is at -mark, or
@@ -167,8 +178,8 @@ uint32_t lc_mill_get(const size_t record[5], LC_CONST_MEMORY, uint16_t grant, in
 uint32_t lc_mill_samples(const size_t record[5], LC_CONST_MEMORY, uint16_t grant, int64_t start, size_t count,
                          uint16_t *output, size_t output_len, size_t *copied);
 
-/* As lc_summary: the node of the places from a up to b, or up to the end; LC_NONE where there is no such place (nothing is
- * written). Refuses with 1, 2, and 13 where a or b is before the first sample. */
+/* As lc_summary without its count: the node of the places from a up to b, or up to the end; LC_NONE where there is no such
+ * place (nothing is written). Refuses with 1, 2, and 13 where a or b is before the first sample. */
 uint32_t lc_mill_summary(const size_t record[5], LC_CONST_MEMORY, uint16_t grant, int64_t a, int64_t b, uint16_t node[3]);
 
 /* As lc_next_change: the first place above from at which a line of the mask differs from the sample before; LC_NONE where

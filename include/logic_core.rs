@@ -56,6 +56,12 @@ exports! {
         l3: *const u16, l3_len: usize, l4: *const u16, l4_len: usize, mask: u16, sample: usize,
         max_gap: usize, tolerance: usize, budget: usize, ends: *mut [usize; 4], read: *mut usize
     ) -> u32;
+    fn lc_density(
+        record: *const [usize; 5], samples: *const u8, samples_len: usize,
+        l1: *const u16, l1_len: usize, l2: *const u16, l2_len: usize,
+        l3: *const u16, l3_len: usize, l4: *const u16, l4_len: usize, a: usize, b: usize,
+        count: *mut u32
+    ) -> u32;
     fn lc_feeder_start(
         channels: usize, capacity: usize, limit: usize, terms: *const u8, terms_len: usize,
         seconds: bool, wish: f64, rate: usize, samples: *const u8, samples_len: usize,
@@ -163,7 +169,7 @@ exports! {
         record: *const [usize; 5], samples: *const u8, samples_len: usize,
         l1: *const u16, l1_len: usize, l2: *const u16, l2_len: usize,
         l3: *const u16, l3_len: usize, l4: *const u16, l4_len: usize, a: usize, b: usize,
-        node: *mut [u16; 3]
+        node: *mut [u16; 3], count: *mut u32
     ) -> u32;
     fn lc_whole(
         record: *const [usize; 5], samples: *const u8, samples_len: usize,

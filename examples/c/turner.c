@@ -105,10 +105,30 @@ int main(void) {
     must(ends[LC_BURST_FIRST] == first && ends[LC_BURST_LAST] == last, "the burst's ends");
 
     uint16_t node[3];
-    must(lc_summary(record, LC_LEND(m), 0, mark, node) == 0, "summary");
-    printf("before the mark: first %u, last %u, changing %u\n", node[LC_NODE_FIRST], node[LC_NODE_LAST],
-           node[LC_NODE_TOGGLES]);
-    must(node[LC_NODE_FIRST] == 0 && node[LC_NODE_LAST] == 0 && node[LC_NODE_TOGGLES] == 0, "the summary before the mark");
+    uint32_t count;
+    must(lc_summary(record, LC_LEND(m), 0, mark, node, &count) == 0, "summary");
+    printf("before the mark: first %u, last %u, changing %u, %u changes\n", node[LC_NODE_FIRST], node[LC_NODE_LAST],
+           node[LC_NODE_TOGGLES], (unsigned)count);
+    must(node[LC_NODE_FIRST] == 0 && node[LC_NODE_LAST] == 0 && node[LC_NODE_TOGGLES] == 0 && count == 0,
+         "the summary before the mark");
+
+    /* Where it is busy: the changes of any line in quarters. Each but the first is asked for from one sample earlier, so that
+     * a change at its border is counted in it, and all add up to the whole. */
+    uint32_t whole, sum = 0;
+    must(lc_density(record, LC_LEND(m), 0, len, &whole) == 0, "density");
+    printf("changes: %u, in quarters", (unsigned)whole);
+    for (size_t part = 0; part < 4; part++) {
+        const size_t from = len * part / 4, to = len * (part + 1) / 4;
+        must(lc_density(record, LC_LEND(m), from - (part > 0), to, &count) == 0, "density of a part");
+        uint32_t scanned = 0;
+        for (size_t i = from > 0 ? from : 1; i < to; i++)
+            scanned += m.samples[i] != m.samples[i - 1];
+        must(count == scanned, "the changes of a part");
+        sum += count;
+        printf(" %u", (unsigned)count);
+    }
+    printf("\n");
+    must(sum == whole, "the parts add up to the whole");
 
     /* A picture of the drive and the encoder: high -, low _, and | where a line changes within the pixel. */
     uint16_t pixels[2 * WIDTH];

@@ -87,6 +87,14 @@ fn questions(table: &mut Table) {
             table.line(&format!("mill summary of {len}"), "call", |side| side.mill_summary(&work));
         }
     }
+    let work = Ranges::whole(LEN, 1_000);
+    table.line("summary of the whole capture", "call", |side| side.summary(&work));
+    table.line_beside(
+        ["density of the whole capture", "its summary"],
+        "call",
+        |side| side.density(&work),
+        |side| side.summary(&work),
+    );
     for (len, count) in [(1_000, 100), (1_000_000, 1)] {
         let work = Ranges::random(LEN, len, count);
         table.line(&format!("samples, {len}"), "sample", |side| side.samples(&work));

@@ -1,5 +1,5 @@
-//! The port, over memory that it is lent. Without the static library it has no operation. The counts of nodes read are
-//! thrown away: the Rust has none.
+//! The port, over memory that it is lent. Without the static library it has no operation. The counts of nodes read, and those
+//! of the changes in a summary, are thrown away: the Rust has none.
 
 use crate::side::{timed, Side, Timed};
 use crate::work::{Appends, Bursts, Pushes, Ranges, Row, Samples, Wait, Walk, GRANT};
@@ -150,8 +150,22 @@ impl Side for Rattle {
             let mut node = [0; 3];
             let sum = |&a: &u64| {
                 let b = (a + work.len) as usize;
-                assert_eq!(port::summary(record, lent, a as usize, b, &mut node), 0);
+                assert_eq!(port::summary(record, lent, a as usize, b, &mut node, &mut 0), 0);
                 node.iter().map(|&n| n as u64).sum::<u64>()
+            };
+            (work.count(), work.starts.iter().map(sum).sum())
+        })
+    }
+
+    fn density(&self, work: &Ranges) -> Option<Timed> {
+        let (record, lent) = (&self.held.record, self.held.lent());
+        port::LINKED.then_some(())?;
+        timed(NONE, || {
+            let mut count = 0;
+            let sum = |&a: &u64| {
+                let b = (a + work.len) as usize;
+                assert_eq!(port::density(record, lent, a as usize, b, &mut count), 0);
+                count as u64
             };
             (work.count(), work.starts.iter().map(sum).sum())
         })

@@ -39,6 +39,10 @@ pub trait Side {
         None
     }
 
+    fn density(&self, work: &Ranges) -> Option<Timed> {
+        None
+    }
+
     fn samples(&self, work: &Ranges) -> Option<Timed> {
         None
     }

@@ -43,18 +43,39 @@ impl Table {
         if !self.wanted(name) {
             return;
         }
-        let [rust, rattle] = best([&self.rust, &self.rattle], work);
+        let [rust, rattle] = best([&|| work(&self.rust), &|| work(&self.rattle)]);
         if let (Some(rust), Some(rattle)) = (&rust, &rattle) {
             let answers = |timed: &Timed| (timed.count, timed.sum);
             assert_eq!(answers(rust), answers(rattle), "{name}: the sides differ");
         }
-        let each = |timed: &Timed| timed.time.as_secs_f64() * 1e9 / timed.count.max(1) as f64;
+        self.print(name, per, rust, rattle, "");
+    }
+
+    /// For work that the Rust has no call for: the port's, and its ratio to other work of the port.
+    pub fn line_beside(
+        &self,
+        [name, beside]: [&str; 2],
+        per: &str,
+        work: impl Fn(&dyn Side) -> Option<Timed>,
+        other: impl Fn(&dyn Side) -> Option<Timed>,
+    ) {
+        if !self.wanted(name) {
+            return;
+        }
+        let [work, other] = best([&|| work(&self.rattle), &|| other(&self.rattle)]);
+        let ratio = |work: &Timed, other: &Timed| each(work) / each(other);
+        let ratio = work.as_ref().zip(other.as_ref()).map(|(work, other)| ratio(work, other));
+        let note = ratio.map_or(String::new(), |ratio| format!(" ({ratio:.2} of {beside})"));
+        self.print(name, per, None, work, &note);
+    }
+
+    fn print(&self, name: &str, per: &str, rust: Option<Timed>, rattle: Option<Timed>, note: &str) {
         let (theirs, ours) = (rust.as_ref().map(each), rattle.as_ref().map(each));
         let ratio = theirs.zip(ours).map(|(theirs, ours)| ours / theirs);
         let number = |n: Option<f64>| n.map_or("-".into(), |n| format!("{n:.2}"));
         let buffers = |timed: Option<Timed>| timed.map_or("-", |timed| timed.buffers);
         println!(
-            "{name:<42} {:>4}  {per:<6} {:>10} {:>10} {:>6}  {}; {}",
+            "{name:<42} {:>4}  {per:<6} {:>10} {:>10} {:>6}  {}; {}{note}",
             self.unit,
             number(theirs),
             number(ours),
@@ -65,15 +86,20 @@ impl Table {
     }
 }
 
-/// The fastest of several rounds of each side. The sides take turns, so that both meet the same machine.
-fn best(sides: [&dyn Side; 2], work: impl Fn(&dyn Side) -> Option<Timed>) -> [Option<Timed>; 2] {
+/// Nanoseconds for each of a work's count.
+fn each(timed: &Timed) -> f64 {
+    timed.time.as_secs_f64() * 1e9 / timed.count.max(1) as f64
+}
+
+/// The fastest of several rounds of each work. They take turns, so that both meet the same machine.
+fn best(works: [&dyn Fn() -> Option<Timed>; 2]) -> [Option<Timed>; 2] {
     let begun = Instant::now();
-    let mut best = sides.map(&work);
+    let mut best = works.map(|work| work());
     let mut rounds = 1;
     while rounds < 5 || begun.elapsed() < LONG {
-        for (best, side) in best.iter_mut().zip(sides) {
+        for (best, work) in best.iter_mut().zip(works) {
             let Some(fastest) = best else { continue };
-            match work(side) {
+            match work() {
                 Some(timed) if timed.time < fastest.time => *fastest = timed,
                 _ => {}
             }

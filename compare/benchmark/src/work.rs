@@ -89,6 +89,11 @@ impl Ranges {
         Ranges { starts: (0..count).map(|_| rng.below(capture - len)).collect(), len }
     }
 
+    /// All of a capture, so many times.
+    pub fn whole(capture: u64, count: usize) -> Ranges {
+        Ranges { starts: vec![0; count], len: capture }
+    }
+
     pub fn count(&self) -> u64 {
         self.starts.len() as u64
     }

@@ -63,9 +63,9 @@ fn replay(name: &str) -> bool {
             }
         }
     }
-    let counts = port.counts;
+    let Port { counts, densities, .. } = port;
     println!(
-        "{file}: {asked} lines asked of the port, {wrong} wrong, {skipped} skipped; {counts} counts of nodes compared"
+        "{file}: {asked} lines asked of the port, {wrong} wrong, {skipped} skipped; {counts} counts of nodes and {densities} of changes compared"
     );
     wrong == 0
 }
@@ -136,6 +136,13 @@ fn random(seconds: u64, seed: u64) -> bool {
         "{} counts of nodes read compared with the walk's, {unmade} of them over memory that no call made",
         made + unmade,
     );
+    let made = asker.port().map_or(0, |port| port.densities);
+    let unmade = noise.port.densities + unfinished.port.densities;
+    println!(
+        "{} counts of changes compared with the nodes that memory holds, {unmade} of them over memory that no call made, {} cut at 2^32 - 1",
+        made + unmade,
+        noise.port.cut + unfinished.port.cut,
+    );
     asker.differences.is_empty()
 }
 
@@ -171,11 +178,14 @@ fn long(list: &mut List, rng: &mut Rng) {
     }
     list.say(Op::Whole);
     list.say(Op::Run);
+    list.say(Op::Density { a: 0, b: u64::MAX });
     for _ in 0..12 {
         let place = near(rng, len);
         list.say(Op::Next { mask: mask(rng, 8 * unit), from: place });
         list.say(Op::Prev { mask: mask(rng, 8 * unit), from: place });
-        list.say(Op::Summary { a: place, b: near(rng, len) });
+        let end = near(rng, len);
+        list.say(Op::Summary { a: place, b: end });
+        list.say(Op::Density { a: place, b: end });
         list.say(Op::Get(place));
         list.say(Op::Samples { start: place, count: 40, output: 40 });
         list.say(Op::Raw(rng.below(chunks + 2)));

@@ -29,6 +29,7 @@ impl Op {
             Op::Next { mask, from } => vec![20, *mask as u64, *from],
             Op::Prev { mask, from } => vec![21, *mask as u64, *from],
             Op::Summary { a, b } => vec![22, *a, *b],
+            Op::Density { a, b } => vec![23, *a, *b],
             Op::Burst(b) => {
                 vec![30, b.mask as u64, b.sample, b.max_gap, b.tolerance, b.budget]
             }
@@ -74,6 +75,7 @@ impl Op {
             20 => Op::Next { mask: next()? as u16, from: next()? },
             21 => Op::Prev { mask: next()? as u16, from: next()? },
             22 => Op::Summary { a: next()?, b: next()? },
+            23 => Op::Density { a: next()?, b: next()? },
             30 => Op::Burst(Burst {
                 mask: next()? as u16,
                 sample: next()?,

@@ -12,6 +12,7 @@ mod line;
 mod list;
 mod mill;
 mod model;
+mod node;
 mod noise;
 mod op;
 mod port;

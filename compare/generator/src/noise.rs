@@ -1,11 +1,13 @@
-//! Searches and bursts over memory that no list of calls made: patterns, what other captures left, and numbers put into the
-//! levels of a capture. What they find may be no change; place and count are those of the walk over what memory holds, to
-//! which the port's side holds them.
+//! Searches, bursts, summaries and densities over memory that no list of calls made: patterns, what other captures left, and
+//! numbers put into the levels of a capture. What they find may be no change; place and count of nodes are those of the walk
+//! over what memory holds, a summary and its count of changes those of the nodes that are there, to which the port's side
+//! holds them.
 
 use crate::document::{refusals::need, rules};
 use crate::feed::Feed;
 use crate::list::List;
 use crate::mill::{self, Run};
+use crate::node::NUMBERS;
 use crate::op::{Ask, Burst, Mill, Op, Store};
 use crate::port::Port;
 use crate::shapes::{another, CHUNK};
@@ -37,6 +39,30 @@ impl Noise {
         let mark = rng.once_in(2).then(|| rng.below(len + 1));
         self.port.take(&Op::Record(Store { unit: rules::unit(channels), capacity, len, mark }));
         searches(&mut self.port, list, rng, Run { len, mark: mark.unwrap_or(0) });
+        if len > 0 {
+            self.counts(rng, rules::unit(channels), capacity);
+        }
+        densities(&mut self.port, list, rng);
+    }
+
+    /// Large counts in neighbouring nodes of a level, most of which add up to about 2^32.
+    fn counts(&mut self, rng: &mut Rng, unit: u64, capacity: u64) {
+        let level = 1 + rng.below(3);
+        let nodes = need(unit, capacity).levels[level as usize - 1] / NUMBERS as u64;
+        let first = rng.below(nodes);
+        for node in first..nodes.min(first + 1 + rng.below(5)) {
+            let (low, high) = match rng.below(5) {
+                0 => (0xFFFF, 0xFFFF),
+                1 => (0xFFFF - rng.below(4) as u16, 0xFFFF),
+                2 => (rng.below(3) as u16, 0),
+                3 => (rng.pick(&[0, 1, 0xFFFF]), rng.pick(&[0x7FFF, 0x8000])),
+                _ => (rng.number() as u16, rng.number() as u16),
+            };
+            for (half, value) in [(3, low), (4, high)] {
+                let index = NUMBERS as u64 * node + half;
+                self.port.take(&Op::Put { level, index, value });
+            }
+        }
     }
 
     /// A calm capture, over which a search goes far, and then wrong numbers in some of its nodes.
@@ -70,6 +96,22 @@ pub fn searches(port: &mut Port, list: &mut List, rng: &mut Rng, run: Run) {
                 for fault in port.faults() {
                     list.asker().differs(&format!("memory that no call made: {op:?}: {fault}"));
                 }
+            }
+        }
+    }
+}
+
+/// Asks for summaries and densities of all that is stored, of stretches between borders of nodes, and of any.
+pub fn densities(port: &mut Port, list: &mut List, rng: &mut Rng) {
+    let len = port.len();
+    for kind in 0..6 {
+        let span = rng.pick(&[1, 32, 32, 1_024]);
+        let mut border = || rng.below(len / span + 2) * span;
+        let (a, b) = if kind == 0 { (0, u64::MAX) } else { (border(), border()) };
+        for op in [Op::Summary { a, b }, Op::Density { a, b }] {
+            port.take(&op);
+            for fault in port.faults() {
+                list.asker().differs(&format!("memory that no call made: {op:?}: {fault}"));
             }
         }
     }

@@ -119,6 +119,7 @@ pub enum Op {
     Next { mask: u16, from: u64 },
     Prev { mask: u16, from: u64 },
     Summary { a: u64, b: u64 },
+    Density { a: u64, b: u64 },
     Burst(Burst),
     Render(View),
     RenderDigest(View),

@@ -8,6 +8,7 @@ mod walk;
 
 use crate::digest::digest;
 use crate::document::{listed, optional, refusals};
+use crate::node::{joined, span, Node};
 use crate::op::{Burst, Lent, Op, Recorder, Store, View};
 use crate::side::{Answer, Side};
 use memory::{pattern, Memory, GUARD};
@@ -21,6 +22,9 @@ const RARELY: u64 = 50;
 
 /// What stands behind the pointer to a count of nodes before a call. No count is that high.
 const UNREAD: usize = usize::MAX / 3;
+
+/// What stands behind the pointer to a count of changes before a call.
+const UNCOUNTED: u32 = 0x9E37_79B9;
 
 #[derive(Default)]
 pub struct Port {
@@ -39,6 +43,9 @@ pub struct Port {
     pub read: Option<usize>,
     /// Counts of nodes held against the walk.
     pub counts: u64,
+    /// Counts of changes held against the nodes that memory holds, and how many of them are cut.
+    pub densities: u64,
+    pub cut: u64,
     calls: u64,
     faults: Vec<String>,
 }
@@ -104,6 +111,13 @@ impl Port {
         self.record[record::LEN] as u64
     }
 
+    /// What stands behind the stored samples, as a level's last node says; level 0 are the samples.
+    pub fn last(&self, level: u32) -> Option<u16> {
+        let number = self.len().checked_sub(1)? / span(level);
+        let unit = self.record[record::UNIT];
+        Some(self.memory.node(unit, level as usize, number as usize).last)
+    }
+
     fn answer(&mut self, op: &Op) -> Option<Answer> {
         Some(match *op {
             Op::Capture { channels, capacity } => self.capture(channels, capacity),
@@ -153,14 +167,8 @@ impl Port {
             }
             Op::Next { mask, from } => self.place(port::next_change, Way::Next, mask, from),
             Op::Prev { mask, from } => self.place(port::prev_change, Way::Prev, mask, from),
-            Op::Summary { a, b } => {
-                let before = [0xA5C3, 1, 2];
-                let mut node = before;
-                let code =
-                    port::summary(&self.record, self.lent(), a as usize, b as usize, &mut node);
-                self.kept(code, "node", before, node);
-                found(code, node.map(u64::from))
-            }
+            Op::Summary { a, b } => self.summary(a, b),
+            Op::Density { a, b } => self.density(a, b),
             Op::Burst(burst) => self.burst(burst),
             Op::Render(view) => self.render(view, render_of(view), listed),
             Op::RenderDigest(view) => self
@@ -244,6 +252,49 @@ impl Port {
             self.faults.push("output past the copied samples changed".into());
         }
         said(code, || listed(&after[..copied]))
+    }
+
+    /// The answer is without the count, which the Rust does not have. It and the node are those of the nodes that memory
+    /// holds, whatever these are.
+    fn summary(&mut self, a: u64, b: u64) -> Answer {
+        let before = ([0xA5C3, 1, 2], UNCOUNTED);
+        let (mut node, mut count) = before;
+        let (from, to) = (a as usize, b as usize);
+        let code = port::summary(&self.record, self.lent(), from, to, &mut node, &mut count);
+        self.kept(code, "node", before, (node, count));
+        if code == 0 || code == NONE {
+            let [first, last, toggles] = node;
+            let is = (code == 0).then_some(Node { first, last, toggles, count });
+            let right = self.joined(a, b);
+            self.same("summary", right, is);
+            self.held(right);
+        }
+        found(code, node.map(u64::from))
+    }
+
+    fn density(&mut self, a: u64, b: u64) -> Answer {
+        let mut count = UNCOUNTED;
+        let code = port::density(&self.record, self.lent(), a as usize, b as usize, &mut count);
+        self.kept(code, "count of changes", UNCOUNTED, count);
+        if code == 0 {
+            let right = self.joined(a, b);
+            self.same("count of changes", right.map_or(0, |node| node.count), count);
+            self.held(right);
+        }
+        said(code, || vec![count as u64])
+    }
+
+    fn held(&mut self, right: Option<Node>) {
+        self.densities += 1;
+        self.cut += right.is_some_and(|node| node.count == u32::MAX) as u64;
+    }
+
+    /// The node of a range by the nodes that memory holds.
+    fn joined(&self, a: u64, b: u64) -> Option<Node> {
+        let unit = self.record[record::UNIT];
+        joined(a, b, self.len(), |level, number| {
+            self.memory.node(unit, level as usize, number as usize)
+        })
     }
 
     fn burst(&mut self, burst: Burst) -> Answer {

@@ -1,11 +1,12 @@
 //! Appends and pushes over memory that no list of calls made. As document 02's CR 2 says of level 1, the nodes of a level
-//! that they write depend on len, its unfinished node and the new samples; what is stored before is noise here, and
-//! searches follow it.
+//! that they write depend on len, its unfinished node and the new samples, their counts of changes too; what is stored before
+//! is noise here, and searches, summaries and densities follow it.
 
 use crate::document::{refusals::need, rules};
 use crate::feed::Feed;
 use crate::list::List;
 use crate::mill::Run;
+use crate::node::TOP;
 use crate::noise;
 use crate::op::{Op, Settings, Wish};
 use crate::port::Port;
@@ -42,7 +43,14 @@ impl Unfinished {
         self.port.hold(len as usize);
         for _ in 0..4 {
             let count = rng.pick(&[3, 3, 1, 31, 32, 33, 100, 1_100]) * unit + rng.below(2);
-            let bytes = Feed::Bytes((0..count).map(|_| rng.number() as u8).collect());
+            let mut bytes: Vec<u8> = (0..count).map(|_| rng.number() as u8).collect();
+            // Often no change after the sample before, or after the unfinished node of a level.
+            let level = rng.below(10) as u32;
+            if let Some(last) = (level <= TOP).then(|| self.port.last(level)).flatten() {
+                let unit = unit as usize;
+                bytes[..unit].copy_from_slice(&last.to_le_bytes()[..unit]);
+            }
+            let bytes = Feed::Bytes(bytes);
             self.port.take(&if recorder { Op::Push(bytes) } else { Op::Append(bytes) });
             self.made += 1;
         }
@@ -51,5 +59,6 @@ impl Unfinished {
         }
         let run = Run { len: self.port.len(), mark: 0 };
         noise::searches(&mut self.port, list, rng, run);
+        noise::densities(&mut self.port, list, rng);
     }
 }

@@ -86,7 +86,7 @@ mod tests {
     /// What crates/replay/data/README.md promises a reader with little memory.
     #[test]
     fn fits_a_reader() {
-        let most = [4_194_304, 393_216, 12_288, 384, 12, 524_288];
+        let most = [4_194_304, 655_360, 20_480, 640, 20, 524_288];
         for text in texts() {
             assert!(text.len() < 100_000);
             for line in text.lines() {
@@ -110,6 +110,7 @@ mod tests {
         for (list, lines) in [
             (1, vec![a, "20 1 0 0 0 1 2", "20 1 7 0 0 0", "20 1 18446744073709551615 1 0 0"]),
             (1, vec!["21 1 6 0 0 1 4", "21 1 100 0 0 1 7", "22 0 8 0 0 1 0 3 3", "22 4 4 0 0 0"]),
+            (1, vec!["23 0 8 1 0 4", "23 4 4 1 0 0"]),
             (2, vec![a, "30 1 3 4 0 1 0 0 1 2 7 1 0", "30 1 3 3 0 1 0 0 1 2 4 0 0"]),
             (2, vec![b, "30 1 5 4 3 9 0 0 1 1 2 0 0"]),
             (3, vec![a, &format!("40 0 {four} 2 4 0 0 4 0 1 0 3")]),

@@ -136,8 +136,20 @@ pub fn whole(record: &Record, lent: Lent, level: &mut usize, number: &mut usize)
 }
 
 #[inline]
-pub fn summary(record: &Record, lent: Lent, a: usize, b: usize, node: &mut [u16; 3]) -> u32 {
-    lent!(lc_summary, (record), lent, as_ptr, (a, b, node))
+pub fn summary(
+    record: &Record,
+    lent: Lent,
+    a: usize,
+    b: usize,
+    node: &mut [u16; 3],
+    count: &mut u32,
+) -> u32 {
+    lent!(lc_summary, (record), lent, as_ptr, (a, b, node, count))
+}
+
+#[inline]
+pub fn density(record: &Record, lent: Lent, a: usize, b: usize, count: &mut u32) -> u32 {
+    lent!(lc_density, (record), lent, as_ptr, (a, b, count))
 }
 
 #[inline]

@@ -4,7 +4,7 @@ use mathlib.Core.Path.{_≡_, refl, sym, ap, _∙_}
 use mathlib.Core.Bool.{Bool, true, false, cond}
 use mathlib.Core.List.{List, [], _∷_, _++_}
 use native.Mathlib.Omega.{arith}
-use Rattle.rules.specs.Answer.{refused, given, unless}
+use Rattle.rules.specs.Answer.{refused, given, unless, seen}
 use Rattle.rules.specs.Refusal.{Store, Lent, Row, firstOf, storeRows, storeRefusal}
 use Rattle.rules.proofs.Refusal.{Sound, sound, rows-left}
 
@@ -31,6 +31,11 @@ module _ {A : Type 0} (a : A) {n r : ℕ} (e : n ≡ r) where
 pub unless-given : {A : Type 0} (a : A) (r : ℕ) (b : A) → unless r a ≡ given b → (r ≡ 0) × (a ≡ b)
 unless-given a zero b e = (refl, cc)
 unless-given a (suc r) b e = let z : _≡_ {A = ℕ} 0 1 = cc in absurd (omega arith)
+
+-- what is seen of an answer is the answer of what is seen
+pub seen-unless : {A B : Type 0} (f : A → B) (a : A) (n : ℕ) → seen f (unless n a) ≡ unless n (f a)
+seen-unless f a zero = refl
+seen-unless f a (suc n) = refl
 
 -- ---- a call's own rows
 -- a row that refuses does so whatever comes after it

@@ -6,11 +6,11 @@ use native.Mathlib.Decide.{decLt}
 use native.Mathlib.Omega.{arith}
 use borrow.Author.Tests.{lt-ltb, le-ltb}
 use Rattle.rules.specs.Node.{nodeOf, cut, span}
-use Rattle.rules.specs.Search.{summary}
+use Rattle.rules.specs.Search.{summary, density}
 use Rattle.rules.specs.Walk.{allLevels, runReader, nextSearch, previousSearch}
 use Rattle.rules.specs.Burst.{burstSearch}
 use Rattle.rules.specs.Pixel.{View, Range, rowBy, pixelRange, render}
-use Rattle.rules.proofs.Node.{node-same}
+use Rattle.rules.proofs.Node.{node-same, changes-same}
 use Rattle.rules.proofs.Row.{Stored, pixels-stored, row-same}
 use Rattle.rules.proofs.Walk.{span-pos}
 use Rattle.rules.proofs.Steps.{AlikeNodes}
@@ -26,6 +26,9 @@ module _ (s₁ s₂ : ℕ → ℕ) (len : ℕ) (same : (i : ℕ) → i < len →
       go : Dec (a < min b len) → summary s₁ len a b ≡ summary s₂ len a b
       go (yes h) = rw (lt-ltb a (min b len) h) (ap some (node-below a (min b len) h (omega arith)))
       go (no h) = rw (le-ltb a (min b len) (omega arith))
+
+  pub density-below : (a b : ℕ) → density s₁ len a b ≡ density s₂ len a b
+  density-below a b = changes-same s₁ s₂ a (min b len) (λ i l u. same i (omega arith))
 
   -- a row over any ranges of stored places, and 01's
   pub row-below : (range : ℕ → Option Range) → Stored range len → (px n : ℕ) → rowBy (nodeOf s₁) range px n ≡ rowBy (nodeOf s₂) range px n

@@ -4,33 +4,43 @@ use mathlib.Core.Bool.{Bool, true, false, cond}
 use mathlib.Core.List.{List, _∷_}
 use mathlib.Core.Option.{Option, none, some}
 use Prim.Native.Nat.{ℕ, zero, suc, _+_, min}
-use lib.Bits.{bitAnd, and-comm}
+use native.Mathlib.Nat.{mod-eq-of-lt}
+use lib.Bits.{bitAnd, and-comm, and-mask}
 use lib.Dec.{ltb}
-use Rattle.rules.specs.Node.{Node, nodeOf, cut, span}
+use Rattle.rules.specs.Node.{Node, Lines, linesOf, nodeOf, cut, span}
 use Rattle.rules.specs.Search.{summary, cutSummary}
 use Rattle.rules.specs.Walk.{allLevels, runReader, nextSearch, previousSearch}
 use Rattle.rules.specs.Burst.{burstSearch}
 use Rattle.rules.specs.Pixel.{View, Range, pixelRange, shown, rowBy, render, cutPixels}
 use Rattle.rules.proofs.Bits.{and-assoc}
-use Rattle.rules.specs.Sample.{cutLines, Within}
+use Rattle.rules.specs.Sample.{maskBits, Word, allLines, cutTo, cutLines, Within}
 use Rattle.rules.proofs.Node.{node-cut}
 use Rattle.rules.proofs.Steps.{AlikeNodes}
 use Rattle.claim_alike.proofs.Searches.{next-by-nodes, previous-by-nodes, burst-by-nodes}
+
+-- all lines of a word are the word
+pub all-lines : (x : ℕ) → Word x → cutTo allLines x ≡ x
+all-lines x h = and-mask x maskBits ∙ mod-eq-of-lt h
+
+-- the lines of a summary; none stays none
+abbrev pub linesIn : Option Node → Option Lines
+linesIn none = none
+linesIn (some n) = some (linesOf n)
 
 module _ (v : ℕ) (s : ℕ → ℕ) (len : ℕ) where
   abbrev lines : ℕ → ℕ
   lines = cutLines v s
 
-  pub summary-cut : (a b : ℕ) → summary lines len a b ≡ cutSummary v (summary s len a b)
+  pub summary-cut : (a b : ℕ) → linesIn (summary lines len a b) ≡ cutSummary v (summary s len a b)
   summary-cut a b = go (ltb a (min b len))
     where
-      go : (t : Bool) → cond t (some (nodeOf lines a (min b len))) none ≡ cutSummary v (cond t (some (nodeOf s a (min b len))) none)
+      go : (t : Bool) → linesIn (cond t (some (nodeOf lines a (min b len))) none) ≡ cutSummary v (cond t (some (nodeOf s a (min b len))) none)
       go true = ap some (node-cut v s a (min b len))
       go false = refl
 
   shown-cut : (r : Option Range) (rest₁ rest₂ : List ℕ) → rest₁ ≡ cutPixels v rest₂ → shown (nodeOf lines) r rest₁ ≡ cutPixels v (shown (nodeOf s) r rest₂)
   shown-cut none rest₁ rest₂ e = ap (λ (rest : List ℕ). 0 ∷ 0 ∷ rest) e
-  shown-cut (some x) rest₁ rest₂ e = ap₂ (λ (n : Node) (rest : List ℕ). n .first ∷ n .toggles ∷ rest) (node-cut v s (x .from) (x .to)) e
+  shown-cut (some x) rest₁ rest₂ e = ap₂ (λ (n : Lines) (rest : List ℕ). n .first ∷ n .toggles ∷ rest) (node-cut v s (x .from) (x .to)) e
 
   pub row-cut : (range : ℕ → Option Range) (px n : ℕ) → rowBy (nodeOf lines) range px n ≡ cutPixels v (rowBy (nodeOf s) range px n)
   unfolding rowBy
@@ -45,9 +55,12 @@ module _ (v : ℕ) (s : ℕ → ℕ) (len : ℕ) where
     cut-twice x = and-assoc x v mask ∙ ap (bitAnd x) (and-comm v mask ∙ w)
 
     nodes-cut : AlikeNodes allLevels (runReader lines) (runReader s) len mask
-    nodes-cut = record { is = λ l p _ _ _ _. ap (cut mask) (node-cut v s p (p + span l)) ∙ within (nodeOf s p (p + span l)) }
+    nodes-cut = record { is = λ l p _ _ _ _. ap masked (node-cut v s p (p + span l)) ∙ within (nodeOf s p (p + span l)) }
       where
-        within : (n : Node) → cut mask (cut v n) ≡ cut mask n
+        masked : Lines → Lines
+        masked n = record { first = cutTo mask (n .first); last = cutTo mask (n .last); toggles = cutTo mask (n .toggles) }
+
+        within : (n : Node) → masked (cut v n) ≡ cut mask n
         within n = simp cut-twice
 
     pub next-cut : (from : ℕ) → nextSearch lines len mask from ≡ nextSearch s len mask from

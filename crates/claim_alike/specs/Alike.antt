@@ -2,11 +2,15 @@
 -- A run is a function from places to samples, s, and its length, len.
 use mathlib.Core.Path.{_≡_}
 use Prim.Native.Nat.{ℕ, _<_}
-use Rattle.rules.specs.Sample.{Within, cutTo}
-use Rattle.rules.specs.Search.{summary, cutSummary}
+use Rattle.rules.specs.Sample.{Word, allLines, Within, cutTo}
+use Rattle.rules.specs.Search.{summary, cutSummary, density}
 use Rattle.rules.specs.Walk.{nextSearch, previousSearch}
 use Rattle.rules.specs.Burst.{burstSearch}
 use Rattle.rules.specs.Pixel.{View, render, cutPixels}
+
+-- "Unit 1: one byte .. Unit 2: two bytes" (01, Records): a sample is a number that a mask's word holds
+abbrev pub AreWords : (ℕ → ℕ) → ℕ → Type 0
+AreWords s len = (i : ℕ) → i < len → Word (s i)
 
 module _ (v : ℕ) (s₁ : ℕ → ℕ) (len₁ : ℕ) (s₂ : ℕ → ℕ) (len₂ : ℕ) where
   -- "the same length .. and the same chosen lines at every sample"
@@ -22,3 +26,6 @@ module _ (v : ℕ) (s₁ : ℕ → ℕ) (len₁ : ℕ) (s₂ : ℕ → ℕ) (len
     pub nexts : (mask : ℕ) → Within mask v → (from : ℕ) → nextSearch s₁ len₁ mask from ≡ nextSearch s₂ len₂ mask from
     pub previouses : (mask : ℕ) → Within mask v → (from : ℕ) → previousSearch s₁ len₁ mask from ≡ previousSearch s₂ len₂ mask from
     pub bursts : (mask : ℕ) → Within mask v → (sample gap tolerance budget : ℕ) → burstSearch s₁ len₁ mask sample gap tolerance budget ≡ burstSearch s₂ len₂ mask sample gap tolerance budget
+    -- 02, CR 5: "Since it tells of every line, .. alikeness covers it only for a viewer who chose all lines": densities, and summaries with their counts
+    pub densities : v ≡ allLines → (a b : ℕ) → density s₁ len₁ a b ≡ density s₂ len₂ a b
+    pub counts : v ≡ allLines → (a b : ℕ) → summary s₁ len₁ a b ≡ summary s₂ len₂ a b

@@ -61,7 +61,7 @@ appends-for (b ∷ bs) c m =
     record { numbers = numberOf (told c m b .0) ∷ rest .numbers; capture = rest .capture; memory = rest .memory; are = step (may-append c m b) (rest .are) }
 
 pub existence : Existence
-existence channels capacity m ok appends = record {
+existence channels capacity m ok appends are = record {
   filling = record {
     channels = channels;
     capacity = capacity;
@@ -69,6 +69,7 @@ existence channels capacity m ok appends = record {
     fresh = empty;
     started = (([], ([], tt)), somewhere, sym (ap (λ (n : ℕ). unless n (fresh channels capacity)) ok));
     appends = appends;
+    are-bytes = are;
     numbers = done .numbers;
     capture = done .capture;
     memory = done .memory;

@@ -25,10 +25,12 @@ use Rattle.append.specs.Append.{numberOf, recordOf, grown, refusalOf, takenOf}
 use Rattle.append.proofs.Answer.{refused-full, refused-none, taken-none, taken-all}
 use Rattle.append.proofs.Theorems.{Called, equations, right-stays, old-stay, new-follow, lengths-stay}
 use Rattle.append.proofs.Theorems as call
-use Rattle.claim_captures.specs.Words.{Memory, levels, at}
+use Rattle.claim_captures.specs.Words.{Memory, levels, at, AreBytes}
 use Rattle.claim_captures.specs.Claim.{Held}
+use Rattle.claim_captures.proofs.Words.{WordList, no-words, unit-most, words-taken}
 use Rattle.claim_captures.proofs.Alike.{captures-alike}
-use Rattle.claim_appends.specs.Claim.{MayAppend, Appending, Filling, fits, taken, storedFrom, numbersFrom, unit, stored, Stores, AppendsStore}
+use Rattle.claim_captures.proofs.Additive.{additive}
+use Rattle.claim_appends.specs.Claim.{MayAppend, Appending, Filling, fits, taken, storedFrom, numbersFrom, unit, stored, Stores, AppendsStore, DensitiesAdd}
 use Rattle.claim_appends.specs.Claim.Appending.{stop, step}
 
 -- ---- one call
@@ -174,6 +176,12 @@ module _ (u capacity : ℕ) where
       let more = all-kept (taken u capacity xs bytes) (one .0) rest in
       (more .0, ap₂ (λ (x : ℕ) (ns : List ℕ). x ∷ ns) (one .1) (more .1))
 
+  -- what is taken of bytes are words
+  stored-words : u ≤ 2 → (xs : List ℕ) → WordList xs → (appends : List (List ℕ)) → AreBytes appends → WordList (storedFrom u capacity xs appends)
+  unfolding storedFrom
+  stored-words h xs w [] are = w
+  stored-words h xs w (b ∷ bs) are = stored-words h (taken u capacity xs b) (words-taken u h xs b w (are .0) (fits u capacity xs b)) bs (are .1)
+
 -- ---- what appends made
 module _ (a : Filling) where
   -- start refuses nothing, and its record has no sample and no mark
@@ -202,6 +210,7 @@ module _ (a : Filling) where
       mark-is = ap (λ (st : Store). st .mark) (k .record-is);
       samples-are = samples-are;
       levels-right = subst (λ (n : ℕ). Right (at (stored a)) n (levels (a .memory))) len-is (right-same (sampleOf (a .capture .unitsize) (a .memory .samples)) (at (stored a)) (levels (a .memory)) (a .capture .len) (λ i h. samples-are i (omega (arith, len-is))) (k .right));
+      words = λ i h. stored-words (unit a) (a .capacity) (unit-most (a .channels)) [] no-words (a .appends) (a .are-bytes) i;
     };
     numbers-are = both .1;
   }
@@ -219,3 +228,6 @@ pub appends-store : AppendsStore
 appends-store one two v =
     let t = captures-alike (stored one) none (one .capture) (one .memory) (stored two) none (two .capture) (two .memory) (appends-stored one .held) (appends-stored two .held) v in
     (appends-stored one, appends-stored two, t .0, t .1, t .2)
+
+pub densities-add : DensitiesAdd
+densities-add a = additive (stored a) none (a .capture) (a .memory) (appends-stored a .held)

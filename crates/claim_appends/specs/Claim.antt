@@ -1,6 +1,6 @@
 -- Captures that appends made: for every list of appends from a store's start, refused ones included, over any memory, the record, the samples, the levels and each
 -- question's answer are 01's for the samples that were taken. It is what a loaded file rests on. 01: Store.
--- The claim speaks of the calls' own contracts, as that of `claim_captures` does. No range is asked of channels, capacity, memory and bytes.
+-- The claim speaks of the calls' own contracts, as that of `claim_captures` does. No range is asked of channels, capacity and memory; an append is of bytes.
 use mathlib.Core.Path.{_≡_}
 use mathlib.Core.Bool.{Bool, cond}
 use mathlib.Core.List.{List, [], _∷_, _++_}
@@ -21,8 +21,8 @@ use Rattle.capture.proofs.start.Reads as start
 use Rattle.append.specs.declared.Appended.{Appended}
 use Rattle.append.specs.Append.{numberOf, recordOf}
 use Rattle.append.proofs.append.Reads as append
-use Rattle.claim_captures.specs.Words.{Memory, levels, Ref, Places, lending, Same}
-use Rattle.claim_captures.specs.Claim.{Held, Answers, LookAlike}
+use Rattle.claim_captures.specs.Words.{Memory, levels, Ref, Places, lending, Same, AreBytes}
+use Rattle.claim_captures.specs.Claim.{Held, Answers, LookAlike, Additive}
 
 -- ---- what start and append may answer, by their contracts
 abbrev pub MayStart : ℕ → ℕ → Memory → Started → Type 0
@@ -49,6 +49,7 @@ pub record Filling : Type 0 where
   pub fresh : Capture
   pub started : MayStart channels capacity before (Store fresh)
   pub appends : List (List ℕ)
+  pub are-bytes : AreBytes appends
   pub numbers : List ℕ
   pub capture : Capture
   pub memory : Memory
@@ -93,7 +94,7 @@ pub record Exists (channels capacity : ℕ) (m : Memory) (appends : List (List �
   pub appends-are : filling .appends ≡ appends
 
 abbrev pub Existence : Type 0
-Existence = (channels capacity : ℕ) (m : Memory) → storeRefusal (fresh channels capacity) (lentOf (m .samples) (levels m)) ≡ 0 → (appends : List (List ℕ)) → Exists channels capacity m appends
+Existence = (channels capacity : ℕ) (m : Memory) → storeRefusal (fresh channels capacity) (lentOf (m .samples) (levels m)) ≡ 0 → (appends : List (List ℕ)) → AreBytes appends → Exists channels capacity m appends
 
 -- what is stored, what is answered, and when two look alike
 abbrev pub AppendsStore : Type 0
@@ -104,3 +105,7 @@ AppendsStore =
     × Answers (stored one) (one .capture) (one .memory)
     × Answers (stored two) (two .capture) (two .memory)
     × (LookAlike v (one .capture) (one .memory) (two .capture) (two .memory) ↔ Same v (stored one) none (stored two) none)
+
+-- 02, CR 5: what density answers of them adds up
+abbrev pub DensitiesAdd : Type 0
+DensitiesAdd = (a : Filling) → Additive (stored a) (a .capture) (a .memory)

@@ -6,18 +6,16 @@ use Prim.Native.Nat.{ℕ, zero, suc, _+_, _≤_, _<_}
 use native.Mathlib.Omega.{arith}
 use lib.ListN.{length}
 use Rattle.rules.specs.Search.{summary, cutSummary}
-use Rattle.rules.specs.Refusal.{firstOf, viewRows}
+use Rattle.rules.specs.Refusal.{firstOf, viewRows, mostSamples}
 use Rattle.rules.specs.Answer.{given, unless, seen}
 use Rattle.rules.specs.Pixel.{cutPixels}
-use Rattle.rules.proofs.Refusal.{Sound, sound}
 use Rattle.claim_alike.specs.Alike.{Alike}
 use Rattle.claim_alike.proofs.Alike.{same-alike, alike-same}
 use Rattle.capture.specs.declared.Capture.{Capture}
-use Rattle.capture.specs.Record.{storeOf, lentOf}
 use Rattle.pixel.specs.Ranges.{viewAs}
-use Rattle.claim_captures.specs.Words.{Memory, levels, at, Answered, Usize, Agree, Same}
+use Rattle.claim_captures.specs.Words.{Memory, at, Answered, Usize, Agree, Same}
 use Rattle.claim_captures.specs.Claim.{Held, Answers, LookAlike, CapturesAlike}
-use Rattle.claim_captures.proofs.Answers.{answers}
+use Rattle.claim_captures.proofs.Answers.{bounds, answers}
 
 -- ---- two calls that answer x and y agree exactly when these are seen as the same
 module _ {X A B : Type 0} {may₁ may₂ : X → Type 0} {told : X → A} {x y : A} (view : A → B) (one : Answered may₁ told x) (two : Answered may₂ told y) where
@@ -41,8 +39,7 @@ seen-same f n k x y e h = ap (λ (j : ℕ). seen f (unless j x)) e ∙ go k
 -- a place of a run is a usize, and so is the one after it
 pub places : {run : List ℕ} {mark : Option ℕ} (c : Capture) (m : Memory) → Held run mark c m → (i : ℕ) → i < length run → Usize i × Usize (i + 1)
 places {run} c m h i l =
-    let s : Sound (storeOf c) (lentOf (m .samples) (levels m)) = sound (storeOf c) (lentOf (m .samples) (levels m)) (h .passes) in
-    let most : length run ≤ 67108864 = omega (arith, h .len-is, s .len-most, s .capacity-most) in
+    let most : length run ≤ mostSamples = omega (arith, h .len-is, bounds c m h .len-most, bounds c m h .capacity-most) in
     (omega arith, omega arith)
 
 module _ {run₁ : List ℕ} {mark₁ : Option ℕ} (c₁ : Capture) (m₁ : Memory) {run₂ : List ℕ} {mark₂ : Option ℕ} (c₂ : Capture) (m₂ : Memory) (one : Held run₁ mark₁ c₁ m₁) (two : Held run₂ mark₂ c₂ m₂) (v : ℕ) where
@@ -75,10 +72,12 @@ module _ {run₁ : List ℕ} {mark₁ : Option ℕ} (c₁ : Capture) (m₁ : Mem
     previouses = λ mask from _ w _. agreed (λ x. x) (a₁ .previous-is mask from) (a₂ .previous-is mask from) (ap given (rules .previouses mask w from));
     bursts = λ mask sample gap tolerance budget _ w _ _ _ _.
         agreed (λ x. x) (a₁ .burst-is mask sample gap tolerance budget) (a₂ .burst-is mask sample gap tolerance budget) (ap given (rules .bursts mask w sample gap tolerance budget));
+    densities = λ e a b _ _. agreed (λ x. x) (a₁ .density-is a b) (a₂ .density-is a b) (ap given (rules .densities e a b));
+    counts = λ e a b _ _. agreed (λ x. x) (a₁ .summary-is a b) (a₂ .summary-is a b) (ap given (rules .counts e a b));
   }
     where
       rules : Alike v (at run₁) (length run₁) (at run₂) (length run₂)
-      rules = same-alike v (at run₁) (length run₁) (at run₂) (length run₂) (same .runs)
+      rules = same-alike v (at run₁) (length run₁) (at run₂) (length run₂) (one .words) (two .words) (same .runs)
 
 pub captures-alike : CapturesAlike
 captures-alike run₁ mark₁ c₁ m₁ run₂ mark₂ c₂ m₂ one two v = (answers c₁ m₁ one, answers c₂ m₂ two, (alike-runs c₁ m₁ c₂ m₂ one two v, runs-alike c₁ m₁ c₂ m₂ one two v))

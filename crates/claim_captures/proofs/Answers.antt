@@ -13,9 +13,9 @@ use contract.Lifetimes.{Lfts}
 use denote.Ref.{at-last}
 use Rattle.rules.specs.Reading.{copiedTo}
 use Rattle.rules.specs.Sample.{sampleOf, listFrom}
-use Rattle.rules.specs.Node.{nodeOf, topLevel}
+use Rattle.rules.specs.Node.{nodeOf, mostCount, topLevel}
 use Rattle.rules.specs.Node as rule
-use Rattle.rules.specs.Search.{summary}
+use Rattle.rules.specs.Search.{summary, countIn, density}
 use Rattle.rules.specs.Walk.{Counted, Walked, nextSearch, previousSearch}
 use Rattle.rules.specs.Burst.{burstSearch}
 use Rattle.rules.specs.Burst as rule-burst
@@ -23,9 +23,9 @@ use Rattle.rules.specs.Pixel.{pixelRange, render}
 use Rattle.rules.specs.Refusal.{Row, Lent, firstOf, storeRows, storeRefusal, getRow, copied, copyRow, samplesRefusal, viewRows, renderRefusal}
 use Rattle.rules.specs.Answer.{Answer, refused, given, unless, unrefused}
 use Rattle.rules.proofs.Sample.{list-length, list-same}
-use Rattle.rules.proofs.Refusal.{row-passed, rows-left}
+use Rattle.rules.proofs.Refusal.{Sound, sound, row-passed, rows-left}
 use Rattle.rules.proofs.Row.{row-length}
-use Rattle.claim_alike.proofs.Below.{summary-below, render-below, next-below, previous-below, burst-below}
+use Rattle.claim_alike.proofs.Below.{summary-below, density-below, render-below, next-below, previous-below, burst-below}
 use Rattle.node.specs.Memory.{levelOf, Right}
 use Rattle.rebuild.proofs.Right.{right-same}
 use Rattle.capture.specs.declared.Capture.{Capture}
@@ -39,6 +39,10 @@ use Rattle.summary.specs.declared.Summed.{Summed}
 use Rattle.summary.specs.declared.Summed.the-variants as summed-as
 use Rattle.summary.specs.Summary.{summedOf, summaryOf, summed}
 use Rattle.summary.proofs.Answers.{summary-right}
+use Rattle.density.specs.declared.Changes.{Changes}
+use Rattle.density.specs.declared.Changes.the-variants as changes-as
+use Rattle.density.specs.Density.{changesOf}
+use Rattle.density.proofs.Answers.{density-right}
 use Rattle.search.specs.declared.Found.{Found}
 use Rattle.search.specs.declared.Found.the-variants as found
 use Rattle.search.specs.Answer.{foundOf, nextOf, previousOf}
@@ -54,7 +58,7 @@ use Rattle.render.specs.declared.Drawn.the-variants as drawn-as
 use Rattle.render.specs.Render.{drawnOf, drawn}
 use Rattle.render.proofs.Answers.{render-row}
 use Rattle.claim_captures.specs.Words.{Memory, levels, Ref, Places, at, Answered}
-use Rattle.claim_captures.specs.Claim.{MayGet, MaySummary, MayNext, MayPrevious, MayBurst, MaySamples, MayRender, samplesOf, samplesIn, pixelsOf, pixelsIn, Held, Answers}
+use Rattle.claim_captures.specs.Claim.{MayGet, MaySummary, MayDensity, MayNext, MayPrevious, MayBurst, MaySamples, MayRender, samplesOf, samplesIn, pixelsOf, pixelsIn, Held, Answers}
 
 -- ---- an answer for each value
 pub got-for : (x : Answer ℕ) → (v : Got) × (gotOf v ≡ x)
@@ -68,7 +72,11 @@ copied-for (given k) = (copies.Count k, refl)
 pub summed-for : (x : Answer (Option rule.Node)) → (v : Summed) × (summedOf v ≡ x)
 summed-for (refused n) = (summed-as.Refused n, refl)
 summed-for (given none) = (summed-as.Nothing, refl)
-summed-for (given (some n)) = (summed-as.Node (record { first = n .first; last = n .last; mask = n .toggles }), refl)
+summed-for (given (some n)) = (summed-as.Node (record { first = n .first; last = n .last; mask = n .toggles; count = n .count }), refl)
+
+pub changes-for : (x : Answer ℕ) → (v : Changes) × (changesOf v ≡ x)
+changes-for (refused n) = (changes-as.Refused n, refl)
+changes-for (given k) = (changes-as.Count k, refl)
 
 -- a search's, by an enum of three cases: a refusal, a find with its count, and a count alone
 pub counted-for : {A R : Type 0} (means : R → Answer (Counted A)) (refusal : ℕ → R) (at : A → ℕ → R) (nothing : ℕ → R)
@@ -160,6 +168,10 @@ module _ {run : List ℕ} {mark : Option ℕ} (c : Capture) (m : Memory) (h : He
   pub agree : (i : ℕ) → i < c .len → t i ≡ at run i
   agree i l = h .samples-are i (omega (arith, h .len-is))
 
+  -- the store's bounds
+  pub bounds : Sound (storeOf c) lent
+  bounds = sound (storeOf c) lent (h .passes)
+
   -- the levels are right for the samples in memory
   pub right : Right t (c .len) (levels m)
   right = right-same (at run) t (levels m) (c .len) (λ i l. sym (agree i l)) (subst⁻¹ (λ (n : ℕ). Right (at run) n (levels m)) (h .len-is) (h .levels-right))
@@ -203,6 +215,15 @@ module _ {run : List ℕ} {mark : Option ℕ} (c : Capture) (m : Memory) (h : He
   summary-is a b =
       answered summedOf summed-for (unless (storeRefusal (storeOf c) lent) (summaryOf (levels m) t (c .len) a b)) (λ f n. summary f n a b)
       (λ v e. summary-right ([], ([], tt)) c ms m1 m2 m3 m4 a b v e right) (summary-below t (at run) (c .len) agree a b)
+
+  density-is : (a b : ℕ) → Answered (MayDensity c m a b) changesOf (given (density (at run) (length run) a b))
+  density-is a b =
+      answered changesOf changes-for (unless (storeRefusal (storeOf c) lent) (countIn (summaryOf (levels m) t (c .len) a b))) (λ f n. density f n a b)
+      (λ v e. density-right ([], ([], tt)) c ms m1 m2 m3 m4 a b v e right few) (density-below t (at run) (c .len) agree a b)
+    where
+      -- no count of stored samples is cut
+      few : c .len ≤ mostCount
+      few = omega (arith, bounds .len-most, bounds .capacity-most)
 
   next-is : (mask from : ℕ) → Answered (MayNext c m mask from) foundOf (given (nextSearch (at run) (length run) mask from))
   next-is mask from =
@@ -257,4 +278,4 @@ module _ {run : List ℕ} {mark : Option ℕ} (c : Capture) (m : Memory) (h : He
         }
 
   pub answers : Answers run c m
-  answers = record { get-is = get-is; samples-are = samples-are; summary-is = summary-is; next-is = next-is; previous-is = previous-is; burst-is = burst-is; render-is = render-is }
+  answers = record { get-is = get-is; samples-are = samples-are; summary-is = summary-is; density-is = density-is; next-is = next-is; previous-is = previous-is; burst-is = burst-is; render-is = render-is }

@@ -1,2 +1,4 @@
+pub mod Words
 pub mod Answers
 pub mod Alike
+pub mod Additive

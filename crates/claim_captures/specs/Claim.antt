@@ -6,17 +6,18 @@ use mathlib.Core.Path.{_≡_}
 use mathlib.Core.List.{List, [], _∷_}
 use mathlib.Core.Logic.{_↔_}
 use mathlib.Core.Option.{Option}
-use Prim.Native.Nat.{ℕ, _*_, _<_}
+use Prim.Native.Nat.{ℕ, _*_, _≤_, _<_}
 use lib.ListN.{length, take}
 use contract.Lifetimes.{Lfts}
 use denote.Ref.{at-last}
-use Rattle.rules.specs.Sample.{Word, sampleOf, listFrom, Within}
-use Rattle.rules.specs.Search.{summary, cutSummary}
+use Rattle.rules.specs.Sample.{Word, allLines, sampleOf, listFrom, Within}
+use Rattle.rules.specs.Search.{summary, cutSummary, density}
 use Rattle.rules.specs.Walk.{nextSearch, previousSearch}
 use Rattle.rules.specs.Burst.{burstSearch}
 use Rattle.rules.specs.Pixel.{render, cutPixels}
 use Rattle.rules.specs.Refusal.{firstOf, storeRefusal, getRow, copied, copyRow, viewRows}
 use Rattle.rules.specs.Answer.{Answer, refused, given, unless, seen}
+use Rattle.claim_alike.specs.Alike.{AreWords}
 use Rattle.node.specs.Memory.{Right}
 use Rattle.capture.specs.declared.Capture.{Capture}
 use Rattle.capture.specs.declared.Got.{Got}
@@ -29,6 +30,10 @@ use Rattle.capture.proofs.samples.Reads as samples-call
 use Rattle.summary.specs.declared.Summed.{Summed}
 use Rattle.summary.specs.Summary.{summedOf}
 use Rattle.summary.proofs.summary.Reads as summary-call
+use Rattle.density.specs.declared.Changes.{Changes}
+use Rattle.density.specs.declared.Changes.the-variants as changes
+use Rattle.density.specs.Density.{changesOf}
+use Rattle.density.proofs.density.Reads as density-call
 use Rattle.search.specs.declared.Found.{Found}
 use Rattle.search.specs.Answer.{foundOf}
 use Rattle.search.proofs.next_change.Reads as next-change
@@ -41,7 +46,7 @@ use Rattle.pixel.specs.Ranges.{viewAs}
 use Rattle.render.specs.declared.Drawn.{Drawn}
 use Rattle.render.specs.declared.Drawn.the-variants as drawn
 use Rattle.render.proofs.render.Reads as render-call
-use Rattle.claim_captures.specs.Words.{Memory, levels, Ref, Places, lending, at, Same, Answered, Usize, F64, Agree}
+use Rattle.claim_captures.specs.Words.{Memory, levels, Ref, Places, lending, at, Same, AddUp, Answered, Usize, F64, Agree}
 
 -- ---- what each call may answer, by its contract; a question leaves what it was lent
 abbrev pub MayGet : Capture → Memory → ℕ → Got → Type 0
@@ -49,6 +54,9 @@ MayGet c m i v = (κs : Lfts 2) × (p : Places) × get-call.Post κs (lending c 
 
 abbrev pub MaySummary : Capture → Memory → ℕ → ℕ → Summed → Type 0
 MaySummary c m a b v = (κs : Lfts 2) × (p : Places) × summary-call.Post κs (lending c p m (a, (b, tt))) v (lending c p m (a, (b, tt)))
+
+abbrev pub MayDensity : Capture → Memory → ℕ → ℕ → Changes → Type 0
+MayDensity c m a b v = (κs : Lfts 2) × (p : Places) × density-call.Post κs (lending c p m (a, (b, tt))) v (lending c p m (a, (b, tt)))
 
 abbrev pub MayNext : Capture → Memory → ℕ → ℕ → Found → Type 0
 MayNext c m mask from v = (κs : Lfts 2) × (p : Places) × next-change.Post κs (lending c p m (mask, (from, tt))) v (lending c p m (mask, (from, tt)))
@@ -105,6 +113,8 @@ pub record Held (run : List ℕ) (mark : Option ℕ) (c : Capture) (m : Memory) 
   pub mark-is : markOf (c .trigger) ≡ mark
   pub samples-are : (i : ℕ) → i < length run → sampleOf (c .unitsize) (m .samples) i ≡ at run i
   pub levels-right : Right (at run) (length run) (levels m)
+  -- samples are what their unit's bytes hold
+  pub words : AreWords (at run) (length run)
 
 -- ---- answers
 -- each answer is 01's for the run. A search's count of nodes read is the steps of 01's walk over it (02, CR 3). Rows 1 and 2 refuse no question; 9 refuses get, 10 and 11, `viewRows`, render, and 11 samples
@@ -114,6 +124,8 @@ pub record Answers (run : List ℕ) (c : Capture) (m : Memory) : Type 0 where
       → Answered (MaySamples c m start count output) samplesIn
       (unless (firstOf (copyRow (length run) start count (length output) ∷ [])) (listFrom (at run) start (copied (length run) start count)))
   pub summary-is : (a b : ℕ) → Answered (MaySummary c m a b) summedOf (given (summary (at run) (length run) a b))
+  -- 02, CR 5: "the number of changes in [a,b)"
+  pub density-is : (a b : ℕ) → Answered (MayDensity c m a b) changesOf (given (density (at run) (length run) a b))
   pub next-is : (mask from : ℕ) → Answered (MayNext c m mask from) foundOf (given (nextSearch (at run) (length run) mask from))
   pub previous-is : (mask from : ℕ) → Answered (MayPrevious c m mask from) foundOf (given (previousSearch (at run) (length run) mask from))
   pub burst-is : (mask sample gap tolerance budget : ℕ)
@@ -139,8 +151,11 @@ pub record LookAlike (v : ℕ) (c₁ : Capture) (m₁ : Memory) (c₂ : Capture)
   pub previouses : (mask from : ℕ) → Word mask → Within mask v → Usize from → Agree (MayPrevious c₁ m₁ mask from) (MayPrevious c₂ m₂ mask from) foundOf
   pub bursts : (mask sample gap tolerance budget : ℕ) → Word mask → Within mask v → Usize sample → Usize gap → Usize tolerance → Usize budget
       → Agree (MayBurst c₁ m₁ mask sample gap tolerance budget) (MayBurst c₂ m₂ mask sample gap tolerance budget) burstAs
+  -- 02, CR 5: "Since it tells of every line, .. alikeness covers it only for a viewer who chose all lines": densities, and summaries with their counts
+  pub densities : v ≡ allLines → (a b : ℕ) → Usize a → Usize b → Agree (MayDensity c₁ m₁ a b) (MayDensity c₂ m₂ a b) changesOf
+  pub counts : v ≡ allLines → (a b : ℕ) → Usize a → Usize b → Agree (MaySummary c₁ m₁ a b) (MaySummary c₂ m₂ a b) summedOf
 
--- ---- the claim
+-- ---- the claims
 -- two captures that hold a run each: "Each of these answers .. is 01's for its run", and they look alike exactly when the runs are the same to the viewer
 abbrev pub CapturesAlike : Type 0
 CapturesAlike =
@@ -151,3 +166,10 @@ CapturesAlike =
     → Answers run₁ c₁ m₁
     × Answers run₂ c₂ m₂
     × (LookAlike v c₁ m₁ c₂ m₂ ↔ Same v run₁ mark₁ run₂ mark₂)
+
+-- whatever the call answers of each stored range, `part`, adds up
+abbrev pub Additive : List ℕ → Capture → Memory → Type 0
+Additive run c m = (part : ℕ → ℕ → ℕ) → ((x y : ℕ) → x < y → y ≤ length run → MayDensity c m x y (changes.Count (part x y))) → AddUp run part
+
+abbrev pub DensitiesAdd : Type 0
+DensitiesAdd = (run : List ℕ) (mark : Option ℕ) (c : Capture) (m : Memory) → Held run mark c m → Additive run c m

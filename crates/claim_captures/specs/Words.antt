@@ -1,12 +1,14 @@
 -- Words that every claim about captures uses: lent memory, what a call may answer, the ranges of arguments, and runs that are the same to a viewer.
 use mathlib.Core.Path.{_≡_}
 use mathlib.Core.Bool.{true}
-use mathlib.Core.List.{List}
+use mathlib.Core.List.{List, [], _∷_}
 use mathlib.Core.Option.{Option}
-use Prim.Native.Nat.{ℕ, _^_, _<_}
+use Prim.Native.Nat.{ℕ, _+_, _^_, _≤_, _<_}
 use lib.Ieee.{Float, binary64, fits}
 use lib.ListN.{length, getD}
 use denote.Ref.{RefT, at-last}
+use Rattle.rules.specs.SampleBytes.{Bytes}
+use Rattle.rules.specs.Cutting.{Rising, cutEnd, partsSum, bordersSum}
 use Rattle.claim_alike.specs.Alike as alike
 use Rattle.node.specs.Memory.{levelOf}
 
@@ -46,6 +48,17 @@ at run i = getD run i 0
 pub record Same (v : ℕ) (run₁ : List ℕ) (mark₁ : Option ℕ) (run₂ : List ℕ) (mark₂ : Option ℕ) : Type 0 where
   pub marks : mark₁ ≡ mark₂
   pub runs : alike.Same v (at run₁) (length run₁) (at run₂) (length run₂)
+
+-- a list of pushes or appends, each of them bytes
+abbrev pub AreBytes : List (List ℕ) → Type 0
+AreBytes [] = Unit {0}
+AreBytes (b ∷ bs) = Bytes b × AreBytes bs
+
+-- 02, CR 5: "Over any cutting of a stored range into parts of at least one sample, the parts and their borders add up to the whole."; `part x y` is that of [x, y)
+abbrev pub AddUp : List ℕ → (ℕ → ℕ → ℕ) → Type 0
+AddUp run part =
+    (a first : ℕ) (rest : List ℕ) → Rising a (first ∷ rest) → cutEnd first rest ≤ length run
+    → partsSum part a (first ∷ rest) + bordersSum (at run) (first ∷ rest) ≡ part a (cutEnd first rest)
 
 -- ---- what a call may answer
 -- whatever a call may answer comes to x, and there is something that it may answer

@@ -11,8 +11,8 @@ use lib.ListN.{length, drop}
 use contract.Lifetimes.{Lfts}
 use denote.Ref.{RefT, at-last}
 use Rattle.rules.specs.Sample.{sampleOf, listFrom}
-use Rattle.rules.specs.Node.{Node}
-use Rattle.rules.specs.Search.{summary}
+use Rattle.rules.specs.Node.{Node, Lines, linesOf}
+use Rattle.rules.specs.Search.{summary, density}
 use Rattle.rules.specs.Walk.{Walked, Counted, nextSearch, previousSearch}
 use Rattle.rules.specs.Burst.{Burst, burstSearch}
 use Rattle.rules.specs.Pixel.{pixelRange, render}
@@ -35,13 +35,13 @@ use Rattle.render.specs.Render as drawing
 use Rattle.render.proofs.Answers.{render-row, render-refused}
 use Rattle.codes.specs.Code.{plain, perhaps, Out}
 use Rattle.codes.specs.Sought.{Sought}
-use Rattle.codes.specs.Record.{captureIn, nodeNumbers, burstNumbers, number}
+use Rattle.codes.specs.Record.{captureIn, linesNumbers, nodeNumbers, countNumber, burstNumbers, number}
 use Rattle.logic_core.specs.Asked.{DrawsOut}
 use Rattle.claim_captures.specs.Words.{Memory, levels, Ref, Places, at, Answered}
 use Rattle.claim_captures.specs.Claim.{Held}
 use Rattle.claim_captures.specs.Claim as calls
 use Rattle.claim_captures.proofs.Answers.{answers, agree, right, asked-run, copied-inside, drawn-for, anywhere, somewhere}
-use Rattle.claim_exports.specs.Questions.{One, markIn, MayGet, MaySamples, MaySummary, MayNext, MayPrevious, MayBurst, MayRender, found, bursted, drawn, viewOf, Answers}
+use Rattle.claim_exports.specs.Questions.{One, markIn, MayGet, MaySamples, MaySummary, MayDensity, MayNext, MayPrevious, MayBurst, MayRender, found, bursted, drawn, viewOf, Answers}
 use Rattle.claim_exports.specs.Questions as told
 
 -- what a question of the calls answers is what its contract asks for
@@ -58,9 +58,9 @@ mark-held numbers = go (eqb (markedIn numbers) 0)
 
 -- ---- a code and numbers for each of 01's answers, and no others
 -- all numbers behind a pointer are written
-pub three : (n : Node) (old : List ℕ) → length old ≡ 3 → nodeNumbers n old ≡ n .first ∷ n .last ∷ n .toggles ∷ []
+pub three : (n : Lines) (old : List ℕ) → length old ≡ 3 → linesNumbers n old ≡ n .first ∷ n .last ∷ n .toggles ∷ []
 unfolding listFrom
-three n old size = ap (nodeNumbers n) (list-whole 3 old size)
+three n old size = ap (linesNumbers n) (list-whole 3 old size)
 
 four : (b : Burst) (old : List ℕ) → length old ≡ 4 → burstNumbers b old ≡ b .first ∷ b .last ∷ b .jumps-end ∷ b .jumps-start ∷ []
 unfolding listFrom
@@ -80,14 +80,17 @@ unfolding copiedTo
 copies-only zero k f i output old v out e = λ j. record { code = out .code-is j; copied = (out .value-is ∙ sym (list-length f i k)) j; output = (e ∙ ap (λ (x : ℕ). listFrom f i k ++ drop x output) (sym (list-length f i k))) j }
 copies-only (suc n) k f i output old v out e = λ j. record { code = out .code-is j; copied = out .value-is j; output = (e ∙ sym (over-none f i output)) j }
 
-module _ (old : List ℕ) (size : length old ≡ 3) where
-  pub summed-only : (o : Option Node) (v : told.Summed) → Out nodeNumbers (perhaps (given o)) (v .code) old (v .node) → v ≡ told.summed o old
-  summed-only none v out = λ i. record { code = out .code-is i; node = out .value-is i }
-  summed-only (some n) v out = λ i. record { code = out .code-is i; node = (out .value-is ∙ three n old size) i }
+module _ (old : List ℕ) (size : length old ≡ 3) (count : ℕ) where
+  abbrev SummedOut : Answer (Option Node) → told.Summed → Type 0
+  SummedOut x v = Out nodeNumbers (perhaps x) (v .code) old (v .node) × Out countNumber (perhaps x) (v .code) count (v .count)
 
-  pub summed-out : (o : Option Node) → Out nodeNumbers (perhaps (given o)) (told.summed o old .code) old (told.summed o old .node)
-  summed-out none = record { code-is = refl; value-is = refl }
-  summed-out (some n) = record { code-is = refl; value-is = sym (three n old size) }
+  summed-only : (o : Option Node) (v : told.Summed) → SummedOut (given o) v → v ≡ told.summed o old count
+  summed-only none v out = λ i. record { code = out .0 .code-is i; node = out .0 .value-is i; count = out .1 .value-is i }
+  summed-only (some n) v out = λ i. record { code = out .0 .code-is i; node = (out .0 .value-is ∙ three (linesOf n) old size) i; count = out .1 .value-is i }
+
+  summed-out : (o : Option Node) → SummedOut (given o) (told.summed o old count)
+  summed-out none = (record { code-is = refl; value-is = refl }, record { code-is = refl; value-is = refl })
+  summed-out (some n) = (record { code-is = refl; value-is = sym (three (linesOf n) old size) }, record { code-is = refl; value-is = refl })
 
 module _ (steps old old-read : ℕ) where
   found-only : (o : Option ℕ) (v : told.Found) → Sought number (given (record { found = o; steps = steps })) (v .code) old (v .place) old-read (v .read) → v ≡ found o steps old
@@ -152,20 +155,31 @@ module _ {run : List ℕ} {mark : Option ℕ} (numbers : List ℕ) (m : Memory) 
       allowed = (([], ([], ([], ([], ([], tt))))), anywhere, somewhere, anywhere, nowhere, record { count-is = got-out (unless copy-refusal k) old; output-is = refl });
     }
 
-  summary-is : (a b : ℕ) (node : List ℕ) → length node ≡ 3 → Answered (MaySummary numbers m a b node) (λ v. v) (told.summed (summary (at run) (length run) a b) node)
-  summary-is a b node size =
+  summary-is : (a b : ℕ) (node : List ℕ) → length node ≡ 3 → (count : ℕ) → Answered (MaySummary numbers m a b node count) (λ v. v) (told.summed (summary (at run) (length run) a b) node count)
+  summary-is a b node size count =
       let e = asked-is (below .summary-is a b) in
       let o = summary (at run) (length run) a b in
       record {
-        is = λ v may. summed-only node size o v (subst (λ (x : Answer (Option Node)). Out nodeNumbers (perhaps x) (v .code) node (v .node)) e (may .4));
-        answer = told.summed o node;
+        is = λ v may. summed-only node size count o v (subst (λ (x : Answer (Option Node)). SummedOut node size count x v) e (may .5));
+        answer = told.summed o node count;
         allowed = (
-          ([], ([], ([], ([], tt)))),
+          ([], ([], ([], ([], ([], tt))))),
           anywhere,
           somewhere,
           anywhere,
-          subst⁻¹ (λ (x : Answer (Option Node)). Out nodeNumbers (perhaps x) (told.summed o node .code) node (told.summed o node .node)) e (summed-out node size o),
+          nowhere,
+          subst⁻¹ (λ (x : Answer (Option Node)). SummedOut node size count x (told.summed o node count)) e (summed-out node size count o),
         );
+      }
+
+  density-is : (a b count : ℕ) → Answered (MayDensity numbers m a b count) (λ v. v) (told.got (given (density (at run) (length run) a b)) count)
+  density-is a b count =
+      let e = asked-is (below .density-is a b) in
+      let x = given (density (at run) (length run) a b) in
+      record {
+        is = λ v may. got-only x count v (subst (λ (y : Answer ℕ). Out number (plain y) (v .code) count (v .value)) e (may .4));
+        answer = told.got x count;
+        allowed = (([], ([], ([], ([], tt)))), anywhere, somewhere, nowhere, subst⁻¹ (λ (y : Answer ℕ). Out number (plain y) (told.got x count .code) count (told.got x count .value)) e (got-out x count));
       }
 
   next-is : (mask from place read : ℕ)
@@ -269,4 +283,4 @@ module _ {run : List ℕ} {mark : Option ℕ} (numbers : List ℕ) (m : Memory) 
     }
 
   pub exports-answer : Answers run numbers m
-  exports-answer = record { get-is = get-is; samples-are = samples-are; summary-is = summary-is; next-is = next-is; previous-is = previous-is; burst-is = burst-is; render-is = render-is }
+  exports-answer = record { get-is = get-is; samples-are = samples-are; summary-is = summary-is; density-is = density-is; next-is = next-is; previous-is = previous-is; burst-is = burst-is; render-is = render-is }

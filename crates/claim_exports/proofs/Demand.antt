@@ -1,8 +1,8 @@
--- Demand 3 over the exports: a recording's numbers and memory hold its run, so its answers are 01's, and two look alike exactly when their runs are the same to the viewer.
+-- Demand 3 over the exports: a recording's numbers and memory hold its run, so its answers are 01's, and two look alike exactly when their runs are the same to the viewer. So its densities add up.
 use mathlib.Core.Path.{sym, _∙_}
-use Rattle.claim_exports.specs.Claim.{Recording, Selects, asked, Demand3}
+use Rattle.claim_exports.specs.Claim.{Recording, Selects, asked, Demand3, DensitiesAdd}
 use Rattle.claim_exports.proofs.Answers.{mark-held, exports-answer}
-use Rattle.claim_exports.proofs.Alike.{exports-alike}
+use Rattle.claim_exports.proofs.Alike.{exports-alike, additive}
 use Rattle.claim_exports.proofs.Recordings.{recording-held, recording-codes}
 
 selects : (r : Recording) → Selects r
@@ -20,3 +20,6 @@ demand3 one two v = (
   exports-answer (asked two) (two .memory .store) (recording-held two),
   exports-alike (asked one) (one .memory .store) (asked two) (two .memory .store) (recording-held one) (recording-held two) v,
 )
+
+pub densities-add : DensitiesAdd
+densities-add r = additive (asked r) (r .memory .store) (recording-held r)

@@ -20,7 +20,7 @@ use Rattle.logic_core.specs.Recorder.{leftFor}
 use Rattle.claim_captures.specs.Words.{levels}
 use Rattle.claim_captures.specs.Words as words
 use Rattle.claim_captures.proofs.Answers.{anywhere, somewhere, four-levels}
-use Rattle.claim_exports.specs.Claim.{Memory, Given, settings, MayPush, Pushing, AreBytes, Existence}
+use Rattle.claim_exports.specs.Claim.{Memory, Given, settings, MayPush, Pushing, Existence}
 use Rattle.claim_exports.specs.Claim.Pushing.{stop, step}
 use Rattle.claim_exports.specs.Filled.{MayAppend, Appending}
 use Rattle.claim_exports.specs.Filled as filled
@@ -144,7 +144,7 @@ appends-for (b ∷ bs) numbers m =
     record { codes = refusalOf (captureIn numbers) (m .samples) (levels m) b ∷ rest .codes; last = rest .last; memory = rest .memory; are = appends-step (may-append numbers m b) (rest .are) }
 
 pub filled-existence : filled.Existence
-filled-existence channels capacity m ok blank size appends = record {
+filled-existence channels capacity m ok blank size appends are = record {
   filling = record {
     channels = channels;
     capacity = capacity;
@@ -159,6 +159,7 @@ filled-existence channels capacity m ok blank size appends = record {
       subst⁻¹ (λ (n : ℕ). Out storeNumbers (plain (unless n (fresh channels capacity))) 0 blank first) ok (record { code-is = refl; value-is = refl }),
     );
     appends = appends;
+    are-bytes = are;
     codes = done .codes;
     numbers = done .last;
     memory = done .memory;

@@ -25,10 +25,10 @@ use Rattle.claim_appends.specs.Claim.Appending.{stop as called-stop, step as ca
 use Rattle.claim_appends.proofs.Stored.{appends-stored}
 use Rattle.claim_appends.proofs.Existence.{appended-for}
 use Rattle.claim_exports.specs.Questions.{markIn}
-use Rattle.claim_exports.specs.Filled.{MayStore, MayAppend, Appending, Filling, stored, Stores, Filled}
+use Rattle.claim_exports.specs.Filled.{MayStore, MayAppend, Appending, Filling, stored, Stores, Filled, DensitiesAdd}
 use Rattle.claim_exports.specs.Filled.Appending.{stop, step}
 use Rattle.claim_exports.proofs.Answers.{mark-held, exports-answer}
-use Rattle.claim_exports.proofs.Alike.{exports-alike}
+use Rattle.claim_exports.proofs.Alike.{exports-alike, additive}
 
 -- ---- start
 -- code 0: no row refuses, and the numbers are the new store's
@@ -108,6 +108,7 @@ module _ (a : Filling) where
           ∙ sym (ap (λ (n : ℕ). unless n (fresh (a .channels) (a .capacity))) (started (a .channels) (a .capacity) (a .before) (a .blank) (a .five) (a .fresh) (a .started) .0)),
     );
     appends = a .appends;
+    are-bytes = a .are-bytes;
     numbers = done .said;
     capture = captureIn (a .numbers);
     memory = a .memory;
@@ -132,3 +133,6 @@ filled one two v = (
   exports-answer (two .numbers) (two .memory) (filling-held two),
   exports-alike (one .numbers) (one .memory) (two .numbers) (two .memory) (filling-held one) (filling-held two) v,
 )
+
+pub densities-add : DensitiesAdd
+densities-add a = additive (a .numbers) (a .memory) (filling-held a)

@@ -28,14 +28,14 @@ use Rattle.codes.specs.Record.{captureIn}
 use Rattle.feeder_codes.specs.Recorder.{wishIn, begunNumbers, replyCode, numbersAfter}
 use Rattle.feeder_codes.proofs.ReadBack.{start-back, begun-size, store-first, after-size, push-back}
 use Rattle.logic_core.specs.Recorder.{leftFor, PushesOut}
-use Rattle.claim_captures.specs.Words.{levels}
+use Rattle.claim_captures.specs.Words.{levels, AreBytes}
 use Rattle.claim_captures.specs.Claim.{Held}
 use Rattle.claim_captures.proofs.Answers.{anywhere, somewhere}
 use Rattle.claim_recording.specs.Claim as calls
 use Rattle.claim_recording.specs.Claim.Pushing.{stop as called-stop, step as called-step}
 use Rattle.claim_recording.proofs.Existence.{pushed-for}
 use Rattle.claim_recording.proofs.Selection.{selection}
-use Rattle.claim_exports.specs.Claim.{Memory, Given, settings, MayStart, MayPush, Pushing, AreBytes, Recording, ruled, run, mark, asked, codeOf}
+use Rattle.claim_exports.specs.Claim.{Memory, Given, settings, MayStart, MayPush, Pushing, Recording, ruled, run, mark, asked, codeOf}
 use Rattle.claim_exports.specs.Claim.Pushing.{stop, step}
 
 abbrev lent : Memory → calls.Memory
@@ -135,6 +135,7 @@ module _ (r : Recording) where
         ap (λ (c : Recorder). given (record { recorder = c; was-cut = begun (settings (r .setup)) .was-cut })) (fresh-is (r .setup) (r .before) (r .blank) (r .seventeen) (r .cut) (r .fresh) (r .was-cut) (r .started))
         ∙ sym (ap (λ (n : ℕ). unless n (begun (settings (r .setup)))) (ap (λ (l : Lent). startRefusal (settings (r .setup)) l (length (r .before .ring))) (lengths-are (r .before)) ∙ started (r .setup) (r .before) (r .blank) (r .seventeen) (r .cut) (r .fresh) (r .was-cut) (r .started) .0));
     pushes = r .pushes;
+    are-bytes = r .are-bytes;
     replies = done .replies;
     feeder = feederFrom (r .numbers);
     memory = lent (r .memory);

@@ -11,7 +11,6 @@ use lib.Ieee.{Float}
 use lib.ListN.{length, take}
 use contract.Lifetimes.{Lfts}
 use denote.Ref.{at-last}
-use Rattle.rules.specs.SampleBytes.{Bytes}
 use Rattle.rules.specs.Selection.{Settings, Rule, ruleOf, runOf, Reply, refused, going-on, complete, repliesOf}
 use Rattle.rules.specs.Selection as selected
 use Rattle.rules.specs.Refusal.{startRefusal}
@@ -22,9 +21,9 @@ use Rattle.term_bytes.specs.Bytes.{termsIn}
 use Rattle.feeder_codes.specs.Recorder.{wishIn}
 use Rattle.logic_core.proofs.recorder.lc_feeder_start.Reads as lc-feeder-start
 use Rattle.logic_core.proofs.recorder.lc_push.Reads as lc-push
-use Rattle.claim_captures.specs.Words.{levels, Ref, Places, lending, Same}
+use Rattle.claim_captures.specs.Words.{levels, Ref, Places, lending, Same, AreBytes}
 use Rattle.claim_captures.specs.Words as words
-use Rattle.claim_exports.specs.Questions.{One, markIn, Answers, LookAlike}
+use Rattle.claim_exports.specs.Questions.{One, markIn, Answers, LookAlike, Additive}
 
 -- ---- recordings
 -- "the memory lent to it, whatever that holds": a store's, and the ring
@@ -68,10 +67,6 @@ pub data Pushing : List ℕ → Memory → List (List ℕ) → List ℕ → List
       → MayPush numbers m bytes code numbers′ m′
       → Pushing numbers′ m′ pushes codes numbers″ m″
       → Pushing numbers m (bytes ∷ pushes) (code ∷ codes) numbers″ m″
-
-abbrev pub AreBytes : List (List ℕ) → Type 0
-AreBytes [] = Unit {0}
-AreBytes (b ∷ bs) = Bytes b × AreBytes bs
 
 -- "A fresh recorder is the record that start gives": code 0, whatever the numbers and the flag held; then a list of pushes, refused ones included
 pub record Recording : Type 0 where
@@ -142,3 +137,7 @@ Demand3 =
     × Answers (run one) (asked one) (one .memory .store)
     × Answers (run two) (asked two) (two .memory .store)
     × (LookAlike v (asked one) (one .memory .store) (asked two) (two .memory .store) ↔ Same v (run one) (mark one) (run two) (mark two))
+
+-- 02, CR 5: what lc_density gives after a recording adds up
+abbrev pub DensitiesAdd : Type 0
+DensitiesAdd = (r : Recording) → Additive (run r) (asked r) (r .memory .store)

@@ -1,5 +1,5 @@
 -- Stores that a program filled with lc_start and lc_append, to be held beside include/logic_core.h: what they hold and answer, and when two look alike. 01: Store.
--- What is asked of them is in Questions. No range is asked of channels, capacity, memory and bytes; a record's numbers are five.
+-- What is asked of them is in Questions. No range is asked of channels, capacity and memory; an append is of bytes, and a record's numbers are five.
 use mathlib.Core.Path.{_≡_}
 use mathlib.Core.List.{List, [], _∷_}
 use mathlib.Core.Logic.{_↔_}
@@ -14,9 +14,9 @@ use Rattle.capture.specs.Record.{lentOf}
 use Rattle.capture.specs.Numbers.{lenIn}
 use Rattle.logic_core.proofs.lc_start.Reads as lc-start
 use Rattle.logic_core.proofs.lc_append.Reads as lc-append
-use Rattle.claim_captures.specs.Words.{Memory, levels, Ref, Places, lending, Same}
+use Rattle.claim_captures.specs.Words.{Memory, levels, Ref, Places, lending, Same, AreBytes}
 use Rattle.claim_appends.specs.Claim.{storedFrom, numbersFrom}
-use Rattle.claim_exports.specs.Questions.{markIn, Answers, LookAlike}
+use Rattle.claim_exports.specs.Questions.{markIn, Answers, LookAlike, Additive}
 
 -- lc_start may give a code and leave these numbers
 abbrev pub MayStore : ℕ → ℕ → Memory → List ℕ → ℕ → List ℕ → Type 0
@@ -48,6 +48,7 @@ pub record Filling : Type 0 where
   pub fresh : List ℕ
   pub started : MayStore channels capacity before blank 0 fresh
   pub appends : List (List ℕ)
+  pub are-bytes : AreBytes appends
   pub codes : List ℕ
   pub numbers : List ℕ
   pub memory : Memory
@@ -76,7 +77,7 @@ pub record Exists (channels capacity : ℕ) (m : Memory) (blank : List ℕ) (app
 abbrev pub Existence : Type 0
 Existence =
     (channels capacity : ℕ) (m : Memory) → storeRefusal (fresh channels capacity) (lentOf (m .samples) (levels m)) ≡ 0
-    → (blank : List ℕ) → length blank ≡ 5 → (appends : List (List ℕ)) → Exists channels capacity m blank appends
+    → (blank : List ℕ) → length blank ≡ 5 → (appends : List (List ℕ)) → AreBytes appends → Exists channels capacity m blank appends
 
 -- what is stored, what is answered, and when two look alike
 abbrev pub Filled : Type 0
@@ -87,3 +88,7 @@ Filled =
     × Answers (stored one) (one .numbers) (one .memory)
     × Answers (stored two) (two .numbers) (two .memory)
     × (LookAlike v (one .numbers) (one .memory) (two .numbers) (two .memory) ↔ Same v (stored one) none (stored two) none)
+
+-- 02, CR 5: what lc_density gives of them adds up
+abbrev pub DensitiesAdd : Type 0
+DensitiesAdd = (a : Filling) → Additive (stored a) (a .numbers) (a .memory)

@@ -5,15 +5,15 @@ use mathlib.Core.Path.{_≡_}
 use mathlib.Core.Bool.{cond}
 use mathlib.Core.List.{List, [], _∷_, _++_}
 use mathlib.Core.Option.{Option, none, some}
-use Prim.Native.Nat.{ℕ, _*_}
+use Prim.Native.Nat.{ℕ, _*_, _≤_, _<_}
 use lib.Dec.{eqb}
 use lib.Ieee.{Float}
 use lib.ListN.{length, drop}
 use contract.Lifetimes.{Lfts}
 use denote.Ref.{RefT, at-last}
-use Rattle.rules.specs.Sample.{listFrom, Word, Within}
-use Rattle.rules.specs.Node.{Node}
-use Rattle.rules.specs.Search.{summary}
+use Rattle.rules.specs.Sample.{listFrom, Word, allLines, Within}
+use Rattle.rules.specs.Node.{Node, Lines}
+use Rattle.rules.specs.Search.{summary, density}
 use Rattle.rules.specs.Walk.{Walked, Counted, nextSearch, previousSearch}
 use Rattle.rules.specs.Burst.{Burst, burstSearch}
 use Rattle.rules.specs.Pixel.{View, render, cutPixels}
@@ -23,11 +23,12 @@ use Rattle.capture.specs.Numbers.{lenIn, markedIn, markPlaceIn}
 use Rattle.logic_core.proofs.lc_get.Reads as lc-get
 use Rattle.logic_core.proofs.lc_samples.Reads as lc-samples
 use Rattle.logic_core.proofs.lc_summary.Reads as lc-summary
+use Rattle.logic_core.proofs.lc_density.Reads as lc-density
 use Rattle.logic_core.proofs.lc_next_change.Reads as lc-next-change
 use Rattle.logic_core.proofs.lc_prev_change.Reads as lc-prev-change
 use Rattle.logic_core.proofs.lc_burst_at.Reads as lc-burst-at
 use Rattle.logic_core.proofs.lc_render.Reads as lc-render
-use Rattle.claim_captures.specs.Words.{Memory, Ref, Places, lending, at, Answered, Agree, Usize, F64}
+use Rattle.claim_captures.specs.Words.{Memory, Ref, Places, lending, at, AddUp, Answered, Agree, Usize, F64}
 
 -- ---- the record's numbers: which is which, capture.specs.Numbers says
 abbrev pub markIn : List ℕ → Option ℕ
@@ -47,7 +48,7 @@ MayGet numbers m i value v =
     (κs : Lfts 4) × (n : Ref) × (p : Places) × (o : One)
     × lc-get.Post κs (lending (at-last n numbers) p m (i, (at-last o value, tt))) (v .code) (lending (at-last n numbers) p m (i, (at-last o (v .value), tt)))
 
--- 0 with the sample; a refusal's number, and what stood there
+-- 0 with the number; a refusal's, and what stood there
 abbrev pub got : Answer ℕ → ℕ → Got
 got (refused n) old = record { code = n; value = old }
 got (given x) old = record { code = 0; value = x }
@@ -68,20 +69,36 @@ abbrev pub copies : Answer (List ℕ) → List ℕ → ℕ → Copied
 copies (refused n) output old = record { code = n; copied = old; output = output }
 copies (given samples) output old = record { code = 0; copied = length samples; output = samples ++ drop (length samples) output }
 
--- ---- lc_summary: the code, and the three numbers behind `node`
+-- ---- lc_summary: the code, the three numbers behind `node`, and the one behind `count`
 pub record Summed : Type 0 where
   pub code : ℕ
   pub node : List ℕ
+  pub count : ℕ
 
-abbrev pub MaySummary : List ℕ → Memory → ℕ → ℕ → List ℕ → Summed → Type 0
-MaySummary numbers m a b node v =
-    (κs : Lfts 4) × (n : Ref) × (p : Places) × (o : Ref)
-    × lc-summary.Post κs (lending (at-last n numbers) p m (a, (b, (at-last o node, tt)))) (v .code) (lending (at-last n numbers) p m (a, (b, (at-last o (v .node), tt))))
+abbrev pub MaySummary : List ℕ → Memory → ℕ → ℕ → List ℕ → ℕ → Summed → Type 0
+MaySummary numbers m a b node count v =
+    (κs : Lfts 5) × (n : Ref) × (p : Places) × (o : Ref) × (k : One)
+    × lc-summary.Post κs (lending (at-last n numbers) p m (a, (b, (at-last o node, (at-last k count, tt))))) (v .code) (lending (at-last n numbers) p m (a, (b, (at-last o (v .node), (at-last k (v .count), tt)))))
 
--- 0 with first, last and toggles; 100 where the range is empty
-abbrev pub summed : Option Node → List ℕ → Summed
-summed none old = record { code = 100; node = old }
-summed (some n) old = record { code = 0; node = n .first ∷ n .last ∷ n .toggles ∷ [] }
+-- 0 with first, last, toggles and the count; 100 where the range is empty
+abbrev pub summed : Option Node → List ℕ → ℕ → Summed
+summed none old count = record { code = 100; node = old; count = count }
+summed (some n) old count = record { code = 0; node = n .first ∷ n .last ∷ n .toggles ∷ []; count = n .count }
+
+-- what is told of chosen lines has no count
+pub record CutSummed : Type 0 where
+  pub code : ℕ
+  pub node : List ℕ
+
+abbrev pub cutSummed : Option Lines → List ℕ → CutSummed
+cutSummed none old = record { code = 100; node = old }
+cutSummed (some n) old = record { code = 0; node = n .first ∷ n .last ∷ n .toggles ∷ [] }
+
+-- ---- lc_density: the code, and the number behind `count`; `got` says what they are
+abbrev pub MayDensity : List ℕ → Memory → ℕ → ℕ → ℕ → Got → Type 0
+MayDensity numbers m a b count v =
+    (κs : Lfts 4) × (n : Ref) × (p : Places) × (k : One)
+    × lc-density.Post κs (lending (at-last n numbers) p m (a, (b, (at-last k count, tt)))) (v .code) (lending (at-last n numbers) p m (a, (b, (at-last k (v .value), tt))))
 
 -- ---- lc_next_change and lc_prev_change: the code, and the numbers behind `place` and `read`
 pub record Found : Type 0 where
@@ -145,7 +162,9 @@ pub record Answers (run : List ℕ) (numbers : List ℕ) (m : Memory) : Type 0 w
   pub samples-are : (start count : ℕ) (output : List ℕ) (old : ℕ)
       → Answered (MaySamples numbers m start count output old) (λ v. v)
       (copies (unless (firstOf (copyRow (length run) start count (length output) ∷ [])) (listFrom (at run) start (copied (length run) start count))) output old)
-  pub summary-is : (a b : ℕ) (node : List ℕ) → length node ≡ 3 → Answered (MaySummary numbers m a b node) (λ v. v) (summed (summary (at run) (length run) a b) node)
+  pub summary-is : (a b : ℕ) (node : List ℕ) → length node ≡ 3 → (count : ℕ) → Answered (MaySummary numbers m a b node count) (λ v. v) (summed (summary (at run) (length run) a b) node count)
+  -- 02, CR 5: "the number of changes in [a,b)"
+  pub density-is : (a b count : ℕ) → Answered (MayDensity numbers m a b count) (λ v. v) (got (given (density (at run) (length run) a b)) count)
   pub next-is : (mask from place read : ℕ)
       → Answered (MayNext numbers m mask from place read) (λ v. v) (found (nextSearch (at run) (length run) mask from .found) (nextSearch (at run) (length run) mask from .steps) place)
   pub previous-is : (mask from place read : ℕ)
@@ -158,8 +177,8 @@ pub record Answers (run : List ℕ) (numbers : List ℕ) (m : Memory) : Type 0 w
       (drawn (unless (firstOf (viewRows (viewOf start spp) width (length output))) (render (at run) (length run) (viewOf start spp) width)) width output)
 
 -- ---- looking alike
--- "Cutting down takes first, last and toggles AND that mask"
-abbrev pub cutNode : ℕ → Summed → Summed
+-- "Cutting down takes first, last and toggles AND that mask", and no count
+abbrev pub cutNode : ℕ → Summed → CutSummed
 cutNode v t = record { code = t .code; node = cutPixels v (t .node) }
 
 abbrev pub cutDrawn : ℕ → Drawn → Drawn
@@ -172,7 +191,7 @@ pub record LookAlike (v : ℕ) (n₁ : List ℕ) (m₁ : Memory) (n₂ : List �
   pub lens : lenIn n₁ ≡ lenIn n₂
   pub marks : markIn n₁ ≡ markIn n₂
   -- "the same summaries and pixels cut down to those lines,"
-  pub summaries : (a b : ℕ) → Usize a → Usize b → (node : List ℕ) → length node ≡ 3 → Agree (MaySummary n₁ m₁ a b node) (MaySummary n₂ m₂ a b node) (cutNode v)
+  pub summaries : (a b : ℕ) → Usize a → Usize b → (node : List ℕ) → length node ≡ 3 → (count : ℕ) → Agree (MaySummary n₁ m₁ a b node count) (MaySummary n₂ m₂ a b node count) (cutNode v)
   pub pixels : (start spp : Float) (width : ℕ) → F64 start → F64 spp → Usize width → (output : List ℕ) → Usize (length output)
       → Agree (MayRender n₁ m₁ start spp width output) (MayRender n₂ m₂ start spp width output) (cutDrawn v)
   -- "and the same next, previous and burst answers, jumps included, for every mask within them"; each with the nodes read (02, CR 3)
@@ -181,3 +200,12 @@ pub record LookAlike (v : ℕ) (n₁ : List ℕ) (m₁ : Memory) (n₂ : List �
   pub bursts : (mask sample gap tolerance budget : ℕ) → Word mask → Within mask v → Usize sample → Usize gap → Usize tolerance → Usize budget
       → (ends : List ℕ) → length ends ≡ 4 → (read : ℕ)
       → Agree (MayBurst n₁ m₁ mask sample gap tolerance budget ends read) (MayBurst n₂ m₂ mask sample gap tolerance budget ends read) (λ x. x)
+  -- 02, CR 5: "Since it tells of every line, .. alikeness covers it only for a viewer who chose all lines": densities, and summaries with their counts
+  pub densities : v ≡ allLines → (a b : ℕ) → Usize a → Usize b → (count : ℕ) → Agree (MayDensity n₁ m₁ a b count) (MayDensity n₂ m₂ a b count) (λ x. x)
+  pub counts : v ≡ allLines → (a b : ℕ) → Usize a → Usize b → (node : List ℕ) → length node ≡ 3 → (count : ℕ) → Agree (MaySummary n₁ m₁ a b node count) (MaySummary n₂ m₂ a b node count) (λ x. x)
+
+-- ---- densities add up
+-- whatever lc_density puts behind `count` for each stored range, `part`, adds up
+abbrev pub Additive : List ℕ → List ℕ → Memory → Type 0
+Additive run numbers m =
+    (part : ℕ → ℕ → ℕ) (count : ℕ) → ((x y : ℕ) → x < y → y ≤ length run → MayDensity numbers m x y count (record { code = 0; value = part x y })) → AddUp run part

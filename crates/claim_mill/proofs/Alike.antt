@@ -53,7 +53,7 @@ module _ (grant : ℕ) {run₁ : List ℕ} {mark₁ : Option ℕ} (c₁ : Captur
   a₂ = mill-answers c₂ m₂ two grant
 
   rules : Alike grant (at run₁) (length run₁) (at run₂) (length run₂)
-  rules = same-alike grant (at run₁) (length run₁) (at run₂) (length run₂) (same .runs)
+  rules = same-alike grant (at run₁) (length run₁) (at run₂) (length run₂) (one .words) (two .words) (same .runs)
 
   -- the same rows, and where they do not refuse the same answer by the rules
   both : {A : Type 0} (rows : Option ℕ → ℕ → List Row) (rule : (ℕ → ℕ) → Option ℕ → ℕ → A)

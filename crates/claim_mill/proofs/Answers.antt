@@ -15,7 +15,7 @@ use borrow.Author.Tests.{leb-false}
 use denote.Ref.{at-last}
 use Rattle.rules.specs.Reading.{copiedTo}
 use Rattle.rules.specs.Sample.{sampleOf, listFrom, cutLines}
-use Rattle.rules.specs.Node.{nodeOf}
+use Rattle.rules.specs.Node.{Lines, nodeOf}
 use Rattle.rules.specs.Search.{summary, cutSummary}
 use Rattle.rules.specs.Walk.{Counted, through, nextSearch, previousSearch}
 use Rattle.rules.specs.Burst.{burstSearch}
@@ -34,12 +34,14 @@ use Rattle.capture.specs.declared.Copied.{Copied}
 use Rattle.capture.specs.declared.Copied.the-variants as copies
 use Rattle.capture.specs.Record.{markOf, storeOf, lentOf}
 use Rattle.capture.specs.Calls.{gotOf, copiedOf}
-use Rattle.summary.specs.Summary.{summedOf, summed}
+use Rattle.summary.specs.Summary.{summed}
 use Rattle.pixel.specs.declared.View.{View}
 use Rattle.pixel.specs.Ranges.{viewAs}
 use Rattle.mill_read.specs.declared.Bounded.{Bounded}
 use Rattle.mill_read.specs.declared.Bounded.the-variants as bounded
-use Rattle.mill_read.specs.Read.{Extent, boundedOf, extentFor}
+use Rattle.mill_read.specs.declared.Shown.{Shown}
+use Rattle.mill_read.specs.declared.Shown.the-variants as shown-as
+use Rattle.mill_read.specs.Read.{Extent, boundedOf, extentFor, shownOf}
 use Rattle.mill_read.proofs.Answers.{summary-right}
 use Rattle.mill_search.specs.declared.Found.{Found}
 use Rattle.mill_search.specs.declared.Found.the-variants as found
@@ -51,13 +53,18 @@ use Rattle.mill_render.specs.Render.{millDrawn}
 use Rattle.mill_render.proofs.Answers.{render-row}
 use Rattle.claim_captures.specs.Words.{Memory, levels, Ref, at, Answered}
 use Rattle.claim_captures.specs.Claim.{samplesIn, pixelsIn, Held}
-use Rattle.claim_captures.proofs.Answers.{got-for, copied-for, summed-for, counted-for, drawn-for, seen-as, copy-seen, copied-list, copied-inside, anywhere, somewhere, allowing, agree, right, asked-run}
+use Rattle.claim_captures.proofs.Answers.{got-for, copied-for, counted-for, drawn-for, seen-as, copy-seen, copied-list, copied-inside, anywhere, somewhere, allowing, agree, right, asked-run}
 use Rattle.claim_mill.specs.Claim.{MayExtent, MayGet, MaySamples, MaySummary, MayNext, MayPrevious, MayBurst, MayRender, place, MillAnswers}
 
 -- ---- an answer for each value
 bounded-for : (x : Answer Extent) → (v : Bounded) × (boundedOf v ≡ x)
 bounded-for (refused n) = (bounded.Refused n, refl)
 bounded-for (given e) = (bounded.Run (record { first = e .first; end = e .end; marked = e .marked }), refl)
+
+shown-for : (x : Answer (Option Lines)) → (v : Shown) × (shownOf v ≡ x)
+shown-for (refused n) = (shown-as.Refused n, refl)
+shown-for (given none) = (shown-as.Nothing, refl)
+shown-for (given (some n)) = (shown-as.Lines (record { first = n .first; last = n .last; mask = n .toggles }), refl)
 
 found-for : (x : Answer (Counted ℤ)) → (v : Found) × (foundOf v ≡ x)
 found-for = counted-for foundOf found.Refused found.At found.Nothing (λ n. refl) (λ p n. refl) (λ n. refl)
@@ -111,9 +118,9 @@ module _ {run : List ℕ} {mark : Option ℕ} (c : Capture) (m : Memory) (h : He
         allowing gotOf got-for
         (λ v e. e ∙ asked-run c m h (λ x n. millGetRows x n p) (λ f x n. bitAnd (f (placeAt (originOf x) p)) grant) (λ z. ap (λ (v : ℕ). bitAnd v grant) (agree c m h (placeAt (originOf k) p) (got-inside k (c .len) p z))))
 
-    summary-is : (a b : ℤ) → Answered (MaySummary c m grant a b) summedOf (unless (firstOf (millSummaryRows mark a b)) (cutSummary grant (summary (at run) (length run) (place mark a) (place mark b))))
+    summary-is : (a b : ℤ) → Answered (MaySummary c m grant a b) shownOf (unless (firstOf (millSummaryRows mark a b)) (cutSummary grant (summary (at run) (length run) (place mark a) (place mark b))))
     summary-is a b =
-        allowing summedOf summed-for
+        allowing shownOf shown-for
         (λ v e. summary-right ([], ([], tt)) c ms m1 m2 m3 m4 grant a b v e (right c m h)
         ∙ asked-run c m h (λ x n. millSummaryRows x a b) (λ f x n. cutSummary grant (summary f n (placeAt (originOf x) a) (placeAt (originOf x) b)))
         (λ z. ap (cutSummary grant) (summary-below t (at run) (c .len) (agree c m h) (placeAt (originOf k) a) (placeAt (originOf k) b))))

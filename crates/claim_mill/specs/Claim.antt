@@ -22,12 +22,11 @@ use Rattle.rules.specs.Answer.{given, unless}
 use Rattle.capture.specs.declared.Capture.{Capture}
 use Rattle.capture.specs.declared.Got.{Got}
 use Rattle.capture.specs.Calls.{gotOf}
-use Rattle.summary.specs.declared.Summed.{Summed}
-use Rattle.summary.specs.Summary.{summedOf}
 use Rattle.pixel.specs.declared.View.{View}
 use Rattle.pixel.specs.Ranges.{viewAs}
 use Rattle.mill_read.specs.declared.Bounded.{Bounded}
-use Rattle.mill_read.specs.Read.{boundedOf, extentFor}
+use Rattle.mill_read.specs.declared.Shown.{Shown}
+use Rattle.mill_read.specs.Read.{boundedOf, extentFor, shownOf}
 use Rattle.mill_read.proofs.extent.Reads as extent-call
 use Rattle.mill_read.proofs.get.Reads as get-call
 use Rattle.mill_read.proofs.samples.Reads as samples-call
@@ -50,7 +49,7 @@ MayExtent c m v = (κs : Lfts 2) × (p : Places) × extent-call.Post κs (lendin
 abbrev pub MayGet : Capture → Memory → ℕ → ℤ → Got → Type 0
 MayGet c m grant place v = (κs : Lfts 2) × (p : Places) × get-call.Post κs (lending c p m (grant, (place, tt))) v (lending c p m (grant, (place, tt)))
 
-abbrev pub MaySummary : Capture → Memory → ℕ → ℤ → ℤ → Summed → Type 0
+abbrev pub MaySummary : Capture → Memory → ℕ → ℤ → ℤ → Shown → Type 0
 MaySummary c m grant a b v = (κs : Lfts 2) × (p : Places) × summary-call.Post κs (lending c p m (grant, (a, (b, tt)))) v (lending c p m (grant, (a, (b, tt))))
 
 abbrev pub MayNext : Capture → Memory → ℕ → ℕ → ℤ → Found → Type 0
@@ -86,7 +85,7 @@ pub record MillAnswers (grant : ℕ) (run : List ℕ) (mark : Option ℕ) (c : C
   pub samples-are : (p : ℤ) (n : ℕ) (output : List ℕ)
       → Answered (MaySamples c m grant p n output) samplesIn
       (unless (firstOf (millSamplesRows mark (length run) p n (length output))) (listFrom (cutLines grant (at run)) (place mark p) (copied (length run) (place mark p) n)))
-  pub summary-is : (a b : ℤ) → Answered (MaySummary c m grant a b) summedOf (unless (firstOf (millSummaryRows mark a b)) (cutSummary grant (summary (at run) (length run) (place mark a) (place mark b))))
+  pub summary-is : (a b : ℤ) → Answered (MaySummary c m grant a b) shownOf (unless (firstOf (millSummaryRows mark a b)) (cutSummary grant (summary (at run) (length run) (place mark a) (place mark b))))
   pub next-is : (mask : ℕ) (p : ℤ) → Answered (MayNext c m grant mask p) foundOf (unless (firstOf (millSearchRows grant mask mark p)) (through (shownPlace (originOf mark)) (nextSearch (at run) (length run) mask (place mark p))))
   pub previous-is : (mask : ℕ) (p : ℤ) → Answered (MayPrevious c m grant mask p) foundOf (unless (firstOf (millSearchRows grant mask mark p)) (through (shownPlace (originOf mark)) (previousSearch (at run) (length run) mask (place mark p))))
   pub burst-is : (mask : ℕ) (p : ℤ) (gap tolerance budget : ℕ)
@@ -102,7 +101,7 @@ pub record MillAlike (grant : ℕ) (c₁ : Capture) (m₁ : Memory) (c₂ : Capt
   pub extents : Agree (MayExtent c₁ m₁) (MayExtent c₂ m₂) boundedOf
   pub gets : (p : ℤ) → Agree (MayGet c₁ m₁ grant p) (MayGet c₂ m₂ grant p) gotOf
   pub samples : (p : ℤ) (n : ℕ) (output₁ output₂ : List ℕ) → length output₁ ≡ length output₂ → Agree (MaySamples c₁ m₁ grant p n output₁) (MaySamples c₂ m₂ grant p n output₂) samplesIn
-  pub summaries : (a b : ℤ) → Agree (MaySummary c₁ m₁ grant a b) (MaySummary c₂ m₂ grant a b) summedOf
+  pub summaries : (a b : ℤ) → Agree (MaySummary c₁ m₁ grant a b) (MaySummary c₂ m₂ grant a b) shownOf
   pub nexts : (mask : ℕ) (p : ℤ) → Agree (MayNext c₁ m₁ grant mask p) (MayNext c₂ m₂ grant mask p) foundOf
   pub previouses : (mask : ℕ) (p : ℤ) → Agree (MayPrevious c₁ m₁ grant mask p) (MayPrevious c₂ m₂ grant mask p) foundOf
   pub bursts : (mask : ℕ) (p : ℤ) (gap tolerance budget : ℕ) → Agree (MayBurst c₁ m₁ grant mask p gap tolerance budget) (MayBurst c₂ m₂ grant mask p gap tolerance budget) burstAs

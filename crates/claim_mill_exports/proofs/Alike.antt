@@ -5,7 +5,7 @@ use mathlib.Core.Option.{Option}
 use Prim.Native.Nat.{ℕ}
 use lib.IntN.{ℤ}
 use lib.ListN.{length}
-use Rattle.rules.specs.Node.{Node}
+use Rattle.rules.specs.Node.{Lines}
 use Rattle.rules.specs.Walk.{Counted}
 use Rattle.rules.specs.Mill.{MillBurst}
 use Rattle.rules.specs.Answer.{Answer, given}
@@ -50,7 +50,7 @@ module _ (grant : ℕ) {run₁ : List ℕ} {mark₁ : Option ℕ} (n₁ : List �
         (ap (λ (x : Answer (List ℕ)). copies x output old) (same-seen (λ x. x) (c₁ .samples-are p n output) (c₂ .samples-are p n output) (look .samples p n output output refl)));
     summaries = λ a b node size.
         agreed (λ x. x) (a₁ .summary-is a b node size) (a₂ .summary-is a b node size)
-        (ap (λ (x : Answer (Option Node)). summedBy x node) (same-seen (λ x. x) (c₁ .summary-is a b) (c₂ .summary-is a b) (look .summaries a b)));
+        (ap (λ (x : Answer (Option Lines)). summedBy x node) (same-seen (λ x. x) (c₁ .summary-is a b) (c₂ .summary-is a b) (look .summaries a b)));
     nexts = λ mask p old read.
         agreed (λ x. x) (a₁ .next-is mask p old read) (a₂ .next-is mask p old read)
         (ap (λ (x : Answer (Counted ℤ)). found x old read) (same-seen (λ x. x) (c₁ .next-is mask p) (c₂ .next-is mask p) (look .nexts mask p)));

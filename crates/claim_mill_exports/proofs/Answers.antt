@@ -10,7 +10,7 @@ use lib.IntN.{ℤ, pos}
 use lib.ListN.{length, drop}
 use denote.Ref.{at-last}
 use Rattle.rules.specs.Sample.{sampleOf, listFrom}
-use Rattle.rules.specs.Node.{Node, nodeOf}
+use Rattle.rules.specs.Node.{Lines, nodeOf}
 use Rattle.rules.specs.Search.{summary, cutSummary}
 use Rattle.rules.specs.Walk.{Counted, through, nextSearch, previousSearch}
 use Rattle.rules.specs.Burst.{burstSearch}
@@ -37,7 +37,7 @@ use Rattle.mill_render.specs.Render.{millDrawn, MillDraws}
 use Rattle.mill_render.proofs.Answers.{render-row, render-refused}
 use Rattle.codes.specs.Code.{plain, perhaps, Out}
 use Rattle.codes.specs.Sought.{Sought}
-use Rattle.codes.specs.Record.{captureIn, nodeNumbers, number}
+use Rattle.codes.specs.Record.{captureIn, linesNumbers, number}
 use Rattle.mill_codes.specs.Written.{firstPlace, endPlace, markedNumber, jumpNumbers, BurstOut}
 use Rattle.mill_codes.specs.Written as written
 use Rattle.logic_core.specs.Mill.{CopiesOut, DrawsOut}
@@ -46,8 +46,8 @@ use Rattle.claim_captures.specs.Claim.{Held}
 use Rattle.claim_captures.proofs.Answers.{agree, right, drawn-for, anywhere, somewhere, asked-run, copied-inside}
 use Rattle.claim_mill.specs.Claim as calls
 use Rattle.claim_mill.proofs.Answers.{mill-answers}
-use Rattle.claim_exports.specs.Questions.{Got, got, Copied, copies, Summed, summed, Drawn, drawn, viewOf}
-use Rattle.claim_exports.proofs.Answers.{asked-is, got-only, got-out, copies-only, summed-only, summed-out, nowhere}
+use Rattle.claim_exports.specs.Questions.{Got, got, Copied, copies, CutSummed, Drawn, drawn, viewOf}
+use Rattle.claim_exports.proofs.Answers.{asked-is, three, got-only, got-out, copies-only, nowhere}
 use Rattle.claim_mill_exports.specs.Claim.{Place, MayExtent, MayGet, MaySamples, MaySummary, MayNext, MayPrevious, MayBurst, MayRender, Bounded, bounded, summedBy, Found, foundAt, found, Bursted, burstedAt, bursted, place, MillAnswers}
 
 -- some reference to a place
@@ -56,13 +56,15 @@ afar = record { ptr = (0, 0); name = 0; now = pos 0 }
 
 -- ---- a code and numbers for each answer, and no others
 module _ (old : List ℕ) (size : length old ≡ 3) where
-  node-only : (x : Answer (Option Node)) (v : Summed) → Out nodeNumbers (perhaps x) (v .code) old (v .node) → v ≡ summedBy x old
+  node-only : (x : Answer (Option Lines)) (v : CutSummed) → Out linesNumbers (perhaps x) (v .code) old (v .node) → v ≡ summedBy x old
   node-only (refused n) v out = λ i. record { code = out .code-is i; node = out .value-is i }
-  node-only (given o) v out = summed-only old size o v out
+  node-only (given none) v out = λ i. record { code = out .code-is i; node = out .value-is i }
+  node-only (given (some n)) v out = λ i. record { code = out .code-is i; node = (out .value-is ∙ three n old size) i }
 
-  node-out : (x : Answer (Option Node)) → Out nodeNumbers (perhaps x) (summedBy x old .code) old (summedBy x old .node)
+  node-out : (x : Answer (Option Lines)) → Out linesNumbers (perhaps x) (summedBy x old .code) old (summedBy x old .node)
   node-out (refused n) = record { code-is = refl; value-is = refl }
-  node-out (given o) = summed-out old size o
+  node-out (given none) = record { code-is = refl; value-is = refl }
+  node-out (given (some n)) = record { code-is = refl; value-is = sym (three n old size) }
 
 module _ (old : ℤ) (old-read : ℕ) where
   at-only : (steps : ℕ) (o : Option ℤ) (v : Found) → Sought written.place (given (record { found = o; steps = steps })) (v .code) old (v .place) old-read (v .read) → v ≡ foundAt o steps old
@@ -167,9 +169,9 @@ module _ {run : List ℕ} {mark : Option ℕ} (numbers : List ℕ) (m : Memory) 
       let e = asked-is (below .summary-is a b) in
       let x = unless (firstOf (millSummaryRows mark a b)) (cutSummary grant (summary (at run) (length run) (place mark a) (place mark b))) in
       record {
-        is = λ v may. node-only node size x v (subst (λ (y : Answer (Option Node)). Out nodeNumbers (perhaps y) (v .code) node (v .node)) e (may .4));
+        is = λ v may. node-only node size x v (subst (λ (y : Answer (Option Lines)). Out linesNumbers (perhaps y) (v .code) node (v .node)) e (may .4));
         answer = summedBy x node;
-        allowed = (([], ([], ([], ([], tt)))), anywhere, somewhere, anywhere, subst⁻¹ (λ (y : Answer (Option Node)). Out nodeNumbers (perhaps y) (summedBy x node .code) node (summedBy x node .node)) e (node-out node size x));
+        allowed = (([], ([], ([], ([], tt)))), anywhere, somewhere, anywhere, subst⁻¹ (λ (y : Answer (Option Lines)). Out linesNumbers (perhaps y) (summedBy x node .code) node (summedBy x node .node)) e (node-out node size x));
       }
 
   next-is : (mask : ℕ) (p old : ℤ) (read : ℕ)

@@ -13,7 +13,7 @@ use lib.ListN.{length}
 use contract.Lifetimes.{Lfts}
 use denote.Ref.{RefT, at-last}
 use Rattle.rules.specs.Sample.{listFrom}
-use Rattle.rules.specs.Node.{Node, nodeOf}
+use Rattle.rules.specs.Node.{Lines, nodeOf}
 use Rattle.rules.specs.Search.{summary, cutSummary}
 use Rattle.rules.specs.Walk.{Counted, through, nextSearch, previousSearch}
 use Rattle.rules.specs.Burst.{burstSearch}
@@ -31,7 +31,7 @@ use Rattle.logic_core.proofs.mill_reader.lc_mill_prev_change.Reads as lc-mill-p
 use Rattle.logic_core.proofs.mill_reader.lc_mill_burst_at.Reads as lc-mill-burst-at
 use Rattle.logic_core.proofs.mill_reader.lc_mill_render.Reads as lc-mill-render
 use Rattle.claim_captures.specs.Words.{Memory, Ref, Places, lending, at, Same, Answered, Agree}
-use Rattle.claim_exports.specs.Questions.{One, Got, got, Copied, copies, Summed, summed, Drawn, drawn, viewOf}
+use Rattle.claim_exports.specs.Questions.{One, Got, got, Copied, copies, CutSummed, cutSummed, Drawn, drawn, viewOf}
 use Rattle.claim_exports.specs.Claim.{Recording, run, mark, asked}
 
 -- a place behind a pointer
@@ -65,15 +65,15 @@ MaySamples numbers m grant start count output old v =
     (κs : Lfts 5) × (n : Ref) × (p : Places) × (o : Ref) × (k : One)
     × lc-mill-samples.Post κs (lending (at-last n numbers) p m (grant, (start, (count, (at-last o output, (at-last k old, tt)))))) (v .code) (lending (at-last n numbers) p m (grant, (start, (count, (at-last o (v .output), (at-last k (v .copied), tt))))))
 
--- ---- lc_mill_summary: as lc_summary; a refusal gives its number and leaves what stood behind the pointers, here and below
-abbrev pub MaySummary : List ℕ → Memory → ℕ → ℤ → ℤ → List ℕ → Summed → Type 0
+-- ---- lc_mill_summary: as lc_summary, without a count; a refusal gives its number and leaves what stood behind the pointers, here and below
+abbrev pub MaySummary : List ℕ → Memory → ℕ → ℤ → ℤ → List ℕ → CutSummed → Type 0
 MaySummary numbers m grant a b node v =
     (κs : Lfts 4) × (n : Ref) × (p : Places) × (o : Ref)
     × lc-mill-summary.Post κs (lending (at-last n numbers) p m (grant, (a, (b, (at-last o node, tt))))) (v .code) (lending (at-last n numbers) p m (grant, (a, (b, (at-last o (v .node), tt)))))
 
-abbrev pub summedBy : Answer (Option Node) → List ℕ → Summed
+abbrev pub summedBy : Answer (Option Lines) → List ℕ → CutSummed
 summedBy (refused n) old = record { code = n; node = old }
-summedBy (given o) old = summed o old
+summedBy (given o) old = cutSummed o old
 
 -- ---- lc_mill_next_change and lc_mill_prev_change: the code, the place behind `at`, and the number behind `read`
 pub record Found : Type 0 where

@@ -113,7 +113,7 @@ pushes-for (b ∷ bs) f m =
     record { replies = replyAs (answer f m b) ∷ rest .replies; feeder = rest .feeder; memory = rest .memory; are = step (may-push f m b) (rest .are) }
 
 pub existence : Existence
-existence g m ok pushes = record {
+existence g m ok pushes are = record {
   recording = record {
     setup = g;
     before = m;
@@ -121,6 +121,7 @@ existence g m ok pushes = record {
     was-cut = begun (settings g) .was-cut;
     started = ap given fresh-is ∙ sym (ap (λ (n : ℕ). unless n (begun (settings g))) ok);
     pushes = pushes;
+    are-bytes = are;
     replies = done .replies;
     feeder = done .feeder;
     memory = done .memory;

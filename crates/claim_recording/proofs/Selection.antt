@@ -27,8 +27,10 @@ use Rattle.feeder.specs.Record.{recorderOf, armedAs}
 use Rattle.rules.specs.Push.{Left}
 use Rattle.rules.specs.Start.{freshRecorder, besideIn, begun}
 use Rattle.claim_captures.specs.Words.{levels, at}
+use Rattle.claim_captures.proofs.Words.{unit-most}
 use Rattle.claim_recording.specs.Claim.{settings, lengths, Recording, store, ruled, all, run, Selects}
 use Rattle.claim_recording.proofs.Pushes.{Going, Kept, kept-sound, all-kept}
+use Rattle.claim_recording.proofs.Words.{run-words}
 
 module _ (r : Recording) where
   abbrev lent : Lent
@@ -133,6 +135,7 @@ module _ (r : Recording) where
       levels-right =
           subst (λ (n : ℕ). Right (at (run r)) n (levels (r .memory .store))) len-is
           (right-same (sampleOf (store r .unitsize) (r .memory .store .samples)) (at (run r)) (levels (r .memory .store)) (store r .len) (λ i h. samples-are i (omega (arith, len-is))) (kept .right));
+      words = λ i h. run-words (ruled r) (unit-most (r .setup .channels)) (r .pushes) (r .are-bytes) i;
     };
     replies-are = both .1 ∙ made .replies;
     beside-is = beside-is;

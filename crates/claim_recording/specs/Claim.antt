@@ -2,7 +2,7 @@
 -- A recording is a capture with right levels (Rattle.claim_captures.specs.Claim): how questions are asked of one and when two look alike is said there, once.
 -- The claim speaks of the calls' own contracts. `Post` of a call's generated `Reads` is what its `ensures` says of the arguments, the answer, and the
 -- memory after the call. Start over a slice of terms is proved by a walk and has no `Reads`: `MayStart` is its clause, as proofs/Clauses shows.
--- No range is asked of settings, memory, pushes and the viewer's lines.
+-- No range is asked of settings, memory and the viewer's lines; a push is of bytes.
 use mathlib.Core.Path.{_≡_}
 use mathlib.Core.Bool.{Bool}
 use mathlib.Core.List.{List, [], _∷_}
@@ -30,8 +30,8 @@ use Rattle.feeder.specs.Start.{startedOf, settingsOf}
 use Rattle.feeder_push.specs.declared.Pushed.{Pushed}
 use Rattle.feeder_push.specs.Push.{replyAs, feederIn}
 use Rattle.feeder_push.proofs.push.Reads as push
-use Rattle.claim_captures.specs.Words.{levels, Ref, Places, lending, Same}
-use Rattle.claim_captures.specs.Claim.{Held, Answers, LookAlike}
+use Rattle.claim_captures.specs.Words.{levels, Ref, Places, lending, Same, AreBytes}
+use Rattle.claim_captures.specs.Claim.{Held, Answers, LookAlike, Additive}
 use Rattle.claim_captures.specs.Words as captures
 
 -- ---- memory
@@ -84,6 +84,7 @@ pub record Recording : Type 0 where
   pub was-cut : Bool
   pub started : MayStart setup before (Fresh fresh was-cut)
   pub pushes : List (List ℕ)
+  pub are-bytes : AreBytes pushes
   pub replies : List Reply
   pub feeder : Feeder
   pub memory : Memory
@@ -128,7 +129,7 @@ pub record Exists (g : Given) (m : Memory) (pushes : List (List ℕ)) : Type 0 w
   pub pushes-are : recording .pushes ≡ pushes
 
 abbrev pub Existence : Type 0
-Existence = (g : Given) (m : Memory) → startRefusal (settings g) (lengths (m .store)) (length (m .ring)) ≡ 0 → (pushes : List (List ℕ)) → Exists g m pushes
+Existence = (g : Given) (m : Memory) → startRefusal (settings g) (lengths (m .store)) (length (m .ring)) ≡ 0 → (pushes : List (List ℕ)) → AreBytes pushes → Exists g m pushes
 
 -- "For every two lists of pushes, refused ones included, each list from a fresh recorder with settings of its own: after them the two recordings look alike
 -- to a viewer of chosen lines exactly when their runs have the same length, the same mark and the same chosen lines at every sample. .. Each of these
@@ -141,3 +142,7 @@ Demand3 =
     × Answers (run one) (store one) (one .memory .store)
     × Answers (run two) (store two) (two .memory .store)
     × (LookAlike v (store one) (one .memory .store) (store two) (two .memory .store) ↔ Same v (run one) (mark one) (run two) (mark two))
+
+-- 02, CR 5: what density answers after a recording adds up
+abbrev pub DensitiesAdd : Type 0
+DensitiesAdd = (r : Recording) → Additive (run r) (store r) (r .memory .store)

@@ -5,7 +5,7 @@ use mathlib.Core.Option.{Option, none, some}
 use Prim.Native.Nat.{ℕ}
 use lib.Dec.{eqb}
 use lib.Seq.{sets}
-use Rattle.rules.specs.Node.{Node}
+use Rattle.rules.specs.Node.{Node, Lines, linesOf}
 use Rattle.rules.specs.Burst.{Burst}
 use Rattle.rules.specs.Refusal.{Store, Lent}
 use Rattle.rules.specs.Answer.{Answer, seen}
@@ -37,8 +37,16 @@ grownLen a = seen (λ c. c .len) a
 abbrev pub lentNumbers : Lent → List ℕ → List ℕ
 lentNumbers lent old = sets old 0 (lent .samples ∷ lent .level 1 ∷ lent .level 2 ∷ lent .level 3 ∷ lent .level 4 ∷ [])
 
+-- first, last and toggles
+abbrev pub linesNumbers : Lines → List ℕ → List ℕ
+linesNumbers n old = sets old 0 (n .first ∷ n .last ∷ n .toggles ∷ [])
+
+-- a node's, and its count behind a pointer of its own
 abbrev pub nodeNumbers : Node → List ℕ → List ℕ
-nodeNumbers n old = sets old 0 (n .first ∷ n .last ∷ n .toggles ∷ [])
+nodeNumbers n old = linesNumbers (linesOf n) old
+
+abbrev pub countNumber : Node → ℕ → ℕ
+countNumber n old = n .count
 
 abbrev pub burstNumbers : Burst → List ℕ → List ℕ
 burstNumbers b old = sets old 0 (b .first ∷ b .last ∷ b .jumps-end ∷ b .jumps-start ∷ [])

@@ -11,6 +11,7 @@ use capture::Mark;
 use capture::Needed;
 use capture::Started;
 use capture::record;
+use density::Changes;
 use lines::Mask;
 use render::Drawn;
 use search::Found;
@@ -22,11 +23,12 @@ ghost use Rattle.capture.specs.Record.{storeOf};
 ghost use Rattle.capture.specs.Calls.{neededOf, startedOf, gotOf, copiedOf};
 ghost use Rattle.append.specs.Append.{appendedOf};
 ghost use Rattle.summary.specs.Summary.{summedOf};
+ghost use Rattle.density.specs.Density.{changesOf};
 ghost use Rattle.whole.specs.Wrong.{checkedOf};
 ghost use Rattle.search.specs.Answer.{foundOf};
 ghost use Rattle.burst.specs.Answer.{burstAs};
 ghost use Rattle.render.specs.Render.{drawnOf};
-ghost use Rattle.codes.specs.Record.{captureIn, storeNumbers, lenNumber, grownLen, lentNumbers, nodeNumbers, burstNumbers, number, flagNumber, placeLevel, placeNumber};
+ghost use Rattle.codes.specs.Record.{captureIn, storeNumbers, lenNumber, grownLen, lentNumbers, nodeNumbers, countNumber, burstNumbers, number, flagNumber, placeLevel, placeNumber};
 ghost use Rattle.codes.specs.Code.{plain, perhaps, fault, Out};
 ghost use Rattle.codes.specs.Sought.{Sought};
 
@@ -166,8 +168,8 @@ pub fn checked_code(answer: Checked, level: &mut usize, number: &mut usize) -> u
     }
 }
 
-pub fn summed_code(answer: Summed, node: &mut [Mask; 3]) -> u32
-    ensures { λ r. ⌜ Out nodeNumbers (perhaps (summedOf answer)) r (now (node .entry)) (now (node .exit)) ⌝ }
+pub fn summed_code(answer: Summed, node: &mut [Mask; 3], count: &mut u32) -> u32
+    ensures { λ r. ⌜ Out nodeNumbers (perhaps (summedOf answer)) r (now (node .entry)) (now (node .exit)) × Out countNumber (perhaps (summedOf answer)) r (now (count .entry)) (now (count .exit)) ⌝ }
 {
     match answer {
         Summed::Refused(n) => code(n),
@@ -175,9 +177,22 @@ pub fn summed_code(answer: Summed, node: &mut [Mask; 3]) -> u32
             node[out::NODE_FIRST] = n.first;
             node[out::NODE_LAST] = n.last;
             node[out::NODE_TOGGLES] = n.mask;
+            *count = n.count;
             0
         }
         Summed::Nothing => NONE,
+    }
+}
+
+pub fn changes_code(answer: Changes, count: &mut u32) -> u32
+    ensures { λ r. ⌜ Out number (plain (changesOf answer)) r (now (count .entry)) (now (count .exit)) ⌝ }
+{
+    match answer {
+        Changes::Refused(n) => code(n),
+        Changes::Count(k) => {
+            *count = k;
+            0
+        }
     }
 }
 

@@ -9,7 +9,7 @@ pub const SIZE_LEVEL_2: usize = 2;
 pub const SIZE_LEVEL_3: usize = 3;
 
 pub const SIZE_LEVEL_4: usize = 4;
-// a node
+// a node, but for its count, which has a pointer of its own
 pub const NODE_FIRST: usize = 0;
 
 pub const NODE_LAST: usize = 1;

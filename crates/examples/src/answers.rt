@@ -3,6 +3,7 @@ use burst::Bursts;
 use capture::Capture;
 use capture::Got;
 use capture::Mark;
+use density::Changes;
 use lines::Mask;
 use search::Found;
 use summary::Summed;
@@ -37,7 +38,7 @@ pub fn refused_with(got: Got, number: u8) -> bool {
     }
 }
 
-pub fn node_is(summed: Summed, first: Mask, last: Mask, mask: Mask) -> bool {
+pub fn node_is(summed: Summed, first: Mask, last: Mask, mask: Mask, count: u32) -> bool {
     match summed {
         Summed::Refused(_) => false,
         Summed::Node(n) => {
@@ -47,9 +48,19 @@ pub fn node_is(summed: Summed, first: Mask, last: Mask, mask: Mask) -> bool {
             if n.last != last {
                 return false;
             }
-            n.mask == mask
+            if n.mask != mask {
+                return false;
+            }
+            n.count == count
         }
         Summed::Nothing => false,
+    }
+}
+
+pub fn changes_are(changes: Changes, count: u32) -> bool {
+    match changes {
+        Changes::Refused(_) => false,
+        Changes::Count(k) => k == count,
     }
 }
 

@@ -28,12 +28,17 @@ fn searches(a: Stored) {
     say(5, answers::found_at(examples_store::previous(a, 100), 7));
 }
 
+// 6: summary(0, 8) of A is 0, 3, 3 and the count 4 (02: CR 5), which is its density too.
+fn summary_is_right(a: Stored) -> bool {
+    if answers::node_is(examples_store::summary(a, 0, 8), 0, 3, 3, 4) {
+        return answers::changes_are(examples_store::density(a, 0, 8), 4);
+    }
+    false
+}
+
 // 6 to 10: summaries of A, bursts of A and B.
 fn summaries(a: Stored, b: Stored) {
-    say(
-        6,
-        answers::node_is(examples_store::summary(a, 0, 8), 0, 3, 3),
-    );
+    say(6, summary_is_right(a));
     say(7, answers::no_node(examples_store::summary(a, 4, 4)));
     say(
         8,

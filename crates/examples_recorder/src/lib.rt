@@ -19,10 +19,10 @@ pub struct Recorder {
     pub feeder: Feeder,
     pub complete: bool,
     pub samples: [u8; 16],
-    pub l1: [Mask; 3],
-    pub l2: [Mask; 3],
-    pub l3: [Mask; 3],
-    pub l4: [Mask; 3],
+    pub l1: [Mask; 5],
+    pub l2: [Mask; 5],
+    pub l3: [Mask; 5],
+    pub l4: [Mask; 5],
     pub ring: [u8; 16],
 }
 
@@ -76,10 +76,10 @@ fn started<'a>(
 // A fresh recorder that waits for one condition on line 0.
 pub fn waiting(condition: Condition, limit: usize, wish: Pretrigger, rate: usize) -> Recorder {
     let samples = [0u8; 16];
-    let l1: [Mask; 3] = [0; 3];
-    let l2: [Mask; 3] = [0; 3];
-    let l3: [Mask; 3] = [0; 3];
-    let l4: [Mask; 3] = [0; 3];
+    let l1: [Mask; 5] = [0; 5];
+    let l2: [Mask; 5] = [0; 5];
+    let l3: [Mask; 5] = [0; 5];
+    let l4: [Mask; 5] = [0; 5];
     let ring = [0u8; 16];
     let term = TriggerTerm {
         channel: 0,

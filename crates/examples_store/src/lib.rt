@@ -5,6 +5,7 @@ use capture::Capture;
 use capture::Got;
 use capture::Mark;
 use capture::Started;
+use density::Changes;
 use lines::Mask;
 use pixel::View;
 use search::Found;
@@ -15,10 +16,10 @@ const LINE_0: Mask = 1;
 pub struct Stored {
     pub capture: Capture,
     pub samples: [u8; 16],
-    pub l1: [Mask; 3],
-    pub l2: [Mask; 3],
-    pub l3: [Mask; 3],
-    pub l4: [Mask; 3],
+    pub l1: [Mask; 5],
+    pub l2: [Mask; 5],
+    pub l3: [Mask; 5],
+    pub l4: [Mask; 5],
 }
 
 // In place of what start gives where it refuses: every call refuses it.
@@ -48,10 +49,10 @@ fn after(appended: Appended) -> Capture {
 // A store that these samples were appended to.
 pub fn holding(bytes: &[u8]) -> Stored {
     let mut samples = [0u8; 16];
-    let mut l1: [Mask; 3] = [0; 3];
-    let mut l2: [Mask; 3] = [0; 3];
-    let mut l3: [Mask; 3] = [0; 3];
-    let mut l4: [Mask; 3] = [0; 3];
+    let mut l1: [Mask; 5] = [0; 5];
+    let mut l2: [Mask; 5] = [0; 5];
+    let mut l3: [Mask; 5] = [0; 5];
+    let mut l4: [Mask; 5] = [0; 5];
     let c = fresh(capture::start(8, 16, &samples, &l1, &l2, &l3, &l4));
     let capture = after(append::append(c, &mut samples, &mut l1, &mut l2, &mut l3, &mut l4, bytes));
     Stored {
@@ -98,6 +99,15 @@ pub fn summary(s: Stored, from: usize, to: usize) -> Summed {
     let l3 = s.l3;
     let l4 = s.l4;
     summary::summary(s.capture, &samples, &l1, &l2, &l3, &l4, from, to)
+}
+
+pub fn density(s: Stored, from: usize, to: usize) -> Changes {
+    let samples = s.samples;
+    let l1 = s.l1;
+    let l2 = s.l2;
+    let l3 = s.l3;
+    let l4 = s.l4;
+    density::density(s.capture, &samples, &l1, &l2, &l3, &l4, from, to)
 }
 
 pub fn burst(s: Stored, i: usize, gap: usize, tolerance: usize, budget: usize) -> Bursts {

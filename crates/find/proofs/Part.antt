@@ -11,6 +11,7 @@ use lib.Dec.{eqb}
 use lib.ListN.{length}
 use Rattle.rules.specs.Sample.{sampleOf}
 use Rattle.rules.specs.Node.{leaf, mirror, span, topLevel}
+use Rattle.rules.specs.Refusal.{nodeSize}
 use Rattle.lines.specs.Held.{Held}
 use Rattle.node.specs.Memory.{nodeIn}
 use Rattle.find.specs.Part.{readerFrom, Bytes, Part}
@@ -71,7 +72,7 @@ module _ (base l s : ℕ) (e : s ≡ span l) (some : 1 ≤ s) where
   number-held : (unit hi p : ℕ) (part : List ℕ) (levels : ℕ → List ℕ) → Part unit base hi part levels → l ≤ topLevel → base ≤ p → p + s ≤ hi → NodeHeld unit part (levels l) l (numberIn base l s p)
   number-held unit hi p part levels r top low high = record {
     sample = λ z. bytes-held unit (hi - base) (numberIn base l s p) part (r .bytes) (omega (arith, number-zero p z));
-    node = λ z. subst (λ (x : ℕ). x * 3 + 3 ≤ length (levels l)) (sym (number-above p z)) (r .nodes .inside l (p / s) (omega arith) top (subst (λ (x : ℕ). p / s * x < hi) e (omega (arith, div-add-mod' p s))));
+    node = λ z. subst (λ (x : ℕ). x * nodeSize + nodeSize ≤ length (levels l)) (sym (number-above p z)) (r .nodes .inside l (p / s) (omega arith) top (subst (λ (x : ℕ). p / s * x < hi) e (omega (arith, div-add-mod' p s))));
   }
 
 -- ---- a stretch

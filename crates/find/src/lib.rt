@@ -49,6 +49,7 @@ fn mirror(n: Node) -> Node
         first: n.last,
         last: n.first,
         mask: n.mask,
+        count: n.count,
     }
 }
 

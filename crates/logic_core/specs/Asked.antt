@@ -7,6 +7,7 @@ use lib.Ieee.{Float}
 use lib.ListN.{length}
 use Rattle.rules.specs.Sample.{sampleOf}
 use Rattle.rules.specs.Node.{Node, topLevel}
+use Rattle.rules.specs.Search.{countIn}
 use Rattle.rules.specs.Pixel.{View, pixelRange}
 use Rattle.rules.specs.Answer.{Answer, unless, unrefused}
 use Rattle.rules.specs.Refusal.{Store, Lent, fresh, storeRefusal, getRefusal, samplesRefusal, renderRefusal, copied}
@@ -44,6 +45,9 @@ module _ (c : Capture) (samples : List ℕ) (levels : ℕ → List ℕ) where
 
   abbrev pub summedFor : ℕ → ℕ → Answer (Option Node)
   summedFor a b = unless (storeRefusal (storeOf c) (lentOf samples levels)) (summaryOf levels (sampleOf (c .unitsize) samples) (c .len) a b)
+
+  abbrev pub changesFor : ℕ → ℕ → Answer ℕ
+  changesFor a b = unless (storeRefusal (storeOf c) (lentOf samples levels)) (countIn (summaryOf levels (sampleOf (c .unitsize) samples) (c .len) a b))
 
   abbrev pub drawRefusal : Float → Float → ℕ → List ℕ → ℕ
   drawRefusal start spp width output = renderRefusal (storeOf c) (lentOf samples levels) (viewOf start spp) width (length output)

@@ -9,7 +9,7 @@ use lib.IntN.{ℤ}
 use lib.ListN.{length}
 use Rattle.rules.specs.Reading.{copiedTo}
 use Rattle.rules.specs.Sample.{sampleOf, cutLines}
-use Rattle.rules.specs.Node.{Node}
+use Rattle.rules.specs.Node.{Lines}
 use Rattle.rules.specs.Search.{cutSummary}
 use Rattle.rules.specs.Pixel.{rangeFrom}
 use Rattle.rules.specs.Answer.{Answer, unless, unrefused}
@@ -39,8 +39,8 @@ module _ (c : Capture) (samples : List ℕ) (levels : ℕ → List ℕ) where
     abbrev pub copiedFor : ℤ → ℕ → List ℕ → Answer ℕ
     copiedFor start count output = unless (copyRefusal start count output) (copied (c .len) (placeAt (originIn c) start) count)
 
-    abbrev pub summedFor : ℤ → ℤ → Answer (Option Node)
-    summedFor a b =
+    abbrev pub shownFor : ℤ → ℤ → Answer (Option Lines)
+    shownFor a b =
         unless (millSummaryRefusal (storeOf c) (lentOf samples levels) a b)
         (cutSummary grant (summaryOf levels (sampleOf (c .unitsize) samples) (c .len) (placeAt (originIn c) a) (placeAt (originIn c) b)))
 

@@ -13,10 +13,10 @@ ghost use Rattle.capture.specs.Record.{storeOf};
 ghost use Rattle.capture.specs.Calls.{RawLies};
 ghost use Rattle.search.specs.Answer.{nextOf, previousOf};
 ghost use Rattle.burst.specs.Answer.{burstOf};
-ghost use Rattle.codes.specs.Record.{captureIn, storeNumbers, lentNumbers, nodeNumbers, burstNumbers, number, placeLevel, placeNumber};
+ghost use Rattle.codes.specs.Record.{captureIn, storeNumbers, lentNumbers, nodeNumbers, countNumber, burstNumbers, number, placeLevel, placeNumber};
 ghost use Rattle.codes.specs.Code.{plain, perhaps, fault, Out};
 ghost use Rattle.codes.specs.Sought.{Sought};
-ghost use Rattle.logic_core.specs.Asked.{neededFor, startedFor, gotFor, summedFor, wrongFor, CopiesOut, AppendsOut, DrawsOut};
+ghost use Rattle.logic_core.specs.Asked.{neededFor, startedFor, gotFor, summedFor, changesFor, wrongFor, CopiesOut, AppendsOut, DrawsOut};
 
 // How much memory a store needs: bytes of samples, and numbers of the levels 1 to 4. Refuses with 1.
 #[no_mangle]
@@ -149,7 +149,7 @@ pub extern "C" fn lc_whole<'a>(
     codes::checked_code(answer, level, number)
 }
 
-// 01's Summary(a, b): first, last and toggles, or 100 where the range is empty. Refuses with 1 and 2.
+// 01's Summary(a, b): first, last and toggles, and the count of changes (02: CR 5), or 100 where the range is empty. Refuses with 1 and 2.
 #[no_mangle]
 pub extern "C" fn lc_summary<'a>(
     numbers: &[usize; 5],
@@ -161,11 +161,31 @@ pub extern "C" fn lc_summary<'a>(
     a: usize,
     b: usize,
     node: &mut [Mask; 3],
+    count: &mut u32,
 ) -> u32
-    ensures { λ r. ⌜ Out nodeNumbers (perhaps (summedFor (captureIn (now (numbers .entry))) (now (samples .entry)) (levelOf (now (l1 .entry)) (now (l2 .entry)) (now (l3 .entry)) (now (l4 .entry))) a b)) r (now (node .entry)) (now (node .exit)) ⌝ }
+    ensures { λ r. ⌜ Out nodeNumbers (perhaps (summedFor (captureIn (now (numbers .entry))) (now (samples .entry)) (levelOf (now (l1 .entry)) (now (l2 .entry)) (now (l3 .entry)) (now (l4 .entry))) a b)) r (now (node .entry)) (now (node .exit)) × Out countNumber (perhaps (summedFor (captureIn (now (numbers .entry))) (now (samples .entry)) (levelOf (now (l1 .entry)) (now (l2 .entry)) (now (l3 .entry)) (now (l4 .entry))) a b)) r (now (count .entry)) (now (count .exit)) ⌝ }
 {
     let answer = summary::summary(capture_in(numbers), samples, l1, l2, l3, l4, a, b);
-    codes::summed_code(answer, node)
+    codes::summed_code(answer, node, count)
+}
+
+// The number of changes in [a, min(b, len)), 0 where that is empty (02: CR 5). Refuses with 1 and 2.
+#[no_mangle]
+pub extern "C" fn lc_density<'a>(
+    numbers: &[usize; 5],
+    samples: &[u8],
+    l1: &'a [Mask],
+    l2: &'a [Mask],
+    l3: &'a [Mask],
+    l4: &'a [Mask],
+    a: usize,
+    b: usize,
+    count: &mut u32,
+) -> u32
+    ensures { λ r. ⌜ Out number (plain (changesFor (captureIn (now (numbers .entry))) (now (samples .entry)) (levelOf (now (l1 .entry)) (now (l2 .entry)) (now (l3 .entry)) (now (l4 .entry))) a b)) r (now (count .entry)) (now (count .exit)) ⌝ }
+{
+    let answer = density::density(capture_in(numbers), samples, l1, l2, l3, l4, a, b);
+    codes::changes_code(answer, count)
 }
 
 // 01's Next: the place, or 100 where there is none, and the nodes read. Refuses with 1 and 2.

@@ -6,11 +6,11 @@ ghost use mathlib.Core.Path.{_≡_};
 ghost use lib.IntN.{ℤ};
 ghost use Rattle.node.specs.Memory.{levelOf};
 ghost use Rattle.mill_search.specs.Answer.{nextOf, previousOf, burstOf};
-ghost use Rattle.codes.specs.Record.{captureIn, nodeNumbers, number};
+ghost use Rattle.codes.specs.Record.{captureIn, linesNumbers, number};
 ghost use Rattle.codes.specs.Code.{plain, perhaps, Out};
 ghost use Rattle.codes.specs.Sought.{Sought};
 ghost use Rattle.mill_codes.specs.Written.{firstPlace, endPlace, markedNumber, place, BurstOut};
-ghost use Rattle.logic_core.specs.Mill.{boundedFor, gotFor, summedFor, CopiesOut, DrawsOut};
+ghost use Rattle.logic_core.specs.Mill.{boundedFor, gotFor, shownFor, CopiesOut, DrawsOut};
 
 // The places that the run has, from first on and below end, and whether place 0 is a mark. Refuses with 1 and 2.
 #[no_mangle]
@@ -96,10 +96,10 @@ pub extern "C" fn lc_mill_summary<'a>(
     b: i64,
     node: &mut [Mask; 3],
 ) -> u32
-    ensures { λ r. ⌜ Out nodeNumbers (perhaps (summedFor (captureIn (now (numbers .entry))) (now (samples .entry)) (levelOf (now (l1 .entry)) (now (l2 .entry)) (now (l3 .entry)) (now (l4 .entry))) grant a b)) r (now (node .entry)) (now (node .exit)) ⌝ }
+    ensures { λ r. ⌜ Out linesNumbers (perhaps (shownFor (captureIn (now (numbers .entry))) (now (samples .entry)) (levelOf (now (l1 .entry)) (now (l2 .entry)) (now (l3 .entry)) (now (l4 .entry))) grant a b)) r (now (node .entry)) (now (node .exit)) ⌝ }
 {
     let answer = mill_read::summary(capture_in(numbers), samples, l1, l2, l3, l4, grant, a, b);
-    codes::summed_code(answer, node)
+    mill_codes::shown_code(answer, node)
 }
 
 // 01's Next: the place, or 100 where there is none. Refuses with 1, 2, 12 and 13.

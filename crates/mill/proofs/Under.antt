@@ -10,7 +10,7 @@ use Rattle.rules.specs.Answer.{refused, given, unless, seen}
 use Rattle.rules.specs.Refusal.{Store, Lent, Row, firstOf, storeRows, mostSamples}
 use Rattle.rules.specs.Mill.{originOf, beforeFirst}
 use Rattle.rules.proofs.Refusal.{Sound, MarkInside, rows-passed, rows-rest}
-use Rattle.capture.proofs.Answer.{refused-is, given-is, stopped}
+use Rattle.capture.proofs.Answer.{refused-is, given-is, seen-unless, stopped}
 use Rattle.mill.specs.Reader.{millRows}
 
 -- ---- rows
@@ -34,10 +34,6 @@ pub record Passed (st : Store) (lent : Lent) (p q : ℤ) : Type 0 where
 pub origin-inside : (mark : Option ℕ) (len : ℕ) → ((k : ℕ) → mark ≡ some k → k ≤ len) → originOf mark ≤ len
 origin-inside none len h = omega arith
 origin-inside (some k) len h = h k refl
-
-seen-unless : {A B : Type 0} (f : A → B) (a : A) (n : ℕ) → seen f (unless n a) ≡ unless n (f a)
-seen-unless f a zero = refl
-seen-unless f a (suc n) = refl
 
 -- ---- the mill's number n is that of its own rows
 module _ (st : Store) (lent : Lent) (outside : Bool) (p q : ℤ) {n : ℕ} (is : n ≡ firstOf (storeRows st lent (millRows st outside p q))) where

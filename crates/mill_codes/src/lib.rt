@@ -3,14 +3,17 @@ use codes::NONE;
 use codes::code;
 use codes::flag;
 use codes::out;
+use lines::Mask;
 use mill_read::Bounded;
+use mill_read::Shown;
 use mill_search::Bursts;
 use mill_search::Found;
 ghost use mathlib.Core.Path.{_≡_};
 ghost use lib.IntN.{ℤ};
-ghost use Rattle.codes.specs.Code.{plain, Out};
+ghost use Rattle.codes.specs.Code.{plain, perhaps, Out};
+ghost use Rattle.codes.specs.Record.{linesNumbers};
 ghost use Rattle.codes.specs.Sought.{Sought};
-ghost use Rattle.mill_read.specs.Read.{boundedOf};
+ghost use Rattle.mill_read.specs.Read.{boundedOf, shownOf};
 ghost use Rattle.mill_search.specs.Answer.{foundOf, burstAs};
 ghost use Rattle.mill_codes.specs.Written.{firstPlace, endPlace, markedNumber, place, BurstOut};
 
@@ -27,6 +30,21 @@ pub fn bounded_code(answer: Bounded, first: &mut i64, end: &mut i64, marked: &mu
             *marked = flag(b.marked);
             0
         }
+    }
+}
+
+pub fn shown_code(answer: Shown, node: &mut [Mask; 3]) -> u32
+    ensures { λ r. ⌜ Out linesNumbers (perhaps (shownOf answer)) r (now (node .entry)) (now (node .exit)) ⌝ }
+{
+    match answer {
+        Shown::Refused(n) => code(n),
+        Shown::Lines(n) => {
+            node[out::NODE_FIRST] = n.first;
+            node[out::NODE_LAST] = n.last;
+            node[out::NODE_TOGGLES] = n.mask;
+            0
+        }
+        Shown::Nothing => NONE,
     }
 }
 

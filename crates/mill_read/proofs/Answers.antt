@@ -15,13 +15,13 @@ use Rattle.rules.specs.Mill.{placeAt, millSummaryRefusal}
 use Rattle.node.specs.Memory.{levelOf, Right}
 use Rattle.capture.specs.declared.Capture.{Capture}
 use Rattle.capture.specs.Record.{storeOf, lentOf}
-use Rattle.summary.specs.declared.Summed.{Summed}
-use Rattle.summary.specs.Summary.{summedOf}
 use Rattle.summary.proofs.Laws.{summary-is}
 use Rattle.mill.specs.Reader.{originIn}
+use Rattle.mill_read.specs.declared.Shown.{Shown}
+use Rattle.mill_read.specs.Read.{shownOf}
 use Rattle.mill_read.proofs.summary.Reads as reads
 
-module _ (κs : Lfts 2) (c : Capture) (samples l1 l2 l3 l4 : RefT (List ℕ)) (grant : ℕ) (a b : ℤ) (r : Summed) where
+module _ (κs : Lfts 2) (c : Capture) (samples l1 l2 l3 l4 : RefT (List ℕ)) (grant : ℕ) (a b : ℤ) (r : Shown) where
   abbrev levels : ℕ → List ℕ
   levels = levelOf (l1 .now) (l2 .now) (l3 .now) (l4 .now)
 
@@ -33,6 +33,6 @@ module _ (κs : Lfts 2) (c : Capture) (samples l1 l2 l3 l4 : RefT (List ℕ)) (g
 
   pub summary-right : reads.Post κs (c, (samples, (l1, (l2, (l3, (l4, (grant, (a, (b, tt))))))))) r (c, (samples, (l1, (l2, (l3, (l4, (grant, (a, (b, tt)))))))))
       → Right s (c .len) levels
-      → summedOf r ≡ unless rows (cutSummary grant (summary s (c .len) (placeAt (originIn c) a) (placeAt (originIn c) b)))
+      → shownOf r ≡ unless rows (cutSummary grant (summary s (c .len) (placeAt (originIn c) a) (placeAt (originIn c) b)))
   summary-right promised right =
       promised ∙ ap (λ (x : Option Node). unless rows (cutSummary grant x)) (summary-is levels s (c .len) right (placeAt (originIn c) a) (placeAt (originIn c) b))

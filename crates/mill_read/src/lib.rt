@@ -24,7 +24,7 @@ ghost use Rattle.capture.specs.Record.{markOf, storeOf, lentOf};
 ghost use Rattle.capture.specs.Calls.{gotOf};
 ghost use Rattle.summary.specs.Summary.{summedOf, summaryOf};
 ghost use Rattle.mill.specs.Reader.{originIn};
-ghost use Rattle.mill_read.specs.Read.{isMarked, boundedOf, extentOf, MillCopies};
+ghost use Rattle.mill_read.specs.Read.{isMarked, boundedOf, extentOf, MillCopies, asLines, shownOf};
 
 // The run's places as a mill counts them, from first on and below end, and whether there is a mark.
 pub struct Bounds {
@@ -131,11 +131,24 @@ pub fn samples<'a>(
     copied
 }
 
+// What a mill sees of a node: no count, since it tells of every line (02, CR 5). `mask` is its toggles.
+pub struct Lines {
+    pub first: Mask,
+    pub last: Mask,
+    pub mask: Mask,
+}
+
+pub enum Shown {
+    Refused(u8),
+    Lines(Lines),
+    Nothing,
+}
+
 // A node, on granted lines.
-fn cut_node(n: Node, grant: Mask) -> Node
-    ensures { λ r. ⌜ asNode r ≡ cut grant (asNode n) ⌝ }
+fn cut_node(n: Node, grant: Mask) -> Lines
+    ensures { λ r. ⌜ asLines r ≡ cut grant (asNode n) ⌝ }
 {
-    Node {
+    Lines {
         first: n.first & grant,
         last: n.last & grant,
         mask: n.mask & grant,
@@ -143,17 +156,17 @@ fn cut_node(n: Node, grant: Mask) -> Node
 }
 
 // A summary, on granted lines.
-fn cut_summed(summed: Summed, grant: Mask) -> Summed
-    ensures { λ r. ⌜ summedOf r ≡ seen (cutSummary grant) (summedOf summed) ⌝ }
+fn cut_summed(summed: Summed, grant: Mask) -> Shown
+    ensures { λ r. ⌜ shownOf r ≡ seen (cutSummary grant) (summedOf summed) ⌝ }
 {
     match summed {
-        Summed::Refused(n) => Summed::Refused(n),
-        Summed::Node(n) => Summed::Node(cut_node(n, grant)),
-        Summed::Nothing => Summed::Nothing,
+        Summed::Refused(n) => Shown::Refused(n),
+        Summed::Node(n) => Shown::Lines(cut_node(n, grant)),
+        Summed::Nothing => Shown::Nothing,
     }
 }
 
-// The node of the samples from a to b, b left out, on granted lines, none where there are none, or 1, 2 or 13.
+// What the granted lines did from a to b, b left out: the first sample, the last and the toggles, none where there are none, or 1, 2 or 13.
 // By `Answers.summary-right` it is the rule's where levels are right.
 pub fn summary<'a>(
     c: Capture,
@@ -165,12 +178,12 @@ pub fn summary<'a>(
     grant: Mask,
     a: i64,
     b: i64,
-) -> Summed
-    ensures { λ r. ⌜ summedOf r ≡ unless (millSummaryRefusal (storeOf c) (lentOf (now (samples .entry)) (levelOf (now (l1 .entry)) (now (l2 .entry)) (now (l3 .entry)) (now (l4 .entry)))) a b) (cutSummary grant (summaryOf (levelOf (now (l1 .entry)) (now (l2 .entry)) (now (l3 .entry)) (now (l4 .entry))) (sampleOf (c .unitsize) (now (samples .entry))) (c .len) (placeAt (originIn c) a) (placeAt (originIn c) b))) ⌝ }
+) -> Shown
+    ensures { λ r. ⌜ shownOf r ≡ unless (millSummaryRefusal (storeOf c) (lentOf (now (samples .entry)) (levelOf (now (l1 .entry)) (now (l2 .entry)) (now (l3 .entry)) (now (l4 .entry)))) a b) (cutSummary grant (summaryOf (levelOf (now (l1 .entry)) (now (l2 .entry)) (now (l3 .entry)) (now (l4 .entry))) (sampleOf (c .unitsize) (now (samples .entry))) (c .len) (placeAt (originIn c) a) (placeAt (originIn c) b))) ⌝ }
 {
     let number = mill::refusal(c, samples, l1, l2, l3, l4, false, a, b);
     if number != 0 {
-        return Summed::Refused(number);
+        return Shown::Refused(number);
     }
     let base = origin(c);
     let i = place_at(base, a);

@@ -3,13 +3,13 @@ use Prim.Native.Nat.{ℕ, zero, suc, _+_, _*_, _/_, _%_, _≤_, _<_, min}
 use mathlib.Core.Path.{_≡_, refl, sym, ap, ap₂, _∙_}
 use mathlib.Core.Bool.{Bool, true, cond}
 use mathlib.Core.Logic.{_⊎_, inl, inr, _≢_}
-use mathlib.Core.List.{List}
-use native.Mathlib.Nat.{div-add-mod', mod-one, add-zero}
+use mathlib.Core.List.{List, [], _∷_}
+use native.Mathlib.Nat.{div-add-mod', mod-one, add-zero, not-suc-le-zero}
 use native.Mathlib.Decide.{ℕ-discrete, decLt}
 use native.Mathlib.Omega.{arith}
 use borrow.Author.Tests.{eq-eqb, ne-eqb}
 use lib.ListN.{length, getD, set, length-set}
-use lib.Seq.{getD-set-same, getD-set-other}
+use lib.Seq.{sets, length-sets, getD-set-same, getD-set-other}
 use Rattle.rules.specs.Sample.{sampleOf}
 use Rattle.rules.specs.Node.{Node, leaf, nodeOf, span, topLevel, nodeEnd}
 use Rattle.rules.specs.Refusal.{nodeSize}
@@ -17,52 +17,63 @@ use Rattle.rules.specs.Walk.{allLevels}
 use Rattle.rules.proofs.Node.{node-one}
 use Rattle.rules.proofs.Walk.{span-pos}
 use Rattle.rules.proofs.Found.{TrueNodes}
-use Rattle.node.specs.Memory.{nodeIn, putNode, readerOf, Right}
+use Rattle.node.specs.Memory.{half, numbersOf, nodeIn, putNode, readerOf, Right}
 
--- ---- three stores in a row
-module _ (l : List ℕ) (a x y z : ℕ) where
-  abbrev three : List ℕ
-  three = set (set (set l a x) (a + 1) y) (a + 2) z
+-- ---- a run of stores
+-- other numbers stay
+sets-other : (vs l : List ℕ) (i k : ℕ) → (k < i) ⊎ (i + length vs ≤ k) → getD (sets l i vs) k 0 ≡ getD l k 0
+sets-other [] l i k h = refl
+sets-other (v ∷ vs) l i k h = sets-other vs (set l i v) (suc i) k (side h) ∙ getD-set-other l i k v 0 (apart h)
+  where
+    side : (k < i) ⊎ (i + suc (length vs) ≤ k) → (k < suc i) ⊎ (suc i + length vs ≤ k)
+    side (inl a) = inl (omega arith)
+    side (inr a) = inr (omega arith)
 
-  three-other : (k : ℕ) → k ≢ a → k ≢ a + 1 → k ≢ a + 2 → getD three k 0 ≡ getD l k 0
-  three-other k p q r = getD-set-other (set (set l a x) (a + 1) y) (a + 2) k z 0 r ∙ getD-set-other (set l a x) (a + 1) k y 0 q ∙ getD-set-other l a k x 0 p
+    apart : (k < i) ⊎ (i + suc (length vs) ≤ k) → k ≢ i
+    apart (inl a) e = omega arith
+    apart (inr a) e = omega arith
 
-  module _ (h : a + 3 ≤ length l) where
-    three-first : getD three a 0 ≡ x
-    three-first = getD-set-other (set (set l a x) (a + 1) y) (a + 2) a z 0 (λ e. omega arith) ∙ getD-set-other (set l a x) (a + 1) a y 0 (λ e. omega arith) ∙ getD-set-same l a x 0 (omega arith)
+-- what is stored is read back
+sets-at : (vs l : List ℕ) (i k : ℕ) → i + length vs ≤ length l → k < length vs → getD (sets l i vs) (i + k) 0 ≡ getD vs k 0
+sets-at [] l i k h b = absurd (not-suc-le-zero b)
+sets-at (v ∷ vs) l i zero h b = ap (λ (x : ℕ). getD (sets (set l i v) (suc i) vs) x 0) (add-zero i) ∙ sets-other vs (set l i v) (suc i) i (inl (omega arith)) ∙ getD-set-same l i v 0 (omega arith)
+sets-at (v ∷ vs) l i (suc k) h b = ap (λ (x : ℕ). getD (sets (set l i v) (suc i) vs) x 0) next ∙ sets-at vs (set l i v) (suc i) k (simp length-set (omega arith)) (omega arith)
+  where
+    next : i + suc k ≡ suc i + k
+    next = omega arith
 
-    three-second : getD three (a + 1) 0 ≡ y
-    three-second = getD-set-other (set (set l a x) (a + 1) y) (a + 2) (a + 1) z 0 (λ e. omega arith) ∙ getD-set-same (set l a x) (a + 1) y 0 (simp length-set (omega arith))
-
-    three-third : getD three (a + 2) 0 ≡ z
-    three-third = getD-set-same (set (set l a x) (a + 1) y) (a + 2) z 0 (simp length-set (omega arith))
+-- lists with equal numbers at a node's places have the same node
+pub node-at : (k l : List ℕ) (i : ℕ) → ((x : ℕ) → x < nodeSize → getD k (i * nodeSize + x) 0 ≡ getD l (i * nodeSize + x) 0) → nodeIn k i ≡ nodeIn l i
+node-at k l i h = λ t. record { first = first t; last = h 1 (omega arith) t; toggles = h 2 (omega arith) t; count = ap₂ (λ (x y : ℕ). x + half * y) (h 3 (omega arith)) (h 4 (omega arith)) t }
+  where
+    first : getD k (i * nodeSize) 0 ≡ getD l (i * nodeSize) 0
+    first = ap (λ (x : ℕ). getD k x 0) (sym (add-zero (i * nodeSize))) ∙ h 0 (omega arith) ∙ ap (λ (x : ℕ). getD l x 0) (add-zero (i * nodeSize))
 
 module _ (l : List ℕ) (j : ℕ) (n : Node) where
   pub length-put : length (putNode l j n) ≡ length l
   unfolding putNode
-  length-put = simp length-set
+  length-put = length-sets l (j * nodeSize) (numbersOf n)
 
   -- what is put is read back
   pub put-same : j * nodeSize + nodeSize ≤ length l → nodeIn (putNode l j n) j ≡ n
   unfolding putNode
-  put-same h = λ i. record {
-    first = three-first l (j * nodeSize) (n .first) (n .last) (n .toggles) h i;
-    last = three-second l (j * nodeSize) (n .first) (n .last) (n .toggles) h i;
-    toggles = three-third l (j * nodeSize) (n .first) (n .last) (n .toggles) h i;
+  put-same h = λ t. record {
+    first = (ap (λ (x : ℕ). getD (sets l (j * nodeSize) (numbersOf n)) x 0) (sym (add-zero (j * nodeSize))) ∙ at 0 (omega arith)) t;
+    last = at 1 (omega arith) t;
+    toggles = at 2 (omega arith) t;
+    count = (ap₂ (λ (x y : ℕ). x + half * y) (at 3 (omega arith)) (at 4 (omega arith)) ∙ whole) t;
   }
+    where
+      at : (k : ℕ) → k < nodeSize → getD (sets l (j * nodeSize) (numbersOf n)) (j * nodeSize + k) 0 ≡ getD (numbersOf n) k 0
+      at k b = sets-at (numbersOf n) l (j * nodeSize) k h b
+
+      whole : n .count % half + half * (n .count / half) ≡ n .count
+      whole = omega arith
 
   -- the other numbers stay
   pub put-rest : (k : ℕ) → (k < j * nodeSize) ⊎ (j * nodeSize + nodeSize ≤ k) → getD (putNode l j n) k 0 ≡ getD l k 0
   unfolding putNode
-  put-rest k (inl h) = three-other l (j * nodeSize) (n .first) (n .last) (n .toggles) k (λ e. omega arith) (λ e. omega arith) (λ e. omega arith)
-  put-rest k (inr h) = three-other l (j * nodeSize) (n .first) (n .last) (n .toggles) k (λ e. omega arith) (λ e. omega arith) (λ e. omega arith)
-
--- lists with equal numbers at a node's places have the same node
-pub node-at : (k l : List ℕ) (i : ℕ) → ((x : ℕ) → x < nodeSize → getD k (i * nodeSize + x) 0 ≡ getD l (i * nodeSize + x) 0) → nodeIn k i ≡ nodeIn l i
-node-at k l i h = λ t. record { first = first t; last = h 1 (omega arith) t; toggles = h 2 (omega arith) t }
-  where
-    first : getD k (i * nodeSize) 0 ≡ getD l (i * nodeSize) 0
-    first = ap (λ (x : ℕ). getD k x 0) (sym (add-zero (i * nodeSize))) ∙ h 0 (omega arith) ∙ ap (λ (x : ℕ). getD l x 0) (add-zero (i * nodeSize))
+  put-rest k h = sets-other (numbersOf n) l (j * nodeSize) k h
 
 -- the other nodes stay
 pub put-other : (l : List ℕ) (j : ℕ) (n : Node) (i : ℕ) → i ≢ j → nodeIn (putNode l j n) i ≡ nodeIn l i

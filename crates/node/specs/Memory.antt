@@ -1,10 +1,11 @@
 -- Nodes in level memory, and when all of them are right.
 use mathlib.Core.Path.{_≡_}
 use mathlib.Core.Bool.{Bool, cond}
-use mathlib.Core.List.{List}
-use Prim.Native.Nat.{ℕ, zero, suc, _+_, _*_, _/_, _≤_, _<_}
+use mathlib.Core.List.{List, [], _∷_}
+use Prim.Native.Nat.{ℕ, zero, suc, _+_, _*_, _/_, _%_, _≤_, _<_}
 use lib.Dec.{leb, eqb}
-use lib.ListN.{getD, set}
+use lib.ListN.{getD}
+use lib.Seq.{sets}
 use Rattle.rules.specs.Sample.{sampleOf}
 use Rattle.rules.specs.Node.{leaf, span, topLevel, levelNode}
 use Rattle.rules.specs.Node as rule
@@ -13,15 +14,28 @@ use Rattle.node.specs.declared.Node.{Node}
 
 -- the code's node as 01's
 abbrev pub asNode : Node → rule.Node
-asNode n = record { first = n .first; last = n .last; toggles = n .mask }
+asNode n = record { first = n .first; last = n .last; toggles = n .mask; count = n .count }
+
+-- how many values a number of level memory has
+abbrev pub half : ℕ
+half = 65536
+
+-- a node's numbers, the count's last: "as two 16-bit numbers, low first, so a node is five numbers" (02, CR 5)
+abbrev pub numbersOf : rule.Node → List ℕ
+numbersOf n = n .first ∷ n .last ∷ n .toggles ∷ n .count % half ∷ n .count / half ∷ []
 
 -- node j of a level's list
 abbrev pub nodeIn : List ℕ → ℕ → rule.Node
-nodeIn level j = record { first = getD level (j * nodeSize) 0; last = getD level (j * nodeSize + 1) 0; toggles = getD level (j * nodeSize + 2) 0 }
+nodeIn level j = record {
+  first = getD level (j * nodeSize) 0;
+  last = getD level (j * nodeSize + 1) 0;
+  toggles = getD level (j * nodeSize + 2) 0;
+  count = getD level (j * nodeSize + 3) 0 + half * getD level (j * nodeSize + 4) 0;
+}
 
 -- the list with n as its node j
 unfoldable pub putNode : List ℕ → ℕ → rule.Node → List ℕ
-putNode level j n = set (set (set level (j * nodeSize) (n .first)) (j * nodeSize + 1) (n .last)) (j * nodeSize + 2) (n .toggles)
+putNode level j n = sets level (j * nodeSize) (numbersOf n)
 
 -- four levels, or something of each, as a function of the level
 unfoldable pub levelOf : {A : Type 0} → A → A → A → A → ℕ → A

@@ -1,5 +1,6 @@
 pub mod Joins
-pub mod Packed
 pub mod Part
 pub mod Raw
 pub mod Right
+pub mod Scan
+pub mod Apart

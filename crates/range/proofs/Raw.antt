@@ -1,90 +1,135 @@
--- Laws of nodes of samples: toggles by the first sample, and samples of unit 1.
-use Prim.Native.Nat.{ℕ, zero, suc, _+_, _-_, _*_, _≤_, _<_, max}
-use mathlib.Core.Path.{_≡_, refl, sym, ap, ap₂, _∙_}
+-- Laws of runs of changes: two in a row, one more place, two that overlap in one place, and the node of a run. And samples of unit 1.
+use Prim.Native.Nat.{ℕ, zero, suc, _+_, _-_, _*_, _≤_}
+use mathlib.Core.Path.{_≡_, refl, sym, ap, ap₂, _∙_, subst}
 use mathlib.Core.List.{List}
-use native.Mathlib.Nat.{add-zero, mul-one}
+use native.Mathlib.Nat.{zero-add, add-zero, add-suc, mul-one}
 use native.Mathlib.Omega.{arith}
-use lib.Bits.{bitOr, bitXor, differ, xor-self}
+use lib.Bits.{bitOr, bitXor, or-zero-r, or-self}
 use lib.ListN.{getD}
-use Rattle.rules.specs.Sample.{line, sampleOf}
-use Rattle.rules.specs.Node.{Node, togglesOf, nodeOf}
-use Rattle.rules.proofs.Bits.{line-lt, two-cases, lines-ext, line-or, line-xor}
+use Rattle.rules.specs.Sample.{sampleOf}
+use Rattle.rules.specs.Node.{Node, changes, togglesOf, differs, countOf, capCount, nodeOf}
+use Rattle.rules.proofs.Bits.{or-assoc, or-sort}
+use Rattle.range.specs.Run.{Run, Both}
 
--- ---- toggles by the first sample
--- the OR of each of n samples XOR f
-unfoldable pub apartFrom : ℕ → (ℕ → ℕ) → ℕ → ℕ
-apartFrom f s zero = 0
-apartFrom f s (suc n) = bitOr (apartFrom f s n) (bitXor (s n) f)
+module _ (s : ℕ → ℕ) where
+  -- ---- two runs in a row
+  toggles-add : (a n m : ℕ) → togglesOf s a (n + m) ≡ bitOr (togglesOf s a n) (togglesOf s (a + n) m)
+  unfolding togglesOf
+  toggles-add a n zero = ap (togglesOf s a) (add-zero n) ∙ sym (or-zero-r (togglesOf s a n))
+  toggles-add a n (suc m) =
+      ap (togglesOf s a) (add-suc n m)
+      ∙ ap₂ (λ (x i : ℕ). bitOr x (changes s i)) (toggles-add a n m) at
+      ∙ or-assoc (togglesOf s a n) (togglesOf s (a + n) m) (changes s (a + n + suc m))
+    where
+      at : a + suc (n + m) ≡ a + n + suc m
+      at = omega arith
 
--- of the n samples from a on, XOR the first one
-abbrev pub apart : (ℕ → ℕ) → ℕ → ℕ → ℕ
-apart s a n = apartFrom (s a) (λ i. s (a + i)) n
+  count-add : (a n m : ℕ) → countOf s a (n + m) ≡ countOf s a n + countOf s (a + n) m
+  unfolding countOf
+  count-add a n zero = ap (countOf s a) (add-zero n) ∙ sym (add-zero (countOf s a n))
+  count-add a n (suc m) =
+      ap (countOf s a) (add-suc n m)
+      ∙ ap₂ (λ (x i : ℕ). x + differs (s i) (s (i - 1))) (count-add a n m) at
+      ∙ omega arith
+    where
+      at : a + suc (n + m) ≡ a + n + suc m
+      at = omega arith
 
-or-again : (x y : ℕ) → bitOr (bitOr x y) y ≡ bitOr x y
-or-again x y = lines-ext _ _ (λ k. simp line-or (omega arith))
+  run-add : (a n m mask count mask′ count′ : ℕ) → Run s a n mask count → Run s (a + n) m mask′ count′ → Run s a (n + m) (bitOr mask mask′) (count + count′)
+  run-add a n m mask count mask′ count′ p q = record {
+    lines = ap₂ bitOr (p .lines) (q .lines) ∙ sym (toggles-add a n m);
+    many = ap₂ (λ (x y : ℕ). x + y) (p .many) (q .many) ∙ sym (count-add a n m);
+  }
 
--- one line: where t has the lines in which p and f differ, v differs from f and from p alike beyond t
-line-alike : (t p f v : ℕ) → t < 2 → p < 2 → f < 2 → v < 2 → max t (differ p f) ≡ t → max t (differ v f) ≡ max t (differ v p)
-line-alike t p f v ht hp hf hv = two-cases (λ (t : ℕ). max t (differ p f) ≡ t → max t (differ v f) ≡ max t (differ v p))
-    (λ e. ap (max 0) (ap (differ v) (sym (same (omega arith)))))
-    (λ e. omega (arith, below v f hv hf, below v p hv hp)) t ht
-  where
-    below : (x y : ℕ) → x < 2 → y < 2 → differ x y < 2
-    below x y hx hy = two-cases (λ (x : ℕ). differ x y < 2) hy (two-cases (λ (y : ℕ). differ 1 y < 2) (omega arith) (omega arith) y hy) x hx
+  -- ---- one place
+  toggles-one : (a : ℕ) → togglesOf s a 1 ≡ bitXor (s (a + 1)) (s a)
+  unfolding togglesOf
+  toggles-one a = ap (λ (i : ℕ). bitXor (s (a + 1)) (s i)) back
+    where
+      back : a + 1 - 1 ≡ a
+      back = omega arith
 
-    same : differ p f ≡ 0 → p ≡ f
-    same = two-cases (λ (p : ℕ). differ p f ≡ 0 → p ≡ f) (λ e. sym e)
-        (two-cases (λ (f : ℕ). differ 1 f ≡ 0 → 1 ≡ f) (λ e. e) (λ e. refl) f hf) p hp
+  count-one : (a : ℕ) → countOf s a 1 ≡ differs (s (a + 1)) (s a)
+  unfolding countOf
+  count-one a = zero-add (differs (s (a + 1)) (s (a + 1 - 1))) ∙ ap (λ (i : ℕ). differs (s (a + 1)) (s i)) back
+    where
+      back : a + 1 - 1 ≡ a
+      back = omega arith
 
-or-alike : (t p f v : ℕ) → bitOr t (bitXor p f) ≡ t → bitOr t (bitXor v f) ≡ bitOr t (bitXor v p)
-or-alike t p f v e = lines-ext _ _ (λ k.
-    simp (line-or, line-xor) (line-alike (line t k) (line p k) (line f k) (line v k) (line-lt t k) (line-lt p k) (line-lt f k) (line-lt v k)
-    (sym (line-or t (bitXor p f) k ∙ ap (max (line t k)) (line-xor p f k)) ∙ ap (λ (x : ℕ). line x k) e)))
+  run-on : (a k mask count x y d : ℕ) → Run s a k mask count → x ≡ s (a + k) → y ≡ s (a + k + 1) → d ≡ differs y x → Run s a (k + 1) (bitOr mask (bitXor y x)) (count + d)
+  run-on a k mask count x y d p ex ey ed = run-add a k 1 mask count (bitXor y x) d p (record {
+    lines = ap₂ bitXor ey ex ∙ sym (toggles-one (a + k));
+    many = ed ∙ ap₂ differs ey ex ∙ sym (count-one (a + k));
+  })
 
--- by the first sample as by neighbours
-pub apart-toggles : (s : ℕ → ℕ) (a n : ℕ) → apart s a (suc n) ≡ togglesOf s a n
-unfolding apartFrom togglesOf
-apart-toggles s a zero = ap (λ (x : ℕ). bitXor (s x) (s a)) (add-zero a) ∙ xor-self (s a)
-apart-toggles s a (suc n) = on (apart-toggles s a n)
-  where
-    before : a + n ≡ a + suc n - 1
-    before = omega arith
+  -- ---- two runs side by side
+  pub both-starts : (a : ℕ) → Both s a 0 0 0
+  unfolding togglesOf countOf
+  both-starts a = record { lines = refl; many = refl }
 
-    on : apart s a (suc n) ≡ togglesOf s a n → apart s a (suc (suc n)) ≡ togglesOf s a (suc n)
-    on ih =
-        ap (λ (x : ℕ). bitOr x (bitXor (s (a + suc n)) (s a))) ih
-        ∙ or-alike (togglesOf s a n) (s (a + n)) (s a) (s (a + suc n))
-        (ap (λ (x : ℕ). bitOr x (bitXor (s (a + n)) (s a))) (sym ih) ∙ or-again (apart s a n) (bitXor (s (a + n)) (s a)) ∙ ih)
-        ∙ ap (λ (x : ℕ). bitOr (togglesOf s a n) (bitXor (s (a + suc n)) (s x))) before
+  pub both-on : (a k mask count x y z w d e : ℕ) → Both s a k mask count → x ≡ s (a + k) → y ≡ s (a + k + 1) → z ≡ s (a + k + 15) → w ≡ s (a + k + 16) → d ≡ differs y x → e ≡ differs w z
+      → Both s a (k + 1) (bitOr (bitOr mask (bitXor y x)) (bitXor w z)) (count + d + e)
+  both-on a k mask count x y z w d e p ex ey ez ew ed ee = record {
+    lines = ap (λ (t : ℕ). bitOr (bitOr t (bitXor y x)) (bitXor w z)) (p .lines) ∙ sorted (togglesOf s a k) (togglesOf s (a + 15) k) (bitXor y x) (bitXor w z) ∙ ap₂ bitOr (l .lines) (r .lines);
+    many = omega (arith, p .many, l .many, r .many);
+  }
+    where
+      sorted : (t u v w : ℕ) → bitOr (bitOr (bitOr t u) v) w ≡ bitOr (bitOr t v) (bitOr u w)
+      sorted t u v w = simp or-sort
 
--- ---- a scan that has come to i
-pub apart-none : (s : ℕ → ℕ) (a : ℕ) → apart s a (a - a) ≡ 0
-unfolding apartFrom
-apart-none s a = ap (apart s a) none
-  where
-    none : a - a ≡ 0
-    none = omega arith
+      l : Run s a (k + 1) (bitOr (togglesOf s a k) (bitXor y x)) (countOf s a k + d)
+      l = run-on a k (togglesOf s a k) (countOf s a k) x y d (record { lines = refl; many = refl }) ex ey ed
 
-pub apart-turn : (s : ℕ → ℕ) (a i m v w : ℕ) → a ≤ i → m ≡ apart s a (i - a) → v ≡ s i → w ≡ s a → bitOr m (bitXor v w) ≡ apart s a (i + 1 - a)
-unfolding apartFrom
-apart-turn s a i m v w h em ev ew = ap₂ bitOr em (ap₂ bitXor (ev ∙ ap s at) ew) ∙ sym (ap (apart s a) one)
-  where
-    at : i ≡ a + (i - a)
-    at = omega arith
+      here : a + k + 15 ≡ a + 15 + k
+      here = omega arith
 
-    one : i + 1 - a ≡ suc (i - a)
-    one = omega arith
+      behind : a + k + 16 ≡ a + 15 + k + 1
+      behind = omega arith
 
--- its end
-pub scanned : (s : ℕ → ℕ) (a b i : ℕ) (n : Node) → a < b → i ≡ b → n .first ≡ s a → n .last ≡ s (b - 1) → n .toggles ≡ apart s a (i - a) → n ≡ nodeOf s a b
-unfolding nodeOf
-scanned s a b i n h ei ef el et = λ k. record { first = ef k; last = el k; toggles = toggles k }
-  where
-    count : i - a ≡ suc (b - 1 - a)
-    count = omega arith
+      r : Run s (a + 15) (k + 1) (bitOr (togglesOf s (a + 15) k) (bitXor w z)) (countOf s (a + 15) k + e)
+      r = run-on (a + 15) k (togglesOf s (a + 15) k) (countOf s (a + 15) k) z w e (record { lines = refl; many = refl }) (ez ∙ ap s here) (ew ∙ ap s behind) ee
 
-    toggles : n .toggles ≡ togglesOf s a (b - 1 - a)
-    toggles = et ∙ ap (apart s a) count ∙ apart-toggles s a (b - 1 - a)
+  pub both-ends : (a k n mask count mask′ : ℕ) → Both s a k mask count → k ≡ n → mask′ ≡ mask → Both s a n mask′ count
+  both-ends a k n mask count mask′ p ek em = record {
+    lines = em ∙ p .lines ∙ ap (λ (i : ℕ). bitOr (togglesOf s a i) (togglesOf s (a + 15) i)) ek;
+    many = p .many ∙ ap (λ (i : ℕ). countOf s a i + countOf s (a + 15) i) ek;
+  }
+
+  -- 16 places each: the one that both have is counted twice
+  pub both-whole : (a mask count x y d : ℕ) → Both s a 16 mask count → x ≡ s (a + 15) → y ≡ s (a + 16) → d ≡ differs y x → (d ≤ count) × Run s a 31 mask (count - d)
+  both-whole a mask count x y d p ex ey ed = (
+    omega (arith, p .many, upto, ed-is),
+    record {
+      lines = p .lines ∙ ap (λ (t : ℕ). bitOr t (togglesOf s (a + 15) 16)) (toggles-add a 15 1)
+          ∙ ap (λ (t : ℕ). bitOr (bitOr (togglesOf s a 15) (togglesOf s (a + 15) 1)) t) (toggles-add (a + 15) 1 15)
+          ∙ once (togglesOf s a 15) (togglesOf s (a + 15) 1) (togglesOf s (a + 15 + 1) 15)
+          ∙ ap (bitOr (togglesOf s a 15)) (sym (toggles-add (a + 15) 1 15))
+          ∙ sym (toggles-add a 15 16);
+      many = omega (arith, p .many, upto, ed-is, count-add a 15 16);
+    },
+  )
+    where
+      upto : countOf s a 16 ≡ countOf s a 15 + countOf s (a + 15) 1
+      upto = count-add a 15 1
+
+      behind : a + 16 ≡ a + 15 + 1
+      behind = omega arith
+
+      ed-is : d ≡ countOf s (a + 15) 1
+      ed-is = ed ∙ ap₂ differs (ey ∙ ap s behind) ex ∙ sym (count-one (a + 15))
+
+      once : (t u v : ℕ) → bitOr (bitOr t u) (bitOr u v) ≡ bitOr t (bitOr u v)
+      once t u v = or-assoc t u (bitOr u v) ∙ ap (bitOr t) (sym (or-assoc u u v) ∙ ap (λ (x : ℕ). bitOr x v) (or-self u))
+
+  -- ---- the node of a range, by the changes inside it
+  pub run-node : (a b : ℕ) (n : Node) (mask count k : ℕ) → Run s a k mask count → k ≡ b - 1 - a → n .first ≡ s a → n .last ≡ s (b - 1) → n .toggles ≡ mask → n .count ≡ capCount count → n ≡ nodeOf s a b
+  unfolding nodeOf
+  run-node a b n mask count k p ek ef el em ec = λ i. record {
+    first = ef i;
+    last = el i;
+    toggles = (em ∙ p .lines ∙ ap (togglesOf s a) ek) i;
+    count = (ec ∙ ap capCount (p .many ∙ ap (countOf s a) ek)) i;
+  }
 
 -- ---- samples of unit 1
 pub byte-sample : (l : List ℕ) (i : ℕ) → getD l i 0 ≡ sampleOf 1 l i

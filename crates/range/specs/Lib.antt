@@ -1,3 +1,3 @@
 pub mod Join
-pub mod Packed
 pub mod Part
+pub mod Run

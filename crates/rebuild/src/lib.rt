@@ -7,6 +7,8 @@ use lines::Mask;
 use node::Node;
 use node::node_in;
 use node::put_node;
+use number::lesser;
+use range::HALF_FAN;
 use range::join_nodes;
 use range::join_on;
 use range::raw_node;
@@ -57,13 +59,13 @@ pub fn join_first(
 {
     let a = len / FAN * FAN;
     let b = end_of(a, top);
-    let n = raw_node(part, unitsize, len - base, b - base);
+    let n = raw_node(part, unitsize, len - base, b - base, true);
     put_running(level, 1, len, n);
     n
 }
 
 // The nodes of level 1 from number first on, up to the one of place top, from the samples of a part that starts at place base.
-// In unit 1 whole nodes are made by a loop of their own, which is what long pushes spend their time on.
+// Whole nodes are made by a loop of their own, which is what long pushes spend their time on.
 pub fn rebuild_new(
     part: &[u8],
     level: &mut [Mask],
@@ -75,23 +77,27 @@ pub fn rebuild_new(
     requires { ⌜ FirstRoom unitsize base first top (length (now part)) (length (now level)) ⌝ }
     ensures { λ _. ⌜ now (level .exit) ≡ newNodes (partSample unitsize (now (part .entry)) base) (now (level .entry)) first top 1 ⌝ }
 {
-    if unitsize == 1 {
-        let rest = rebuild_whole(part, level, base, first, top);
-        rebuild_each(part, level, 1, base, rest, top);
-    } else {
-        rebuild_each(part, level, unitsize, base, first, top);
-    }
+    let rest = rebuild_whole(part, level, unitsize, base, first, top);
+    rebuild_each(part, level, unitsize, base, rest, top);
 }
 
-// The whole ones of these nodes, in unit 1. The others are left to make, from the number answered on.
-fn rebuild_whole(part: &[u8], level: &mut [Mask], base: usize, first: usize, top: usize) -> usize
-    requires { ⌜ FirstRoom 1 base first top (length (now part)) (length (now level)) ⌝ }
-    ensures { λ r. ⌜ (first ≤ r) × (newNodes (partSample 1 (now (part .entry)) base) (now (level .exit)) r top 1 ≡ newNodes (partSample 1 (now (part .entry)) base) (now (level .entry)) first top 1) ⌝ }
+// The whole ones of these nodes. The others are left to make, from the number answered on.
+fn rebuild_whole(
+    part: &[u8],
+    level: &mut [Mask],
+    unitsize: usize,
+    base: usize,
+    first: usize,
+    top: usize,
+) -> usize
+    requires { ⌜ FirstRoom unitsize base first top (length (now part)) (length (now level)) ⌝ }
+    ensures { λ r. ⌜ (first ≤ r) × (newNodes (partSample unitsize (now (part .entry)) base) (now (level .exit)) r top 1 ≡ newNodes (partSample unitsize (now (part .entry)) base) (now (level .entry)) first top 1) ⌝ }
 {
     let end = (top + 1) / FAN;
+    let half = lesser(part.len(), HALF_FAN);
     let mut j = first;
     while j < end {
-        put_node(level, j, raw_whole(part, j * FAN - base));
+        put_node(level, j, raw_whole(part, unitsize, j * FAN - base, half));
         j += 1;
     }
     j
@@ -114,7 +120,7 @@ fn rebuild_each(
     while j <= last {
         let a = j * FAN;
         let b = end_of(a, top);
-        put_node(level, j, raw_node(part, unitsize, a - base, b - base));
+        put_node(level, j, raw_node(part, unitsize, a - base, b - base, true));
         j += 1;
     }
 }

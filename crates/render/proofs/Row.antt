@@ -8,7 +8,7 @@ use native.Mathlib.Numerals.{add-one}
 use native.Mathlib.Omega.{arith}
 use lib.ListN.{length, take, drop, set, length-append, length-drop}
 use lib.Seq.{sets-eq, take-at, drop-at, drop-drop}
-use Rattle.rules.specs.Node.{Node}
+use Rattle.rules.specs.Node.{Node, Lines, linesOf}
 use Rattle.rules.specs.Pixel.{Range, shown, rowBy}
 use Rattle.rules.proofs.Row.{Stored, row-length, row-same}
 use Rattle.render.specs.Render.{drawn, pixelNode}
@@ -19,9 +19,9 @@ module _ (node : ℕ → ℕ → Node) where
   shown-append none a b = refl
   shown-append (some r) a b = refl
 
-  shown-is : (r : Option Range) (n : Node) → n ≡ pixelNode node r → n .first ∷ n .toggles ∷ [] ≡ shown node r []
-  shown-is none n e = ap (λ (m : Node). m .first ∷ m .toggles ∷ []) e
-  shown-is (some r) n e = ap (λ (m : Node). m .first ∷ m .toggles ∷ []) e
+  shown-is : (r : Option Range) (n : Node) → linesOf n ≡ linesOf (pixelNode node r) → n .first ∷ n .toggles ∷ [] ≡ shown node r []
+  shown-is none n e = ap (λ (l : Lines). l .first ∷ l .toggles ∷ []) e
+  shown-is (some r) n e = ap (λ (l : Lines). l .first ∷ l .toggles ∷ []) e
 
   -- ---- a row
   module _ (range : ℕ → Option Range) where
@@ -45,7 +45,7 @@ module _ (node : ℕ → ℕ → Node) where
     unfolding drawn
     drawn-length k output h = length-append (rowBy node range 0 k) (drop (2 * k) output) ∙ omega (arith, row-length node range 0 k, length-drop (2 * k) output)
 
-    pub drawn-turn : (px : ℕ) (n : Node) (output now : List ℕ) → 2 * px + 2 ≤ length output → now ≡ drawn node range px output → n ≡ pixelNode node (range px) → set (set now (2 * px) (n .first)) (2 * px + 1) (n .toggles) ≡ drawn node range (px + 1) output
+    pub drawn-turn : (px : ℕ) (n : Node) (output now : List ℕ) → 2 * px + 2 ≤ length output → now ≡ drawn node range px output → linesOf n ≡ linesOf (pixelNode node (range px)) → set (set now (2 * px) (n .first)) (2 * px + 1) (n .toggles) ≡ drawn node range (px + 1) output
     unfolding drawn
     drawn-turn px n output now h e en =
         ap (λ (k : ℕ). set (set now (2 * px) (n .first)) k (n .toggles)) (add-one (2 * px))

@@ -11,6 +11,7 @@ use summary::summary_in;
 ghost use mathlib.Core.Path.{_≡_};
 ghost use lib.ListN.{length};
 ghost use Rattle.rules.specs.Sample.{sampleOf};
+ghost use Rattle.rules.specs.Node.{linesOf};
 ghost use Rattle.rules.specs.Pixel.{rangeFrom};
 ghost use Rattle.rules.specs.Refusal.{firstOf, viewRows};
 ghost use Rattle.node.specs.Memory.{asNode, levelOf};
@@ -40,7 +41,7 @@ pub fn view_refusal(view: View, width: usize, output: usize) -> u8
     0
 }
 
-// What a pixel shows: its range's node, or zeros where it has no range.
+// What a pixel shows: the lines of its range's node, or zeros where it has no range.
 fn pixel_node<'a>(
     c: Capture,
     samples: &[u8],
@@ -51,11 +52,11 @@ fn pixel_node<'a>(
     p: Pixel,
 ) -> Node
     requires { ⌜ Covered (storeOf c) (lentOf (now samples) (levelOf (now l1) (now l2) (now l3) (now l4))) (rangeAs p) ⌝ }
-    ensures { λ r. ⌜ asNode r ≡ pixelNode (summed (levelOf (now (l1 .entry)) (now (l2 .entry)) (now (l3 .entry)) (now (l4 .entry))) (sampleOf (c .unitsize) (now (samples .entry)))) (rangeAs p) ⌝ }
+    ensures { λ r. ⌜ linesOf (asNode r) ≡ linesOf (pixelNode (summed (levelOf (now (l1 .entry)) (now (l2 .entry)) (now (l3 .entry)) (now (l4 .entry))) (sampleOf (c .unitsize) (now (samples .entry)))) (rangeAs p)) ⌝ }
 {
     match p {
         Pixel::Blank => Node::leaf(0),
-        Pixel::Span(a, b) => summary_in(c, samples, l1, l2, l3, l4, a as usize, b as usize),
+        Pixel::Span(a, b) => summary_in(c, samples, l1, l2, l3, l4, a as usize, b as usize, false),
     }
 }
 

@@ -87,10 +87,10 @@ fn lists(
 fn main() {
     let mut text = [0u8; 131072];
     let mut samples: Samples = [0; 4194304];
-    let mut l1: Level1 = [0; 393216];
-    let mut l2: Level2 = [0; 12288];
-    let mut l3: Level3 = [0; 384];
-    let mut l4: Level4 = [0; 12];
+    let mut l1: Level1 = [0; 655360];
+    let mut l2: Level2 = [0; 20480];
+    let mut l3: Level3 = [0; 640];
+    let mut l4: Level4 = [0; 20];
     let mut ring: Ring = [0; 524288];
     let mut output: Output = [0; 131074];
     let mut piece: Piece = [0; 65536];

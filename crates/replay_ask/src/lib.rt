@@ -4,6 +4,7 @@ use capture::Capture;
 use capture::Copied;
 use capture::Got;
 use capture::Mark;
+use density::Changes;
 use feeder::Armed;
 use feeder::Feeder;
 use lines::Mask;
@@ -59,6 +60,7 @@ fn found(r: Found) -> Answer {
     }
 }
 
+// Without the count, which the Rust does not have.
 fn summed(r: Summed) -> Answer {
     match r {
         Summed::Refused(n) => refused(n),
@@ -67,6 +69,13 @@ fn summed(r: Summed) -> Answer {
             4,
             [1, value_of(n.first), value_of(n.last), value_of(n.mask), 0],
         ),
+    }
+}
+
+fn counted(r: Changes) -> Answer {
+    match r {
+        Changes::Refused(n) => refused(n),
+        Changes::Count(n) => one(n as usize),
     }
 }
 
@@ -199,6 +208,7 @@ pub fn ask<'a>(
         20 => found(search::next_change(c, samples, l1, l2, l3, l4, mask_of(a[0]), a[1])),
         21 => found(search::prev_change(c, samples, l1, l2, l3, l4, mask_of(a[0]), a[1])),
         22 => summed(summary::summary(c, samples, l1, l2, l3, l4, a[0], a[1])),
+        23 => counted(density::density(c, samples, l1, l2, l3, l4, a[0], a[1])),
         30 => burst(burst::burst_at(
             c,
             samples,

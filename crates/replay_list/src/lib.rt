@@ -12,13 +12,13 @@ use state::State;
 // Memory for every list of data/.
 pub type Samples = [u8; 4194304];
 
-pub type Level1 = [Mask; 393216];
+pub type Level1 = [Mask; 655360];
 
-pub type Level2 = [Mask; 12288];
+pub type Level2 = [Mask; 20480];
 
-pub type Level3 = [Mask; 384];
+pub type Level3 = [Mask; 640];
 
-pub type Level4 = [Mask; 12];
+pub type Level4 = [Mask; 20];
 
 pub type Ring = [u8; 524288];
 

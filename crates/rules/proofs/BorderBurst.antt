@@ -6,7 +6,7 @@ use mathlib.Core.Option.{Option, none, some}
 use Prim.Native.Nat.{ℕ}
 use lib.Bits.{bitXor}
 use lib.Dec.{ltb}
-use Rattle.rules.specs.Node.{togglesOf, nodeOf}
+use Rattle.rules.specs.Node.{togglesOf, countOf, nodeOf}
 use Rattle.rules.specs.Search.{seek}
 use Rattle.rules.specs.Walk.{Counted, best, walk, chunks}
 use Rattle.rules.specs.Burst.{sum, Burst, End, jump, lastEnd, firstEnd, burstBy, jumpSteps, stepsBy, burstedBy, burst, burstSearch}
@@ -51,7 +51,7 @@ pub pairs :
     × (burstAt (2 ∷ 3 ∷ 8 ∷ 9 ∷ []) 5 4 3 0 ≡ is 2 3 0 0)
     × (burstAt (1 ∷ 6 ∷ 11 ∷ 12 ∷ []) 8 4 3 0 ≡ is 11 12 0 0)
     × (burstAt (1 ∷ 2 ∷ 7 ∷ 12 ∷ []) 5 4 3 0 ≡ is 1 2 0 0)
-unfolding togglesOf nodeOf seek jump burstBy jumpSteps stepsBy best walk chunks
+unfolding togglesOf countOf nodeOf seek jump burstBy jumpSteps stepsBy best walk chunks
 pairs = (refl, refl, refl, refl, refl, refl, refl, refl, refl, refl, refl, refl, refl, refl, refl, refl, refl, refl, refl, refl, refl, refl)
 
 -- where both changes exist and are no pair: the side's gap and its distance, left and right; "with neither side the answer is none"
@@ -67,7 +67,7 @@ pub sides :
     × (burstAt [] 5 4 3 0 ≡ none)
     × (burstAt (5 ∷ []) 5 4 3 0 ≡ none)
     × (burstAt (5 ∷ []) 3 4 3 0 ≡ none)
-unfolding togglesOf nodeOf seek jump burstBy jumpSteps stepsBy best walk chunks
+unfolding togglesOf countOf nodeOf seek jump burstBy jumpSteps stepsBy best walk chunks
 sides = (refl, refl, refl, refl, refl, refl, refl, refl, refl, refl, refl)
 
 abbrev eight : List ℕ
@@ -92,7 +92,7 @@ pub ends :
     × (burstAt eight 4 2 0 9 ≡ is 1 8 3 3)
     × (burstAt (3 ∷ 4 ∷ 5 ∷ 6 ∷ 7 ∷ 8 ∷ []) 4 2 0 2 ≡ is 3 7 2 1)
     × (burstAt (1 ∷ 2 ∷ 3 ∷ 4 ∷ 5 ∷ 6 ∷ []) 4 2 0 2 ≡ is 2 6 1 2)
-unfolding togglesOf nodeOf seek jump burstBy jumpSteps stepsBy best walk chunks
+unfolding togglesOf countOf nodeOf seek jump burstBy jumpSteps stepsBy best walk chunks
 ends = (refl, refl, refl, refl, refl, refl, refl, refl, refl, refl, refl, refl, refl, refl, refl)
 
 -- a burst of 0 1 0, and one over searches that always find place 1, by 5 nodes and by 7
@@ -122,7 +122,7 @@ pub limits :
     -- a search that finds nothing ends the jumps
     × (lastEnd (λ p. cond (ltb p 8) (some 6) none) some 3 9 5 ≡ record { place = 6; jumps = 1 })
     × (firstEnd some (λ p. cond (ltb 2 p) (some 4) none) 3 9 6 ≡ record { place = 4; jumps = 1 })
-unfolding togglesOf nodeOf seek jump burstBy jumpSteps stepsBy best walk chunks
+unfolding togglesOf countOf nodeOf seek jump burstBy jumpSteps stepsBy best walk chunks
 limits = (refl, refl, refl, refl, refl, refl, refl, refl, refl, refl, refl, refl, refl, refl, refl)
 
 -- ---- "Burst, also when it finds none, returns the sum over the searches that `burst_at` makes." (02, CR 3)
@@ -156,7 +156,7 @@ pub nodes-read :
     × (reads (2 ∷ 6 ∷ []) 4 4 1 0 ≡ 5)
     × (reads (2 ∷ 6 ∷ []) 4 4 2 0 ≡ 19)
     × (reads (2 ∷ 6 ∷ []) 6 4 0 0 ≡ 18)
-unfolding togglesOf nodeOf seek jump burstBy jumpSteps stepsBy best walk chunks
+unfolding togglesOf countOf nodeOf seek jump burstBy jumpSteps stepsBy best walk chunks
 nodes-read = (refl, refl, refl, refl, refl, refl, refl, refl, refl, refl, refl, refl, refl, refl, refl, refl, refl, refl, refl, refl, refl)
 
 -- the ends search from the pair that the burst has, with its gap and tolerance, and not at all where it has none
@@ -186,7 +186,7 @@ pub nodes-read-growing :
     × (reads (4 ∷ 5 ∷ 8 ∷ []) 4 4 0 9 ≡ 11)
     × (reads (4 ∷ 5 ∷ 9 ∷ []) 4 4 0 9 ≡ 10)
     × (jumpSteps (λ p. record { found = none; steps = 4 }) ltb 9 5 ≡ 4)
-unfolding togglesOf nodeOf seek jump burstBy jumpSteps stepsBy best walk chunks
+unfolding togglesOf countOf nodeOf seek jump burstBy jumpSteps stepsBy best walk chunks
 nodes-read-growing = (refl, refl, refl, refl, refl, refl, refl, refl, refl, refl, refl, refl, refl, refl, refl, refl, refl, refl, refl, refl, refl, refl, refl, refl)
 
 -- the burst without its count is the one that is found

@@ -7,7 +7,7 @@ use Prim.Native.Nat.{ℕ, _+_, _*_}
 use lib.IntN.{pos, negsuc}
 use lib.Ieee.{Float, nan, inf, fin, add, mul, ofInt}
 use Rattle.rules.specs.Sample.{sampleOf}
-use Rattle.rules.specs.Node.{togglesOf, nodeOf}
+use Rattle.rules.specs.Node.{togglesOf, countOf, nodeOf}
 use Rattle.rules.specs.Floor.{Whole, under, over, at, floorOf, nearestOf, natural}
 use Rattle.rules.specs.Floor
 use Rattle.rules.specs.Pixel.{View, pixelEdge, endOf, Range, rangeOf, pixelRange, rowBy, render, cutPixels, rangeFrom}
@@ -140,7 +140,7 @@ pub drawn :
     × (render s 3 (view (minus 2) (whole 1)) 2 ≡ 0 ∷ 0 ∷ 5 ∷ 2 ∷ [])
     × (render s 3 (view (whole 0) (whole 3)) 1 ≡ 5 ∷ 3 ∷ [])
     × (render s 3 (view (whole 0) (whole 1)) 0 ≡ [])
-    × (rowBy (λ a b. record { first = b; last = 7; toggles = a * 10 + b }) (λ px. from (px + 2) 5) 1 2 ≡ 5 ∷ 35 ∷ 5 ∷ 45 ∷ [])
+    × (rowBy (λ a b. record { first = b; last = 7; toggles = a * 10 + b; count = 3 }) (λ px. from (px + 2) 5) 1 2 ≡ 5 ∷ 35 ∷ 5 ∷ 45 ∷ [])
     × (cutPixels 5 (6 ∷ 3 ∷ []) ≡ 4 ∷ 1 ∷ [])
-unfolding sampleOf togglesOf nodeOf floorOf pixelEdge rowBy add mul ofInt
+unfolding sampleOf togglesOf countOf nodeOf floorOf pixelEdge rowBy add mul ofInt
 drawn = (refl, refl, refl, refl, refl, refl)

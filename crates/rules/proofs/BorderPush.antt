@@ -118,7 +118,7 @@ over xs = xs ++ drop (length xs) eight
 
 -- enough for 8 samples of unit 1, or 4 of unit 2
 abbrev enough : Lent
-enough = lent 8 3 3 3 3
+enough = lent 8 5 5 5 5
 
 abbrev push : Recorder → List ℕ → List ℕ → Left
 push c g b = leftOf c enough eight g b

@@ -7,8 +7,8 @@ use Prim.Native.Nat.{ℕ}
 use native.Mathlib.Omega.{arith}
 use lib.Dec.{eqb}
 use lib.ListN.{length, getD}
-use Rattle.rules.specs.Sample.{sampleOf, listFrom, Word, Within, cutTo, cutLines}
-use Rattle.rules.specs.Node.{Node, Words, togglesOf, nodeOf, levelNode, chunkEnd}
+use Rattle.rules.specs.Sample.{sampleOf, listFrom, Word, Within, allLines, cutTo, cutLines}
+use Rattle.rules.specs.Node.{Node, Words, togglesOf, countOf, nodeOf, levelNode, chunkEnd}
 use Rattle.rules.specs.Search.{seek}
 use Rattle.rules.specs.Refusal.{Store, Lent, levelShort}
 use Rattle.rules.specs.Answer.{Answer, refused, given, unrefused}
@@ -142,12 +142,12 @@ pub chunk-ends :
 chunk-ends = (refl, refl, refl, refl, refl)
 
 -- ---- whole: every sample is its place, and 70 are stored
-abbrev node : ℕ → ℕ → ℕ → Node
-node first last toggles = record { first = first; last = last; toggles = toggles }
+abbrev node : ℕ → ℕ → ℕ → ℕ → Node
+node first last toggles count = record { first = first; last = last; toggles = toggles; count = count }
 
 -- levels 1 to 4, and what stands behind their nodes
 abbrev memory : List Node → List Node → List Node → List Node → ℕ → ℕ → Node
-memory l1 l2 l3 l4 l j = getD (getD ([] ∷ l1 ∷ l2 ∷ l3 ∷ l4 ∷ []) l []) j (node 9 9 9)
+memory l1 l2 l3 l4 l j = getD (getD ([] ∷ l1 ∷ l2 ∷ l3 ∷ l4 ∷ []) l []) j (node 9 9 9 9)
 
 abbrev whole : ℕ → List Node → List Node → List Node → List Node → Option NodeAt
 whole len l1 l2 l3 l4 = wholeAnswer (λ i. i) len (memory l1 l2 l3 l4)
@@ -157,36 +157,41 @@ at level number = some (record { level = level; number = number })
 
 -- the nodes of [0, 32), [32, 64), [64, 70) and [0, 70)
 abbrev n0 : Node
-n0 = node 0 31 31
+n0 = node 0 31 31 31
 
 abbrev n1 : Node
-n1 = node 32 63 31
+n1 = node 32 63 31 31
 
 abbrev n2 : Node
-n2 = node 64 69 7
+n2 = node 64 69 7 5
 
 abbrev all : List Node
-all = node 0 69 127 ∷ []
+all = node 0 69 127 69 ∷ []
 
 -- a wrong one
 abbrev bad : Node
-bad = node 0 0 0
+bad = node 0 0 0 0
 
 pub wholes :
-    (sameNode (node 1 2 3) (node 1 2 3) ≡ true)
-    × (sameNode (node 1 2 3) (node 0 2 3) ≡ false)
-    × (sameNode (node 0 2 3) (node 1 2 3) ≡ false)
-    × (sameNode (node 1 2 3) (node 1 0 3) ≡ false)
-    × (sameNode (node 1 0 3) (node 1 2 3) ≡ false)
-    × (sameNode (node 1 2 3) (node 1 2 0) ≡ false)
-    × (sameNode (node 1 2 0) (node 1 2 3) ≡ false)
+    (sameNode (node 1 2 3 4) (node 1 2 3 4) ≡ true)
+    × (sameNode (node 1 2 3 4) (node 0 2 3 4) ≡ false)
+    × (sameNode (node 0 2 3 4) (node 1 2 3 4) ≡ false)
+    × (sameNode (node 1 2 3 4) (node 1 0 3 4) ≡ false)
+    × (sameNode (node 1 0 3 4) (node 1 2 3 4) ≡ false)
+    × (sameNode (node 1 2 3 4) (node 1 2 0 4) ≡ false)
+    × (sameNode (node 1 2 0 4) (node 1 2 3 4) ≡ false)
+    × (sameNode (node 1 2 3 4) (node 1 2 3 0) ≡ false)
+    × (sameNode (node 1 2 3 0) (node 1 2 3 4) ≡ false)
     × (whole 70 (n0 ∷ n1 ∷ n2 ∷ []) all all all ≡ none)
-    -- one of its three numbers is wrong; a partial last node is no full one
-    × (whole 70 (node 1 31 31 ∷ n1 ∷ n2 ∷ []) all all all ≡ at 1 0)
-    × (whole 70 (node 0 30 31 ∷ n1 ∷ n2 ∷ []) all all all ≡ at 1 0)
-    × (whole 70 (node 0 31 30 ∷ n1 ∷ n2 ∷ []) all all all ≡ at 1 0)
-    × (whole 70 (n0 ∷ n1 ∷ node 64 95 31 ∷ []) all all all ≡ at 1 2)
-    × (whole 70 (n0 ∷ n1 ∷ n2 ∷ []) (node 0 1023 1023 ∷ []) all all ≡ at 2 0)
+    -- one of its numbers is wrong; a partial last node is no full one
+    × (whole 70 (node 1 31 31 31 ∷ n1 ∷ n2 ∷ []) all all all ≡ at 1 0)
+    × (whole 70 (node 0 30 31 31 ∷ n1 ∷ n2 ∷ []) all all all ≡ at 1 0)
+    × (whole 70 (node 0 31 30 31 ∷ n1 ∷ n2 ∷ []) all all all ≡ at 1 0)
+    × (whole 70 (node 0 31 31 30 ∷ n1 ∷ n2 ∷ []) all all all ≡ at 1 0)
+    × (whole 70 (node 0 31 31 32 ∷ n1 ∷ n2 ∷ []) all all all ≡ at 1 0)
+    × (whole 70 (n0 ∷ n1 ∷ n2 ∷ []) all all (node 0 69 127 68 ∷ []) ≡ at 4 0)
+    × (whole 70 (n0 ∷ n1 ∷ node 64 95 31 31 ∷ []) all all all ≡ at 1 2)
+    × (whole 70 (n0 ∷ n1 ∷ n2 ∷ []) (node 0 1023 1023 1023 ∷ []) all all ≡ at 2 0)
     -- "the first wrong node .., lowest level first"
     × (whole 70 (n0 ∷ bad ∷ bad ∷ []) all all all ≡ at 1 1)
     × (whole 70 (n0 ∷ n1 ∷ bad ∷ []) (bad ∷ []) (bad ∷ []) (bad ∷ []) ≡ at 1 2)
@@ -195,9 +200,9 @@ pub wholes :
     × (whole 70 (n0 ∷ n1 ∷ n2 ∷ []) all all (bad ∷ []) ≡ at 4 0)
     -- "of those that cover stored samples": no sample, two whole nodes, and one sample more
     × (whole 0 [] [] [] [] ≡ none)
-    × (whole 64 (n0 ∷ n1 ∷ []) (node 0 63 63 ∷ []) (node 0 63 63 ∷ []) (node 0 63 63 ∷ []) ≡ none)
-    × (whole 65 (n0 ∷ n1 ∷ []) (node 0 64 127 ∷ []) (node 0 64 127 ∷ []) (node 0 64 127 ∷ []) ≡ at 1 2)
-    × (whole 65 (n0 ∷ n1 ∷ node 64 64 0 ∷ []) (node 0 64 127 ∷ []) (node 0 64 127 ∷ []) (node 0 64 127 ∷ []) ≡ none)
+    × (whole 64 (n0 ∷ n1 ∷ []) (node 0 63 63 63 ∷ []) (node 0 63 63 63 ∷ []) (node 0 63 63 63 ∷ []) ≡ none)
+    × (whole 65 (n0 ∷ n1 ∷ []) (node 0 64 127 64 ∷ []) (node 0 64 127 64 ∷ []) (node 0 64 127 64 ∷ []) ≡ at 1 2)
+    × (whole 65 (n0 ∷ n1 ∷ node 64 64 0 0 ∷ []) (node 0 64 127 64 ∷ []) (node 0 64 127 64 ∷ []) (node 0 64 127 64 ∷ []) ≡ none)
     -- the second node of level 2
     × (wholeAnswer (λ i. i) 1025 (λ l j. cond (eqb l 2 && eqb j 1) bad (levelNode (λ i. i) 1025 l j)) ≡ at 2 1)
     -- n levels from level l on
@@ -205,10 +210,10 @@ pub wholes :
     × (firstWrong (λ i. i) 70 (memory (bad ∷ []) (bad ∷ []) all (bad ∷ [])) 3 1 ≡ none)
     × (firstWrong (λ i. i) 70 (memory (bad ∷ []) (bad ∷ []) all (bad ∷ [])) 3 2 ≡ at 4 0)
     × (firstWrong (λ i. i) 70 (memory (bad ∷ []) (bad ∷ []) all (bad ∷ [])) 1 0 ≡ none)
-unfolding togglesOf nodeOf seek firstWrong
-wholes = (refl, refl, refl, refl, refl, refl, refl, refl, refl, refl, refl, refl, refl, refl, refl, refl, refl, refl, refl, refl, refl, refl, refl, refl, refl, refl, refl)
+unfolding togglesOf countOf nodeOf seek firstWrong
+wholes = (refl, refl, refl, refl, refl, refl, refl, refl, refl, refl, refl, refl, refl, refl, refl, refl, refl, refl, refl, refl, refl, refl, refl, refl, refl, refl, refl, refl, refl, refl, refl, refl)
 
--- ---- lines: "A mask within it has no other bit"; "Cutting down takes .. AND that mask"; "A mask is 16 bits"; "Three 16-bit numbers"
+-- ---- lines: "A mask within it has no other bit"; "Cutting down takes .. AND that mask"; "A mask is 16 bits"; "Three 16-bit numbers"; "two 16-bit numbers" (02, CR 5)
 pub masks :
     Within 5 7
     × Within 5 5
@@ -221,23 +226,26 @@ pub masks :
     × (cutTo 5 6 ≡ 4)
     × (cutTo 5 10 ≡ 0)
     × (cutTo 65535 40000 ≡ 40000)
+    × (allLines ≡ 65535)
     × (cutLines 6 s 1 ≡ 2)
     × (cutLines 6 s 4 ≡ 6)
 unfolding sampleOf
-masks = (refl, refl, refl, refl, λ e. omega (arith, e), λ e. omega (arith, e), λ e. omega (arith, e), refl, refl, refl, refl, refl, refl)
+masks = (refl, refl, refl, refl, λ e. omega (arith, e), λ e. omega (arith, e), λ e. omega (arith, e), refl, refl, refl, refl, refl, refl, refl)
 
 pub words :
     Word 65535
     × (Word 65536 → ⊥)
-    × Words (node 65535 65535 65535)
-    × (Words (node 65536 0 0) → ⊥)
-    × (Words (node 0 65536 0) → ⊥)
-    × (Words (node 0 0 65536) → ⊥)
+    × Words (node 65535 65535 65535 4294967295)
+    × (Words (node 65536 0 0 0) → ⊥)
+    × (Words (node 0 65536 0 0) → ⊥)
+    × (Words (node 0 0 65536 0) → ⊥)
+    × (Words (node 0 0 0 4294967296) → ⊥)
 words = (
   omega arith,
   λ h. omega (arith, h),
-  record { first = omega arith; last = omega arith; toggles = omega arith },
+  record { first = omega arith; last = omega arith; toggles = omega arith; count = omega arith },
   λ w. omega (arith, w .first),
   λ w. omega (arith, w .last),
   λ w. omega (arith, w .toggles),
+  λ w. omega (arith, w .count),
 )

@@ -23,7 +23,7 @@ lent samples l1 l2 l3 l4 = record { samples = samples; level = λ l. getD (0 ∷
 
 -- enough for every store, and nothing
 abbrev pub plenty : Lent
-plenty = lent 134217728 6291456 196608 6144 192
+plenty = lent 134217728 10485760 327680 10240 320
 
 abbrev pub no-memory : Lent
 no-memory = lent 0 0 0 0 0
@@ -61,25 +61,25 @@ row2 unit capacity memory = storeRefusal (store unit capacity 0 none) memory
 
 pub row-2 :
     -- one sample more than a chunk, which needs a node of its own at every level
-    (row2 1 1048577 (lent 1048577 98307 3075 99 6) ≡ 0)
-    × (row2 1 1048577 (lent 1048576 98307 3075 99 6) ≡ 2)
-    × (row2 1 1048577 (lent 1048577 98306 3075 99 6) ≡ 2)
-    × (row2 1 1048577 (lent 1048577 98307 3074 99 6) ≡ 2)
-    × (row2 1 1048577 (lent 1048577 98307 3075 98 6) ≡ 2)
-    × (row2 1 1048577 (lent 1048577 98307 3075 99 5) ≡ 2)
-    × (row2 2 1048577 (lent 2097154 98307 3075 99 6) ≡ 0)
-    × (row2 2 1048577 (lent 2097153 98307 3075 99 6) ≡ 2)
-    × (row2 2 1048577 (lent 2097154 98306 3075 99 6) ≡ 2)
-    × (row2 2 1048577 (lent 2097154 98307 3074 99 6) ≡ 2)
-    × (row2 2 1048577 (lent 2097154 98307 3075 98 6) ≡ 2)
-    × (row2 2 1048577 (lent 2097154 98307 3075 99 5) ≡ 2)
+    (row2 1 1048577 (lent 1048577 163845 5125 165 10) ≡ 0)
+    × (row2 1 1048577 (lent 1048576 163845 5125 165 10) ≡ 2)
+    × (row2 1 1048577 (lent 1048577 163844 5125 165 10) ≡ 2)
+    × (row2 1 1048577 (lent 1048577 163845 5124 165 10) ≡ 2)
+    × (row2 1 1048577 (lent 1048577 163845 5125 164 10) ≡ 2)
+    × (row2 1 1048577 (lent 1048577 163845 5125 165 9) ≡ 2)
+    × (row2 2 1048577 (lent 2097154 163845 5125 165 10) ≡ 0)
+    × (row2 2 1048577 (lent 2097153 163845 5125 165 10) ≡ 2)
+    × (row2 2 1048577 (lent 2097154 163844 5125 165 10) ≡ 2)
+    × (row2 2 1048577 (lent 2097154 163845 5124 165 10) ≡ 2)
+    × (row2 2 1048577 (lent 2097154 163845 5125 164 10) ≡ 2)
+    × (row2 2 1048577 (lent 2097154 163845 5125 165 9) ≡ 2)
     -- a chunk, which needs whole nodes alone, and one sample
-    × (row2 1 1048576 (lent 1048576 98304 3072 96 3) ≡ 0)
-    × (row2 1 1 (lent 1 3 3 3 3) ≡ 0)
-    × (row2 1 1 (lent 1 3 3 3 2) ≡ 2)
+    × (row2 1 1048576 (lent 1048576 163840 5120 160 5) ≡ 0)
+    × (row2 1 1 (lent 1 5 5 5 5) ≡ 0)
+    × (row2 1 1 (lent 1 5 5 5 4) ≡ 2)
     -- the largest
-    × (row2 2 67108864 (lent 134217728 6291456 196608 6144 192) ≡ 0)
-    × (row2 2 67108864 (lent 134217727 6291456 196608 6144 192) ≡ 2)
+    × (row2 2 67108864 (lent 134217728 10485760 327680 10240 320) ≡ 0)
+    × (row2 2 67108864 (lent 134217727 10485760 327680 10240 320) ≡ 2)
 unfolding levelShort
 row-2 = (refl, refl, refl, refl, refl, refl, refl, refl, refl, refl, refl, refl, refl, refl, refl, refl, refl)
 
@@ -138,20 +138,20 @@ abbrev push2 : ℕ → Lent → ℕ → ℕ
 push2 unit memory ring = pushSized (recorder (store unit 8 5 none) 0 3 0 0) memory ring 0
 
 pub row-2-push :
-    (push2 1 (lent 8 3 3 3 3) 3 ≡ 0)
-    × (push2 1 (lent 7 3 3 3 3) 3 ≡ 2)
-    × (push2 1 (lent 8 2 3 3 3) 3 ≡ 2)
-    × (push2 1 (lent 8 3 2 3 3) 3 ≡ 2)
-    × (push2 1 (lent 8 3 3 2 3) 3 ≡ 2)
-    × (push2 1 (lent 8 3 3 3 2) 3 ≡ 2)
-    × (push2 1 (lent 8 3 3 3 3) 2 ≡ 2)
-    × (push2 2 (lent 16 3 3 3 3) 6 ≡ 0)
-    × (push2 2 (lent 15 3 3 3 3) 6 ≡ 2)
-    × (push2 2 (lent 16 2 3 3 3) 6 ≡ 2)
-    × (push2 2 (lent 16 3 2 3 3) 6 ≡ 2)
-    × (push2 2 (lent 16 3 3 2 3) 6 ≡ 2)
-    × (push2 2 (lent 16 3 3 3 2) 6 ≡ 2)
-    × (push2 2 (lent 16 3 3 3 3) 5 ≡ 2)
+    (push2 1 (lent 8 5 5 5 5) 3 ≡ 0)
+    × (push2 1 (lent 7 5 5 5 5) 3 ≡ 2)
+    × (push2 1 (lent 8 4 5 5 5) 3 ≡ 2)
+    × (push2 1 (lent 8 5 4 5 5) 3 ≡ 2)
+    × (push2 1 (lent 8 5 5 4 5) 3 ≡ 2)
+    × (push2 1 (lent 8 5 5 5 4) 3 ≡ 2)
+    × (push2 1 (lent 8 5 5 5 5) 2 ≡ 2)
+    × (push2 2 (lent 16 5 5 5 5) 6 ≡ 0)
+    × (push2 2 (lent 15 5 5 5 5) 6 ≡ 2)
+    × (push2 2 (lent 16 4 5 5 5) 6 ≡ 2)
+    × (push2 2 (lent 16 5 4 5 5) 6 ≡ 2)
+    × (push2 2 (lent 16 5 5 4 5) 6 ≡ 2)
+    × (push2 2 (lent 16 5 5 5 4) 6 ≡ 2)
+    × (push2 2 (lent 16 5 5 5 5) 5 ≡ 2)
 unfolding levelShort listFrom plan
 row-2-push = (refl, refl, refl, refl, refl, refl, refl, refl, refl, refl, refl, refl, refl, refl)
 

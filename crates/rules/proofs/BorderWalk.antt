@@ -4,7 +4,7 @@ use mathlib.Core.Bool.{Bool, cond, _&&_}
 use mathlib.Core.Option.{Option, none, some}
 use Prim.Native.Nat.{ℕ, _+_}
 use lib.Dec.{ltb, eqb}
-use Rattle.rules.specs.Node.{Node, togglesOf, nodeOf, leaf, span}
+use Rattle.rules.specs.Node.{Node, togglesOf, countOf, nodeOf, leaf, span}
 use Rattle.rules.specs.Search.{seek}
 use Rattle.rules.specs.Walk.{Counted, Walked, through, forward, backward, best, walk, chunks, entered, chunksFor, nextWalk, nextEntered, previousWalk, previousEntered, allLevels, nextSearch, previousSearch}
 
@@ -64,7 +64,7 @@ level-back = (refl, refl, refl, refl, refl, refl, refl, refl, refl, refl, refl, 
 
 -- ---- steps over nodes of a run whose one change is at place c, worked out without the run, so that it may be long
 abbrev lone : ℕ → ℕ → ℕ → Node
-lone c l p = record { first = cond (ltb p c) 0 1; last = cond (ltb (p + span l) (c + 1)) 0 1; toggles = cond (ltb p c && ltb c (p + span l)) 1 0 }
+lone c l p = record { first = cond (ltb p c) 0 1; last = cond (ltb (p + span l) (c + 1)) 0 1; toggles = cond (ltb p c && ltb c (p + span l)) 1 0; count = 0 }
 
 abbrev never : ℕ
 never = 999999999
@@ -133,7 +133,7 @@ steps-back = (refl, refl, refl, refl, refl, refl, refl, refl, refl, refl, refl, 
 
 -- ---- the cap, which nodes that are not a run's show: a toggle in every node of level m, and in no sample
 abbrev false-at : ℕ → ℕ → ℕ → Node
-false-at m l p = record { first = 0; last = 0; toggles = cond (eqb l m) 1 0 }
+false-at m l p = record { first = 0; last = 0; toggles = cond (eqb l m) 1 0; count = 0 }
 
 -- "a higher level lowers the cap to l − 1", for the rest of the chunk; "4 at each chunk"; level 0 and samples of the run alone
 pub cap-lowered :
@@ -147,7 +147,7 @@ cap-lowered = (refl, refl, refl, refl, refl)
 
 -- the end of a node that is looked at, and the one that stands for the value before: at level 1 first and last differ, and nothing inside
 abbrev torn : ℕ → ℕ → ℕ → ℕ → Node
-torn first last l p = record { first = cond (eqb l 0) 0 first; last = cond (eqb l 0) 0 last; toggles = 0 }
+torn first last l p = record { first = cond (eqb l 0) 0 first; last = cond (eqb l 0) 0 last; toggles = 0; count = 0 }
 
 pub ends-of-nodes :
     (nextWalk allLevels (torn 0 1) 65 1 31 ≡ steps (some 64) 2)
@@ -202,5 +202,5 @@ pub steps-run :
     × (previousSearch (since 20) 33 1 0 ≡ steps none 0)
     × (previousSearch (since 20) 0 1 9 ≡ steps none 0)
     × (through (λ found. some 7) (steps (some 3) 5) ≡ steps (some 7) 5)
-unfolding togglesOf nodeOf seek best walk chunks
+unfolding togglesOf countOf nodeOf seek best walk chunks
 steps-run = (refl, refl, refl, refl, refl, refl, refl, refl)

@@ -9,8 +9,8 @@ use lib.Dec.{ltb}
 use lib.ListN.{getD}
 use lib.Ieee.{Float, fin, add, mul, ofInt, lt}
 use Rattle.rules.specs.Sample.{sampleOf, listFrom}
-use Rattle.rules.specs.Node.{Node, togglesOf, nodeOf}
-use Rattle.rules.specs.Search.{seek, next, previous, summary}
+use Rattle.rules.specs.Node.{Node, togglesOf, countOf, nodeOf}
+use Rattle.rules.specs.Search.{seek, next, previous, summary, density}
 use Rattle.rules.specs.Walk.{best, walk, chunks, entered, nextEntered, allLevels, runReader, nextSearch, previousSearch}
 use Rattle.rules.specs.Burst.{Burst, jump, burstBy, burst, jumpSteps, stepsBy, burstSearch}
 use Rattle.rules.specs.Floor.{floorOf, nearestOf}
@@ -51,7 +51,8 @@ pub shelf :
     × (next A 8 1 7 ≡ none)
     × (previous A 8 1 6 ≡ some 4)
     × (previous A 8 1 100 ≡ some 7)
-    × (summary A 8 0 8 ≡ some (record { first = 0; last = 3; toggles = 3 }))
+    × (summary A 8 0 8 ≡ some (record { first = 0; last = 3; toggles = 3; count = 4 }))
+    × (density A 8 0 8 ≡ 4)
     × (burst A 8 1 3 4 0 1 ≡ some (record { first = 2; last = 7; jumps-end = 1; jumps-start = 0 }))
     × (burst A 8 1 3 3 0 1 ≡ some (record { first = 2; last = 4; jumps-end = 0; jumps-start = 0 }))
     × (burst B 10 1 5 4 3 9 ≡ some (record { first = 1; last = 2; jumps-end = 0; jumps-start = 0 }))
@@ -62,8 +63,8 @@ pub shelf :
     × (repliesOf (ruleOf (settings rising)) ((0 ∷ 0 ∷ []) ∷ (0 ∷ 1 ∷ 1 ∷ []) ∷ []) ≡ going-on ∷ complete ∷ [])
     × (selection (ruleOf (settings rising)) (1 ∷ []) ≡ record { run = []; mark = none })
     × (selection (ruleOf (settings high)) (1 ∷ []) ≡ record { run = 1 ∷ []; mark = some 0 })
-unfolding sampleOf listFrom togglesOf nodeOf seek jump burstBy floorOf nearestOf pixelEdge rowBy mostFraction times withTerms bothAsEdge matches fires firstFire chosen selection acceptedFrom repliesFrom add mul ofInt lt
-shelf = (refl, refl, refl, refl, refl, refl, refl, refl, refl, refl, refl, refl, refl, refl, refl)
+unfolding sampleOf listFrom togglesOf countOf nodeOf seek jump burstBy floorOf nearestOf pixelEdge rowBy mostFraction times withTerms bothAsEdge matches fires firstFire chosen selection acceptedFrom repliesFrom add mul ofInt lt
+shelf = (refl, refl, refl, refl, refl, refl, refl, refl, refl, refl, refl, refl, refl, refl, refl, refl)
 
 -- unit 2, no terms, capacity 1: a leftover byte joins nothing, and a push without room is refused and adds nothing
 abbrev plain : Settings
@@ -89,7 +90,7 @@ pub read :
     × (burstSearch A 8 1 3 2 1 9 ≡ record { found = none; steps = 7 })
     × (nextSearch late 200 1 0 ≡ record { found = some 100; steps = 39 })
     × (nextEntered allLevels (runReader late) 200 1 0 ≡ 1)
-unfolding sampleOf togglesOf nodeOf seek jump burstBy jumpSteps stepsBy best walk chunks entered
+unfolding sampleOf togglesOf countOf nodeOf seek jump burstBy jumpSteps stepsBy best walk chunks entered
 read = (refl, refl, refl, refl, refl, refl, refl, refl)
 
 -- 02, CR 4: Rising and Falling on line 0, and High on it or on line 1 beside them; the first sample does not fire

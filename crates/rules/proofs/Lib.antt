@@ -6,6 +6,7 @@ pub mod Both
 pub mod Selection
 pub mod Node
 pub mod Search
+pub mod Density
 pub mod Walk
 pub mod Touched
 pub mod Found

@@ -11,7 +11,7 @@ use native.Mathlib.Omega.{arith}
 use lib.Bits.{bitAnd, bitOr, bitXor}
 use lib.Dec.{eqb}
 use borrow.Author.Tests.{lt-ltb, le-ltb, eq-eqb, ne-eqb}
-use Rattle.rules.specs.Node.{Node, mirror, cut, quiet, span, chunk, topLevel}
+use Rattle.rules.specs.Node.{Node, Lines, mirror, cut, quiet, span, chunk, topLevel}
 use Rattle.rules.specs.Walk.{Walked, Way, forward, backward, best, Step, ended, found-at, on, step, after, walk, walkFrom, Course, ahead, behind, orElse, orSteps, enters, orEntered, chunks, entered, chunksFor, nextWalk, previousWalk, allLevels, runReader, nextSearch, previousSearch}
 use Rattle.rules.proofs.Bits.{and-or, and-xor}
 use Rattle.rules.proofs.Walk.{Taken, taken-best, counted, walk-ended, walk-past, walk-found, walk-lower}
@@ -20,7 +20,7 @@ use Rattle.rules.proofs.Found.{TrueNodes, ahead-fits, behind-fits, alig
 -- ---- within a chunk
 -- the test of a node asks of its masked lines alone
 quiet-cut : (n k : Node) (v x m : ℕ) → cut m n ≡ cut m k → bitAnd v m ≡ bitAnd x m → quiet n v m ≡ quiet k x m
-quiet-cut n k v x m e h = masked n v ∙ ap₂ (λ (c : Node) (y : ℕ). eqb (bitOr (bitXor (c .first) y) (c .toggles)) 0) e h ∙ sym (masked k x)
+quiet-cut n k v x m e h = masked n v ∙ ap₂ (λ (c : Lines) (y : ℕ). eqb (bitOr (bitXor (c .first) y) (c .toggles)) 0) e h ∙ sym (masked k x)
   where
     masked : (n : Node) (v : ℕ) → quiet n v m ≡ eqb (bitOr (bitXor (cut m n .first) (bitAnd v m)) (cut m n .toggles)) 0
     masked n v = ap (λ (y : ℕ). eqb y 0) (and-or (bitXor (n .first) v) (n .toggles) m ∙ ap (λ (y : ℕ). bitOr y (bitAnd (n .toggles) m)) (and-xor (n .first) v m))
@@ -43,7 +43,7 @@ module _ (w : Way) (node : ℕ → ℕ → Node) (In : ℕ → Type 0) (m : ℕ)
       → walk w m (suc f) p cap v ≡ walk (over w node) m (suc f) p cap x
   case-any f p cap v x ih i hc e h l el t true q r d =
       walk-past w m f p cap v l (w .node l p) h el refl q
-      ∙ ap counted (ih (w .past l p) cap (w .node l p .last) (node l p .last) (g .stays l p t i) hc (ap (λ (n : Node). n .last) (g .nodes l p t i)))
+      ∙ ap counted (ih (w .past l p) cap (w .node l p .last) (node l p .last) (g .stays l p t i) hc (ap (λ (n : Lines). n .last) (g .nodes l p t i)))
       ∙ sym (walk-past (over w node) m f p cap x l (node l p) h el refl r)
   case-any f p cap v x ih i hc e h l el t false q r (yes z) =
       walk-found w m f p cap v l (w .node l p) h el refl q z ∙ sym (walk-found (over w node) m f p cap x l (node l p) h el refl r z)
@@ -81,13 +81,17 @@ module _ (k : Course) (node : ℕ → ℕ → Node) (value : ℕ → ℕ) (m : �
   chunks-alike zero c p v x o = refl
   chunks-alike (suc n) c p v x o = ap₂ orElse (walks n c p v x o) (chunks-alike n (k .next-chunk c) (k .entry c) (k .value c) (value c) (goes n c p v x o))
 
+-- lines of a node read from its other end
+turned : Lines → Lines
+turned n = record { first = n .last; last = n .first; toggles = n .toggles }
+
 -- two readers agree under the mask on every node of a store that lies below len
 pub record AlikeNodes (has : ℕ → Bool) (r₁ r₂ : ℕ → ℕ → Node) (len m : ℕ) : Type 0 where
   pub is : (l p : ℕ) → l ≤ topLevel → (l ≡ 0) ⊎ (has l ≡ true) → p % span l ≡ 0 → p + span l ≤ len → cut m (r₁ l p) ≡ cut m (r₂ l p)
 
 module _ (has : ℕ → Bool) (r₁ r₂ : ℕ → ℕ → Node) (len m : ℕ) (g : AlikeNodes has r₁ r₂ len m) where
   sample-alike : (p : ℕ) → p < len → bitAnd (r₁ 0 p .first) m ≡ bitAnd (r₂ 0 p .first) m
-  sample-alike p h = ap (λ (n : Node). n .first) (g .is 0 p zero-le (inl refl) (mod-one p) (omega arith))
+  sample-alike p h = ap (λ (n : Lines). n .first) (g .is 0 p zero-le (inl refl) (mod-one p) (omega arith))
 
   forward-agrees : (hi : ℕ) → hi ≤ len → Agrees (forward has r₁ hi) r₂ (λ (p : ℕ). Unit {0}) m
   forward-agrees hi inside = record {
@@ -96,9 +100,10 @@ module _ (has : ℕ → Bool) (r₁ r₂ : ℕ → ℕ → Node) (len m : ℕ) (
   }
 
   backward-agrees : (lo : ℕ) → Agrees (backward has r₁ lo) (λ l p. mirror (r₂ l (p - span l))) (λ (p : ℕ). p ≤ len) m
+  unfolding turned
   backward-agrees lo = record {
     stays = λ l p t i. omega arith;
-    nodes = λ l p t i. let f = behind-fits has r₁ lo l p t in ap mirror (g .is l (p - span l) (t .level) (f .in-set) (aligned-before l p (f .aligned)) (omega (arith, f .room)));
+    nodes = λ l p t i. let f = behind-fits has r₁ lo l p t in ap turned (g .is l (p - span l) (t .level) (f .in-set) (aligned-before l p (f .aligned)) (omega (arith, f .room)));
   }
 
   pub next-alike : (from : ℕ) → nextWalk has r₁ len m from ≡ nextWalk has r₂ len m from

@@ -8,7 +8,7 @@ use native.Mathlib.Decide.{decLe}
 use native.Mathlib.Omega.{arith}
 use borrow.Author.Tests.{le-ltb, lt-ltb}
 use Rattle.rules.specs.Sample.{sampleOf}
-use Rattle.rules.specs.Node.{Node, join, togglesOf, nodeOf, span, nodeStart, nodeEnd, levelNode}
+use Rattle.rules.specs.Node.{Node, join, togglesOf, countOf, nodeOf, span, nodeStart, nodeEnd, levelNode}
 use Rattle.rules.specs.Touched.{touched, runningNode}
 use Rattle.rules.proofs.Node.{node-join, node-same}
 use Rattle.rules.proofs.Walk.{span-pos}
@@ -18,15 +18,15 @@ abbrev A : ℕ → ℕ
 A = sampleOf 1 (0 ∷ 0 ∷ 1 ∷ 1 ∷ 0 ∷ 2 ∷ 2 ∷ 3 ∷ [])
 
 abbrev held : ℕ → Node
-held j = record { first = 7; last = 2; toggles = 4 }
+held j = record { first = 7; last = 2; toggles = 4; count = 9 }
 
 -- of level 1 a node that begins before len, one that ends before the samples do and one that begins at len; at that len a node of level 2
 pub computed :
-    (runningNode A held 6 8 1 0 ≡ record { first = 7; last = 3; toggles = 5 })
-    × (runningNode (λ i. A (i - 31)) held 31 39 1 0 ≡ record { first = 7; last = 0; toggles = 6 })
-    × (runningNode (λ i. A (i - 32)) held 32 40 1 1 ≡ record { first = 0; last = 3; toggles = 3 })
-    × (runningNode (λ i. A (i - 32)) held 32 40 2 0 ≡ record { first = 7; last = 3; toggles = 7 })
-unfolding runningNode nodeOf togglesOf sampleOf
+    (runningNode A held 6 8 1 0 ≡ record { first = 7; last = 3; toggles = 5; count = 10 })
+    × (runningNode (λ i. A (i - 31)) held 31 39 1 0 ≡ record { first = 7; last = 0; toggles = 6; count = 10 })
+    × (runningNode (λ i. A (i - 32)) held 32 40 1 1 ≡ record { first = 0; last = 3; toggles = 3; count = 4 })
+    × (runningNode (λ i. A (i - 32)) held 32 40 2 0 ≡ record { first = 7; last = 3; toggles = 7; count = 14 })
+unfolding runningNode nodeOf togglesOf countOf sampleOf
 computed = (refl, refl, refl, refl)
 
 -- ---- the node of a level that a place lies in

@@ -3,6 +3,7 @@ pub mod SampleBytes
 pub mod Node
 pub mod Touched
 pub mod Search
+pub mod Cutting
 pub mod Walk
 pub mod Burst
 pub mod Floor

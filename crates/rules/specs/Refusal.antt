@@ -57,9 +57,9 @@ storeWrong st =
     || markWrong (st .mark) (st .len)
 
 -- ---- 2: "a lent sample, level or ring slice shorter than needed"
--- numbers in a node
+-- numbers in a node: first, last, toggles and the count's two; "a node is five numbers and refusal 2 counts five" (02, CR 5)
 abbrev pub nodeSize : ℕ
-nodeSize = 3
+nodeSize = 5
 
 -- how much memory a store needs: bytes of samples, and numbers of level l
 abbrev pub samplesNeed : Store → ℕ

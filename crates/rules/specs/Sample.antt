@@ -2,7 +2,7 @@
 use mathlib.Core.Path.{_≡_}
 use mathlib.Core.Bool.{cond}
 use mathlib.Core.List.{List, [], _∷_}
-use Prim.Native.Nat.{ℕ, zero, suc, _+_, _*_, _/_, _%_, _^_, _≤_, _<_}
+use Prim.Native.Nat.{ℕ, zero, suc, _+_, _-_, _*_, _/_, _%_, _^_, _≤_, _<_}
 use lib.Bits.{bitAnd}
 use lib.Dec.{ltb}
 use lib.ListN.{length, getD}
@@ -50,6 +50,10 @@ Word n = n < 2 ^ maskBits
 -- line k of a sample or a mask
 unfoldable pub line : ℕ → ℕ → ℕ
 line v k = v / 2 ^ k % 2
+
+-- the mask of a viewer "who chose all lines" (02, CR 5)
+abbrev pub allLines : ℕ
+allLines = 2 ^ maskBits - 1
 
 -- "A mask within it has no other bit." (01, Lists of pushes)
 abbrev pub Within : ℕ → ℕ → Type 0

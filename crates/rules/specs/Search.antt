@@ -4,7 +4,7 @@ use mathlib.Core.Option.{Option, none, some}
 use Prim.Native.Nat.{ℕ, zero, suc, _+_, _-_, min}
 use lib.Bits.{bitAnd}
 use lib.Dec.{ltb, eqb}
-use Rattle.rules.specs.Node.{Node, changes, nodeOf, cut}
+use Rattle.rules.specs.Node.{Node, Lines, changes, changesIn, nodeOf, cut}
 
 -- "(s[i] XOR s[i−1]) AND mask nonzero"
 abbrev pub changed : (ℕ → ℕ) → ℕ → ℕ → Bool
@@ -38,6 +38,15 @@ abbrev pub summary : (ℕ → ℕ) → ℕ → ℕ → ℕ → Option Node
 summary s len a b = cond (ltb a (min b len)) (some (nodeOf s a (min b len))) none
 
 -- "Cutting down takes first, last and toggles AND that mask; none stays none." (01, Lists of pushes)
-abbrev pub cutSummary : ℕ → Option Node → Option Node
+abbrev pub cutSummary : ℕ → Option Node → Option Lines
 cutSummary v none = none
 cutSummary v (some n) = some (cut v n)
+
+-- the count of a summary, which is 0 where there is none
+abbrev pub countIn : Option Node → ℕ
+countIn none = 0
+countIn (some n) = n .count
+
+-- "the number of changes in [a,b), cut at len as in summary, 0 if that is empty" (02, CR 5)
+abbrev pub density : (ℕ → ℕ) → ℕ → ℕ → ℕ → ℕ
+density s len a b = changesIn s a (min b len)

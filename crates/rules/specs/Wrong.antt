@@ -7,7 +7,7 @@ use Rattle.rules.specs.Node.{Node, nodesFor, levelNode, topLevel}
 use Rattle.rules.specs.Search.{seek, higher}
 
 abbrev pub sameNode : Node → Node → Bool
-sameNode m n = eqb (m .first) (n .first) && (eqb (m .last) (n .last) && eqb (m .toggles) (n .toggles))
+sameNode m n = eqb (m .first) (n .first) && (eqb (m .last) (n .last) && (eqb (m .toggles) (n .toggles) && eqb (m .count) (n .count)))
 
 -- a node's level and number
 pub record NodeAt : Type 0 where

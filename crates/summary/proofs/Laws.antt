@@ -5,7 +5,7 @@ use mathlib.Core.Bool.{Bool, true, false, cond}
 use mathlib.Core.List.{List}
 use mathlib.Core.Logic.{_⊎_, inl, inr}
 use mathlib.Core.Option.{none, some}
-use native.Mathlib.Nat.{mul-le-mul-right, le-div-iff-mul-le, lt-of-mul-lt-mul-right, lt-div-mul-add, div-add-mod', mul-div-cancel}
+use native.Mathlib.Nat.{mul-le-mul-right, le-div-iff-mul-le, lt-of-mul-lt-mul-right, lt-div-mul-add, div-add-mod', mul-div-cancel, div-le-self}
 use native.Mathlib.Decide.{decLt}
 use native.Mathlib.Omega.{arith}
 use lib.Dec.{ltb, leb}
@@ -19,9 +19,11 @@ use Rattle.rules.proofs.Node.{node-same}
 use Rattle.rules.proofs.Walk.{span-pos, best-le, best-taken}
 use Rattle.rules.proofs.Refusal.{Sound}
 use Rattle.node.specs.Memory.{nodeIn, Right}
+use Rattle.node.specs.Told.{Told}
+use Rattle.node.proofs.Told.{told-on}
 use Rattle.level.specs.Best.{fitsAt, Best}
 use Rattle.level.proofs.Best.{Fits, fits-sample, fitting}
-use Rattle.range.specs.Part.{partSample}
+use Rattle.range.specs.Part.{NodesIn, partSample}
 use Rattle.range.specs.Join.{joinOver}
 use Rattle.range.proofs.Part.{part-sample}
 use Rattle.range.proofs.Right.{join-true}
@@ -80,8 +82,14 @@ module _ (p b l w end : ℕ) (h : p < b) (t : Best p (b - p) topLevel l) (ew : w
   end-inside = (omega (arith, end-is, end-more p b h), omega (arith, end-is, end-upto p b h))
 
   -- its nodes lie in their level
-  pub piece-room : (levels : ℕ → List ℕ) → (l ≡ 0 → ⊥) → (unit base part : ℕ) → ChunkRoom unit base b part levels → (level : List ℕ) → level ≡ levels l → (p / w < end / w) × (end / w * nodeSize ≤ length level)
-  piece-room levels z unit base part r level el = (first, subst (λ (x : List ℕ). end / w * nodeSize ≤ length x) (sym el) (omega (arith, first, r .level l (end / w - 1) (omega arith) (t .below) inside)))
+  pub piece-room : (levels : ℕ → List ℕ) → (l ≡ 0 → ⊥) → (unit base part : ℕ) → ChunkRoom unit base b part levels → (level : List ℕ) → level ≡ levels l → (p / w < end / w) × NodesIn (p / w) (end / w) (length level)
+  piece-room levels z unit base part r level el = (
+    first,
+    record {
+      few = omega (arith, div-le-self end w, end-inside .1, r .most);
+      room = subst (λ (x : List ℕ). end / w * nodeSize ≤ length x) (sym el) (omega (arith, first, r .level l (end / w - 1) (omega arith) (t .below) inside));
+    },
+  )
     where
       hw : 1 ≤ w
       hw = omega (arith, ew, span-pos l)
@@ -101,27 +109,27 @@ module _ (p b l w end : ℕ) (h : p < b) (t : Best p (b - p) topLevel l) (ew : w
       inside : (end / w - 1) * span l < b
       inside = subst (λ (x : ℕ). (end / w - 1) * x < b) ew (omega (arith, border, hw, first, ee, run-upto w p b hw al fi h, mul-le-mul-right {m = end / w - 1 + 1} {n = end / w} w (omega (arith, first))))
 
-  module _ (levels : ℕ → List ℕ) (s : ℕ → ℕ) (n : Node) where
-    part-of : n ≡ partNode levels s l p end → Part levels s p b n end
+  module _ (levels : ℕ → List ℕ) (s : ℕ → ℕ) (c : Bool) (n : Node) where
+    part-of : Told c n (partNode levels s l p end) → Part levels s c p b n end
     part-of e = record {
-      node-is = e ∙ ap₂ (λ (x y : ℕ). partNode levels s x p y) (t .is) end-is;
+      node-is = told-on c n (partNode levels s l p end) (stepNode levels s p b) e (ap₂ (λ (x y : ℕ). partNode levels s x p y) (t .is) end-is);
       end-is = end-is;
       more = end-inside .0;
       upto = end-inside .1;
     }
 
     -- what the code makes is the part: of level 0, and of a level above
-    pub part-run : l ≡ 0 → n ≡ nodeOf s p end → Part levels s p b n end
+    pub part-run : l ≡ 0 → Told c n (nodeOf s p end) → Part levels s c p b n end
     unfolding partNode
-    part-run z e = part-of (e ∙ ap (λ (k : ℕ). partNode levels s k p end) (sym z))
+    part-run z e = part-of (told-on c n (nodeOf s p end) (partNode levels s l p end) e (ap (λ (k : ℕ). partNode levels s k p end) (sym z)))
 
-    pub part-level : (l ≡ 0 → ⊥) → (level : List ℕ) → level ≡ levels l → n ≡ joinOver (nodeIn level) (p / w) (end / w - 1 - p / w) → Part levels s p b n end
+    pub part-level : (l ≡ 0 → ⊥) → (level : List ℕ) → level ≡ levels l → Told c n (joinOver (nodeIn level) (p / w) (end / w - 1 - p / w)) → Part levels s c p b n end
     unfolding partNode
-    part-level z level el e = part-of (go l z (e ∙ ap₂ (λ (x : List ℕ) (y : ℕ). joinOver (nodeIn x) (p / y) (end / y - 1 - p / y)) el ew))
+    part-level z level el e = part-of (told-on c n (joinOver (nodeIn level) (p / w) (end / w - 1 - p / w)) (partNode levels s l p end) e (ap₂ (λ (x : List ℕ) (y : ℕ). joinOver (nodeIn x) (p / y) (end / y - 1 - p / y)) el ew ∙ go l z))
       where
-        go : (l : ℕ) → (l ≡ 0 → ⊥) → n ≡ joinOver (nodeIn (levels l)) (p / span l) (end / span l - 1 - p / span l) → n ≡ partNode levels s l p end
-        go zero z e = absurd (z refl)
-        go (suc l) z e = e
+        go : (l : ℕ) → (l ≡ 0 → ⊥) → joinOver (nodeIn (levels l)) (p / span l) (end / span l - 1 - p / span l) ≡ partNode levels s l p end
+        go zero z = absurd (z refl)
+        go (suc l) z = refl
 
 -- ---- true nodes
 module _ (levels : ℕ → List ℕ) (s : ℕ → ℕ) (len : ℕ) (right : Right s len levels) where

@@ -1,6 +1,6 @@
 -- The node of a range as the code takes it, over any levels and samples: chunk by chunk, in each by runs of the highest level that fits.
 use mathlib.Core.Path.{_≡_}
-use mathlib.Core.Bool.{cond}
+use mathlib.Core.Bool.{Bool, cond}
 use mathlib.Core.List.{List}
 use mathlib.Core.Option.{Option, none, some}
 use Prim.Native.Nat.{ℕ, zero, suc, _+_, _-_, _*_, _/_, _≤_, _<_, min}
@@ -13,6 +13,7 @@ use Rattle.rules.specs.Answer.{Answer, refused, given}
 use Rattle.rules.specs.Refusal.{Store, Lent, nodeSize, mostSamples}
 use Rattle.rules.proofs.Refusal.{Sound}
 use Rattle.node.specs.Memory.{asNode, nodeIn}
+use Rattle.node.specs.Told.{Told}
 use Rattle.level.specs.Best.{fitsAt}
 use Rattle.range.specs.Join.{joinOver}
 use Rattle.summary.specs.Gather.{joined}
@@ -44,8 +45,8 @@ module _ (levels : ℕ → List ℕ) (s : ℕ → ℕ) where
   chunkNode a b = joined stepNode stepEnd a b
 
   -- what the code knows of a part
-  pub record Part (p b : ℕ) (n : Node) (end : ℕ) : Type 0 where
-    pub node-is : n ≡ stepNode p b
+  pub record Part (counted : Bool) (p b : ℕ) (n : Node) (end : ℕ) : Type 0 where
+    pub node-is : Told counted n (stepNode p b)
     pub end-is : end ≡ stepEnd p b
     pub more : p < end
     pub upto : end ≤ b

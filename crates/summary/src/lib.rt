@@ -10,7 +10,8 @@ use lines::Mask;
 use node::Node;
 use node::level_of;
 use number::lesser;
-use range::join_nodes;
+use range::join_count;
+use range::join_lines;
 use range::raw_node;
 ghost use mathlib.Core.Path.{_≡_};
 ghost use Prim.Native.Nat.{_≤_, _<_};
@@ -20,9 +21,11 @@ ghost use Rattle.rules.specs.Node.{chunk};
 ghost use Rattle.rules.specs.Answer.{given, unless};
 ghost use Rattle.rules.specs.Refusal.{storeRefusal, mostSamples};
 ghost use Rattle.rules.proofs.Refusal.{Sound};
+ghost use Rattle.node.specs.Told.{Told};
 ghost use Rattle.node.specs.Memory.{asNode, levelOf};
 ghost use Rattle.range.specs.Part.{partSample};
 ghost use Rattle.capture.specs.Record.{storeOf, lentOf};
+ghost use Rattle.summary.specs.Gather.{gathered};
 ghost use Rattle.summary.specs.Summary.{runEnd, cutAt, Part, ChunkRoom, chunkNode, Within, byLevels, summed, summedOf, summaryOf};
 
 // Nodes of s samples go on from pos to the next border of the level above, or to the last that ends by b.
@@ -41,7 +44,7 @@ struct Piece {
 }
 
 // The part of [pos, b) that starts at pos: a run of nodes of the highest level that fits there, or of samples.
-// `part` holds the samples from place base on.
+// `part` holds the samples from place base on. Its node has its count only where it is counted: who draws does not pay for it.
 fn first_piece<'a>(
     part: &[u8],
     l1: &'a [Mask],
@@ -52,24 +55,38 @@ fn first_piece<'a>(
     base: usize,
     pos: usize,
     b: usize,
+    counted: bool,
 ) -> Piece
     requires { ⌜ ChunkRoom unitsize base b (length (now part)) (levelOf (now l1) (now l2) (now l3) (now l4)) × (base ≤ pos) × (pos < b) ⌝ }
-    ensures { λ r. ⌜ Part (levelOf (now (l1 .entry)) (now (l2 .entry)) (now (l3 .entry)) (now (l4 .entry))) (partSample unitsize (now (part .entry)) base) pos b (asNode (r .node)) (r .end) ⌝ }
+    ensures { λ r. ⌜ Part (levelOf (now (l1 .entry)) (now (l2 .entry)) (now (l3 .entry)) (now (l4 .entry))) (partSample unitsize (now (part .entry)) base) counted pos b (asNode (r .node)) (r .end) ⌝ }
 {
     let l = best_level(pos, b - pos, LEVELS);
     let s = span(l);
     let end = run_end(pos, b, s);
     if l == 0 {
         return Piece {
-            node: raw_node(part, unitsize, pos - base, end - base),
+            node: raw_node(part, unitsize, pos - base, end - base, counted),
             end,
         };
     }
     let level = level_of(l1, l2, l3, l4, l);
+    let first = pos / s;
+    let last = end / s;
+    let lines = join_lines(level, first, last);
     Piece {
-        node: join_nodes(level, pos / s, end / s),
+        node: lines.with_count(join_count(level, first, last, counted)),
         end,
     }
+}
+
+// What parts are together with the next one, n; the first one is the start. So each loop asks for a part at one place only, and the compiler puts its code there.
+fn gathered(started: bool, acc: Node, n: Node) -> Node
+    ensures { λ r. ⌜ asNode r ≡ gathered started (asNode acc) (asNode n) ⌝ }
+{
+    if started {
+        return acc.join(n);
+    }
+    n
 }
 
 // The node of [a, b) within a chunk, whose samples from place base on are `part`.
@@ -83,16 +100,16 @@ fn chunk_summary<'a>(
     base: usize,
     a: usize,
     b: usize,
+    counted: bool,
 ) -> Node
     requires { ⌜ ChunkRoom unitsize base b (length (now part)) (levelOf (now l1) (now l2) (now l3) (now l4)) × (base ≤ a) × (a < b) ⌝ }
-    ensures { λ r. ⌜ asNode r ≡ chunkNode (levelOf (now (l1 .entry)) (now (l2 .entry)) (now (l3 .entry)) (now (l4 .entry))) (partSample unitsize (now (part .entry)) base) a b ⌝ }
+    ensures { λ r. ⌜ Told counted (asNode r) (chunkNode (levelOf (now (l1 .entry)) (now (l2 .entry)) (now (l3 .entry)) (now (l4 .entry))) (partSample unitsize (now (part .entry)) base) a b) ⌝ }
 {
-    let p = first_piece(part, l1, l2, l3, l4, unitsize, base, a, b);
-    let mut acc = p.node;
-    let mut pos = p.end;
+    let mut acc = Node::leaf(0);
+    let mut pos = a;
     while pos < b {
-        let q = first_piece(part, l1, l2, l3, l4, unitsize, base, pos, b);
-        acc = acc.join(q.node);
+        let q = first_piece(part, l1, l2, l3, l4, unitsize, base, pos, b, counted);
+        acc = gathered(a < pos, acc, q.node);
         pos = q.end;
     }
     acc
@@ -116,15 +133,27 @@ fn summary_of_chunk<'a>(
     l4: &'a [Mask],
     pos: usize,
     end: usize,
+    counted: bool,
 ) -> Node
     requires { ⌜ Within (storeOf c) (lentOf (now samples) (levelOf (now l1) (now l2) (now l3) (now l4))) pos end ⌝ }
-    ensures { λ r. ⌜ asNode r ≡ chunkNode (levelOf (now (l1 .entry)) (now (l2 .entry)) (now (l3 .entry)) (now (l4 .entry))) (sampleOf (c .unitsize) (now (samples .entry))) pos end ⌝ }
+    ensures { λ r. ⌜ Told counted (asNode r) (chunkNode (levelOf (now (l1 .entry)) (now (l2 .entry)) (now (l3 .entry)) (now (l4 .entry))) (sampleOf (c .unitsize) (now (samples .entry))) pos end) ⌝ }
 {
     let unitsize = c.unitsize;
     let base = pos / CHUNK * CHUNK;
     let from = base * unitsize;
     let to = end * unitsize;
-    chunk_summary(&samples[from..to], l1, l2, l3, l4, unitsize, base, pos, end)
+    chunk_summary(
+        &samples[from..to],
+        l1,
+        l2,
+        l3,
+        l4,
+        unitsize,
+        base,
+        pos,
+        end,
+        counted,
+    )
 }
 
 // The node of [a, b), a < b ≤ len, by the levels, chunk by chunk.
@@ -137,15 +166,17 @@ fn by_levels<'a>(
     l4: &'a [Mask],
     a: usize,
     b: usize,
+    counted: bool,
 ) -> Node
     requires { ⌜ Within (storeOf c) (lentOf (now samples) (levelOf (now l1) (now l2) (now l3) (now l4))) a b ⌝ }
-    ensures { λ r. ⌜ asNode r ≡ byLevels (levelOf (now (l1 .entry)) (now (l2 .entry)) (now (l3 .entry)) (now (l4 .entry))) (sampleOf (c .unitsize) (now (samples .entry))) a b ⌝ }
+    ensures { λ r. ⌜ Told counted (asNode r) (byLevels (levelOf (now (l1 .entry)) (now (l2 .entry)) (now (l3 .entry)) (now (l4 .entry))) (sampleOf (c .unitsize) (now (samples .entry))) a b) ⌝ }
 {
-    let mut pos = cut_at(a, b);
-    let mut acc = summary_of_chunk(c, samples, l1, l2, l3, l4, a, pos);
+    let mut pos = a;
+    let mut acc = Node::leaf(0);
     while pos < b {
         let end = cut_at(pos, b);
-        acc = acc.join(summary_of_chunk(c, samples, l1, l2, l3, l4, pos, end));
+        let n = summary_of_chunk(c, samples, l1, l2, l3, l4, pos, end, counted);
+        acc = gathered(a < pos, acc, n);
         pos = end;
     }
     acc
@@ -164,14 +195,15 @@ pub fn summary_in<'a>(
     l4: &'a [Mask],
     a: usize,
     b: usize,
+    counted: bool,
 ) -> Node
     requires { ⌜ Within (storeOf c) (lentOf (now samples) (levelOf (now l1) (now l2) (now l3) (now l4))) a b ⌝ }
-    ensures { λ r. ⌜ asNode r ≡ summed (levelOf (now (l1 .entry)) (now (l2 .entry)) (now (l3 .entry)) (now (l4 .entry))) (sampleOf (c .unitsize) (now (samples .entry))) a b ⌝ }
+    ensures { λ r. ⌜ Told counted (asNode r) (summed (levelOf (now (l1 .entry)) (now (l2 .entry)) (now (l3 .entry)) (now (l4 .entry))) (sampleOf (c .unitsize) (now (samples .entry))) a b) ⌝ }
 {
     if b - a <= SHORT {
-        return raw_node(samples, c.unitsize, a, b);
+        return raw_node(samples, c.unitsize, a, b, counted);
     }
-    by_levels(c, samples, l1, l2, l3, l4, a, b)
+    by_levels(c, samples, l1, l2, l3, l4, a, b, counted)
 }
 
 pub enum Summed {
@@ -198,7 +230,7 @@ pub fn summed_in<'a>(
     if end <= a {
         return Summed::Nothing;
     }
-    Summed::Node(summary_in(c, samples, l1, l2, l3, l4, a, end))
+    Summed::Node(summary_in(c, samples, l1, l2, l3, l4, a, end, true))
 }
 
 // 01's Summary(a, b): the node of [a, min(b, len)), none where that is empty, or 1 or 2.

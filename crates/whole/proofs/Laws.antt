@@ -53,21 +53,22 @@ module _ (len l : ℕ) (h : 0 < len) where
 
 -- ---- equal nodes
 -- the last test decides where the others hold
-pub two-same : (a b c : Bool) → a ≡ true → b ≡ true → c ≡ (a && (b && c))
-two-same a b c ea eb = sym (ap₂ (λ (x y : Bool). x && (y && c)) ea eb)
+pub three-same : (a b c d : Bool) → a ≡ true → b ≡ true → c ≡ true → d ≡ (a && (b && (c && d)))
+three-same a b c d ea eb ec = simp (ea, eb, ec)
 
 pub same-is : (m n : Node) → (sameNode m n ≡ true) ↔ (m ≡ n)
 same-is m n = (
-  go (eqb (m .first) (n .first)) refl (eqb (m .last) (n .last)) refl,
+  go (eqb (m .first) (n .first)) refl (eqb (m .last) (n .last)) refl (eqb (m .toggles) (n .toggles)) refl,
   λ e.
-      sym (two-same (eqb (m .first) (n .first)) (eqb (m .last) (n .last)) (eqb (m .toggles) (n .toggles)) (eq-eqb _ _ (ap (λ (x : Node). x .first) e)) (eq-eqb _ _ (ap (λ (x : Node). x .last) e)))
-      ∙ eq-eqb _ _ (ap (λ (x : Node). x .toggles) e),
+      sym (three-same (eqb (m .first) (n .first)) (eqb (m .last) (n .last)) (eqb (m .toggles) (n .toggles)) (eqb (m .count) (n .count)) (eq-eqb _ _ (ap (λ (x : Node). x .first) e)) (eq-eqb _ _ (ap (λ (x : Node). x .last) e)) (eq-eqb _ _ (ap (λ (x : Node). x .toggles) e)))
+      ∙ eq-eqb _ _ (ap (λ (x : Node). x .count) e),
 )
   where
-    go : (a : Bool) → eqb (m .first) (n .first) ≡ a → (b : Bool) → eqb (m .last) (n .last) ≡ b → (a && (b && eqb (m .toggles) (n .toggles))) ≡ true → m ≡ n
-    go true ea true eb t = λ i. record { first = eqb-true (m .first) (n .first) ea i; last = eqb-true (m .last) (n .last) eb i; toggles = eqb-true (m .toggles) (n .toggles) t i }
-    go true ea false eb t = absurd (let z : _≡_ {A = ℕ} 0 1 = cc in omega arith)
-    go false ea b eb t = absurd (let z : _≡_ {A = ℕ} 0 1 = cc in omega arith)
+    go : (a : Bool) → eqb (m .first) (n .first) ≡ a → (b : Bool) → eqb (m .last) (n .last) ≡ b → (c : Bool) → eqb (m .toggles) (n .toggles) ≡ c → (a && (b && (c && eqb (m .count) (n .count)))) ≡ true → m ≡ n
+    go true ea true eb true ec t = λ i. record { first = eqb-true (m .first) (n .first) ea i; last = eqb-true (m .last) (n .last) eb i; toggles = eqb-true (m .toggles) (n .toggles) ec i; count = eqb-true (m .count) (n .count) t i }
+    go true ea true eb false ec t = absurd (let z : _≡_ {A = ℕ} 0 1 = cc in omega arith)
+    go true ea false eb c ec t = absurd (let z : _≡_ {A = ℕ} 0 1 = cc in omega arith)
+    go false ea b eb c ec t = absurd (let z : _≡_ {A = ℕ} 0 1 = cc in omega arith)
 
 module _ (s : ℕ → ℕ) (len : ℕ) (levels : ℕ → List ℕ) where
   -- ---- a level with no wrong node

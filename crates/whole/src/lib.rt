@@ -32,7 +32,10 @@ fn same_node(a: Node, b: Node) -> bool
     if a.last != b.last {
         return false;
     }
-    a.mask == b.mask
+    if a.mask != b.mask {
+        return false;
+    }
+    a.count == b.count
 }
 
 // Node j of a level, made from the level below it; level 1 from the samples.
@@ -52,7 +55,7 @@ fn made<'a>(
     let a = j * FAN;
     if level == 1 {
         let e = lesser(a + FAN, c.len);
-        return raw_node(samples, c.unitsize, a, e);
+        return raw_node(samples, c.unitsize, a, e, true);
     }
     let e = lesser(a + FAN, nodes_of(c.len, level - 1));
     join_nodes(level_of(l1, l2, l3, l4, level - 1), a, e)

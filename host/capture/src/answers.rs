@@ -13,6 +13,26 @@ pub struct Node {
     pub last: Lines,
     /// The lines that change inside.
     pub toggles: Lines,
+    /// How many places inside have a change of any line; the first place is not among them.
+    pub count: u32,
+}
+
+/// The summary of a stretch as a [`Mill`](crate::Mill) sees it. It has no count of changes, which would tell of every
+/// line:
+///
+/// ```compile_fail,E0609
+/// let mut capture = capture::Capture::start(8, 1000).unwrap();
+/// capture.append(&[0, 1]).unwrap();
+/// capture.mill(0b1).summary(0, 2).unwrap().unwrap().count;
+/// ```
+#[derive(Clone, Copy, Debug, PartialEq, Eq, Hash)]
+pub struct MillNode {
+    /// The first sample.
+    pub first: Lines,
+    /// The last sample.
+    pub last: Lines,
+    /// The granted lines that change inside.
+    pub toggles: Lines,
 }
 
 /// What a search found, and how hard it worked for that.

@@ -7,7 +7,7 @@
 
 use crate::memory::Memory;
 use crate::mode::DefaultMode;
-use crate::{Burst, Counted, Extent, Lines, Node, Refusal};
+use crate::{Burst, Counted, Extent, Lines, MillNode, Node, Refusal};
 
 /// The record of a capture; [`record`] says which number is which.
 pub type Record = [usize; 5];
@@ -117,23 +117,26 @@ pub fn whole(record: &Record, memory: &Memory) -> Result<Option<(usize, usize)>,
     Ok((!whole).then_some((level, number)))
 }
 
-fn node_of(node: [Lines; 3]) -> Node {
-    Node {
-        first: node[out::NODE_FIRST],
-        last: node[out::NODE_LAST],
-        toggles: node[out::NODE_TOGGLES],
-    }
-}
-
 pub fn summary(
     record: &Record,
     memory: &Memory,
     a: usize,
     b: usize,
 ) -> Result<Option<Node>, Refusal> {
-    let mut node = [0; 3];
-    let found = answered(call!(lc_summary, (record), memory.as_ptr, (a, b, &mut node)))?;
-    Ok(found.then_some(node_of(node)))
+    let (mut node, mut count) = ([0; 3], 0);
+    let code = call!(lc_summary, (record), memory.as_ptr, (a, b, &mut node, &mut count));
+    let found = answered(code)?;
+    Ok(found.then_some(Node {
+        first: node[out::NODE_FIRST],
+        last: node[out::NODE_LAST],
+        toggles: node[out::NODE_TOGGLES],
+        count,
+    }))
+}
+
+pub fn density(record: &Record, memory: &Memory, a: usize, b: usize) -> Result<u32, Refusal> {
+    let mut count = 0;
+    answered(call!(lc_density, (record), memory.as_ptr, (a, b, &mut count))).map(|_| count)
 }
 
 /// Defines searches that write a place, and the nodes read, behind the arguments of their own.
@@ -243,11 +246,15 @@ pub fn mill_summary(
     grant: Lines,
     a: i64,
     b: i64,
-) -> Result<Option<Node>, Refusal> {
+) -> Result<Option<MillNode>, Refusal> {
     let mut node = [0; 3];
     let code = call!(lc_mill_summary, (record), memory.as_ptr, (grant, a, b, &mut node));
     let found = answered(code)?;
-    Ok(found.then_some(node_of(node)))
+    Ok(found.then_some(MillNode {
+        first: node[out::NODE_FIRST],
+        last: node[out::NODE_LAST],
+        toggles: node[out::NODE_TOGGLES],
+    }))
 }
 
 pub fn mill_burst_at(

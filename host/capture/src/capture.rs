@@ -148,20 +148,43 @@ impl Capture {
         }
     }
 
-    /// The first and the last sample of the places from `a` up to `b`, that one not among them, and the lines that
-    /// change inside. None where no sample is stored there.
+    /// The first and the last sample of the places from `a` up to `b`, that one not among them, the lines that change
+    /// inside, and how many changes there are, as [`density`](Capture::density) counts them. None where no sample is
+    /// stored there.
     ///
     /// ```
     /// use capture::{Capture, Node};
     ///
     /// let mut capture = Capture::start(8, 1000)?;
     /// capture.append(&[0, 0, 1, 1, 0, 2, 2, 3])?;
-    /// assert_eq!(capture.summary(0, 1000), Some(Node { first: 0, last: 3, toggles: 0b11 }));
+    /// let node = Node { first: 0, last: 3, toggles: 0b11, count: 4 };
+    /// assert_eq!(capture.summary(0, 1000), Some(node));
     /// assert_eq!(capture.summary(4, 4), None);
     /// # Ok::<(), capture::Refusal>(())
     /// ```
     pub fn summary(&self, a: usize, b: usize) -> Option<Node> {
         answer(boundary::summary(&self.record, &self.memory, a, b))
+    }
+
+    /// How many changes there are inside the places from `a` up to `b`, that one not among them: the places above `a` at
+    /// which any line differs from the sample before. 0 where no sample is stored there. It hops over the summaries, however
+    /// busy the stretch is.
+    ///
+    /// A change at `a` itself is not counted. Where a stretch is cut into parts, the parts and the changes at their borders
+    /// add up to the whole:
+    ///
+    /// ```
+    /// let mut capture = capture::Capture::start(8, 1000)?;
+    /// capture.append(&[0, 0, 1, 1, 0, 2, 2, 3])?;
+    /// assert_eq!(capture.density(0, 1000), 4);
+    /// assert_eq!(capture.density(4, 4), 0);
+    /// // There is a change at 5, and none at 6.
+    /// assert_eq!(capture.density(0, 5) + 1 + capture.density(5, 8), 4);
+    /// assert_eq!(capture.density(0, 6) + capture.density(6, 8), 4);
+    /// # Ok::<(), capture::Refusal>(())
+    /// ```
+    pub fn density(&self, a: usize, b: usize) -> u32 {
+        answer(boundary::density(&self.record, &self.memory, a, b))
     }
 
     /// The first place after `from` at which a line of the mask differs from the sample before, and the nodes read to
@@ -288,6 +311,41 @@ mod tests {
         assert_eq!(capture.whole(), Err(WrongNode { level: 2, number: 0 }));
         capture.memory.levels[0][5] ^= 1;
         assert_eq!(capture.whole(), Err(WrongNode { level: 1, number: 1 }));
+    }
+
+    #[test]
+    fn each_number_of_a_node_is_checked() {
+        let mut capture = Capture::start(8, 100).unwrap();
+        capture.append(&[1; 40]).unwrap();
+        // Five numbers of each node; of level 1 there are two that cover samples, and two that cover none yet.
+        for (level, covered) in [(1, 10), (2, 5), (3, 5), (4, 5)] {
+            for at in 0..capture.memory.levels[level - 1].len() {
+                let wrong = (at < covered).then_some(WrongNode { level, number: at / 5 });
+                capture.memory.levels[level - 1][at] ^= 1;
+                assert_eq!(capture.whole().err(), wrong);
+                capture.memory.levels[level - 1][at] ^= 1;
+            }
+        }
+    }
+
+    /// The changes are counted by the nodes: not one sample of the second and the third is looked at.
+    #[test]
+    fn a_count_is_the_sum_of_the_nodes_counts_and_cut() {
+        let mut capture = Capture::start(8, 96).unwrap();
+        capture.append(&[1; 96]).unwrap();
+        let count = |capture: &Capture| {
+            let count = capture.density(0, 96);
+            assert_eq!(capture.summary(0, 96).map(|node| node.count), Some(count));
+            count
+        };
+        assert_eq!(count(&capture), 0);
+        capture.memory.levels[0][5..15].copy_from_slice(&[1, 1, 0, 40_000, 3, 1, 2, 0, 50_000, 1]);
+        assert_eq!(count(&capture), 40_000 + 50_000 + 65_536 * 4);
+        // A border more: the first node ends with 1.
+        capture.memory.levels[0][5] = 2;
+        assert_eq!(count(&capture), 40_000 + 50_000 + 65_536 * 4 + 1);
+        capture.memory.levels[0][9] = 0xfffe;
+        assert_eq!(count(&capture), u32::MAX);
     }
 
     #[test]

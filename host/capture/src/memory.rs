@@ -8,15 +8,15 @@ use crate::Refusal;
 /// ```
 /// let needs = capture::Needs::of(16, 1_048_576)?;
 /// assert_eq!(needs.samples, 2 * 1_048_576);
-/// assert_eq!(needs.levels, [3 * 32_768, 3 * 1_024, 3 * 32, 3]);
-/// assert_eq!(needs.bytes(), 2_300_102);
+/// assert_eq!(needs.levels, [5 * 32_768, 5 * 1_024, 5 * 32, 5]);
+/// assert_eq!(needs.bytes(), 2435402);
 /// # Ok::<(), capture::Refusal>(())
 /// ```
 #[derive(Clone, Copy, Debug, PartialEq, Eq)]
 pub struct Needs {
     /// The bytes of the samples.
     pub samples: usize,
-    /// The 16-bit numbers of the levels 1 to 4 of the summary tree.
+    /// The 16-bit numbers of the levels 1 to 4 of the summary tree, five to a node.
     pub levels: [usize; 4],
 }
 

@@ -2,7 +2,7 @@
 
 use crate::boundary::{self, record, Record};
 use crate::memory::Memory;
-use crate::{Burst, Capture, Counted, Extent, Lines, Node, Pixel, Refusal, View, MOST_PIXELS};
+use crate::{Burst, Capture, Counted, Extent, Lines, MillNode, Pixel, Refusal, View, MOST_PIXELS};
 use std::fmt;
 
 /// A reader of a capture that sees some of its lines, its grant, and nothing of the others.
@@ -38,7 +38,7 @@ use std::fmt;
 /// # Ok::<(), Refusal>(())
 /// ```
 ///
-/// It has no raw bytes and no check of the summary tree, which show all lines:
+/// It has no raw bytes, no check of the summary tree and no count of changes, which tell of all lines:
 ///
 /// ```compile_fail,E0599
 /// let capture = capture::Capture::start(8, 1000).unwrap();
@@ -48,6 +48,11 @@ use std::fmt;
 /// ```compile_fail,E0599
 /// let capture = capture::Capture::start(8, 1000).unwrap();
 /// capture.mill(0b1).whole();
+/// ```
+///
+/// ```compile_fail,E0599
+/// let capture = capture::Capture::start(8, 1000).unwrap();
+/// capture.mill(0b1).density(0, 8);
 /// ```
 #[derive(Clone, Copy)]
 pub struct Mill<'a> {
@@ -164,17 +169,17 @@ impl Mill<'_> {
     /// the first sample.
     ///
     /// ```
-    /// use capture::{Capture, Node, Refusal};
+    /// use capture::{Capture, MillNode, Refusal};
     ///
     /// let mut capture = Capture::start(8, 1000)?;
     /// capture.append(&[0, 0, 1, 1, 0, 2, 2, 3])?;
     /// let mill = capture.mill_with_mark(0b10, 2).unwrap();
-    /// assert_eq!(mill.summary(-2, 6)?, Some(Node { first: 0, last: 0b10, toggles: 0b10 }));
+    /// assert_eq!(mill.summary(-2, 6)?, Some(MillNode { first: 0, last: 0b10, toggles: 0b10 }));
     /// assert_eq!(mill.summary(6, 9)?, None);
     /// assert_eq!(mill.summary(0, -3), Err(Refusal::Before));
     /// # Ok::<(), Refusal>(())
     /// ```
-    pub fn summary(&self, a: i64, b: i64) -> Result<Option<Node>, Refusal> {
+    pub fn summary(&self, a: i64, b: i64) -> Result<Option<MillNode>, Refusal> {
         boundary::mill_summary(&self.record, self.memory, self.grant, a, b)
     }
 

@@ -4,7 +4,7 @@
 mod plain;
 
 use capture::{
-    Burst, Capture, Condition, Counted, Extent, Lines, Mill, Node, Pixel, Recorder, Refusal,
+    Burst, Capture, Condition, Counted, Extent, Lines, Mill, MillNode, Pixel, Recorder, Refusal,
     Settings, View, Wish, MOST_PIXELS,
 };
 use plain::walk::Walk;
@@ -79,7 +79,7 @@ fn ask(rng: &mut Rng, s: &[Lines], mill: Mill, mark: Option<usize>, times: usize
             node.map(|node| {
                 let [first, last, toggles] =
                     [node.first, node.last, node.toggles].map(|v| v & grant);
-                Node { first, last, toggles }
+                MillNode { first, last, toggles }
             })
         });
         assert_eq!(mill.summary(a, b), node, "summary {a} {b}");

@@ -47,6 +47,7 @@ fn ask(rng: &mut Rng, samples: &[Lines], unit: usize, times: usize) {
         assert_eq!(capture.next_change(mask, a), walk.next_change(mask, a), "next {mask} {a}");
         assert_eq!(capture.prev_change(mask, a), walk.prev_change(mask, a), "prev {mask} {a}");
         assert_eq!(capture.summary(a, b), plain::summary(samples, a, b), "summary {a} {b}");
+        assert_eq!(capture.density(a, b), plain::density(samples, a, b), "density {a} {b}");
         let (gap, tolerance, budget) = (place(rng, 2000), place(rng, 100), rng.below(5));
         assert_eq!(
             capture.burst_at(mask, a, gap, tolerance, budget),
@@ -112,8 +113,45 @@ fn a_lone_change_is_found_wherever_it_is() {
             assert_eq!(capture.prev_change(0x100, from).found, Some(at));
         }
         assert_eq!(capture.prev_change(0x100, at - 1).found, None);
+        assert_eq!((capture.density(0, len), capture.density(at - 1, at + 1)), (1, 1));
+        assert_eq!((capture.density(0, at), capture.density(at, len)), (0, 0));
         assert_eq!(capture.next_change(0x0ff, 0).found, None);
         assert!(capture.changes(0xffff, 0).eq([at]));
+    }
+}
+
+#[test]
+fn the_parts_of_a_stretch_and_their_borders_add_up() {
+    let mut rng = Rng(16);
+    for round in 0..200 {
+        let unit = 1 + round % 2;
+        let (len, calm) = (1 + rng.below(70_000), rng.pick(&[1, 5, 300]));
+        let samples = rng.samples(len, unit, calm);
+        let capture = captured(&samples, unit);
+        let a = rng.below(len);
+        let b = a + 1 + rng.below(len - a);
+        let mut cuts: Vec<usize> = (0..rng.below(9)).map(|_| a + rng.below(b - a)).collect();
+        cuts.extend([a, b]);
+        cuts.sort_unstable();
+        cuts.dedup();
+        let parts: u32 = cuts.windows(2).map(|part| capture.density(part[0], part[1])).sum();
+        let borders = cuts[1..cuts.len() - 1].iter();
+        let borders = borders.filter(|&&cut| samples[cut] != samples[cut - 1]).count() as u32;
+        assert_eq!(parts + borders, capture.density(a, b), "{cuts:?}");
+    }
+}
+
+/// A change at every place: none is lost between the halves of a count.
+#[test]
+fn as_many_changes_as_there_can_be() {
+    for unit in [1, 2] {
+        let len = 3 * CHUNK;
+        let samples: Vec<Lines> = (0..len).map(|i| (i % 2) as Lines).collect();
+        let capture = captured(&samples, unit);
+        for (a, b) in [(0, len), (1, len - 1), (0, 65_536), (0, 65_537), (31, 65_569), (0, CHUNK)] {
+            assert_eq!(capture.density(a, b), (b - a - 1) as u32);
+        }
+        assert_eq!(capture.whole(), Ok(()));
     }
 }
 

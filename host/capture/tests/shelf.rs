@@ -1,4 +1,5 @@
-//! The worked examples of document 01, asked through this crate; tests are named by their numbers there.
+//! The worked examples of document 01, example 6 with the count of document 02's CR 5, asked through this crate; tests are
+//! named by their numbers there.
 
 use capture::{
     Burst, Capture, Condition, Node, Pixel, Pushed, Recorder, Refusal, Settings, View, Wish,
@@ -25,8 +26,10 @@ fn examples_1_to_5_searches() {
 
 #[test]
 fn examples_6_and_7_summaries() {
-    assert_eq!(a().summary(0, 8), Some(Node { first: 0, last: 3, toggles: 3 }));
+    assert_eq!(a().summary(0, 8), Some(Node { first: 0, last: 3, toggles: 3, count: 4 }));
+    assert_eq!(a().density(0, 8), 4);
     assert_eq!(a().summary(4, 4), None);
+    assert_eq!(a().density(4, 4), 0);
 }
 
 #[test]

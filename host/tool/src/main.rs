@@ -1,6 +1,7 @@
 //! The command line tool `logic-capture`: records, searches and draws captures of digital lines.
 
 mod args;
+mod bars;
 mod commands;
 mod failure;
 mod file;
@@ -10,6 +11,7 @@ mod interrupt;
 mod lines;
 mod number;
 mod output;
+mod parts;
 mod place;
 mod progress;
 mod reader;

@@ -4,7 +4,7 @@ use crate::args::Args;
 use crate::failure::{bad, Failure};
 use crate::lines;
 use crate::recording::Recording;
-use capture::{Burst, Counted, Lines, Mill, Node, Pixel, Refusal, View};
+use capture::{Burst, Counted, Lines, Mill, MillNode, Node, Pixel, Refusal, View};
 
 /// A place as its reader counts. It holds those of both readers, and sums of them.
 pub type Place = i128;
@@ -109,10 +109,13 @@ impl<'a> Reader<'a> {
         }
     }
 
-    pub fn summary(&self, a: Place, b: Place) -> Result<Option<Node>, Refusal> {
+    /// As a mill's, which has no count of changes; the service has that elsewhere.
+    pub fn summary(&self, a: Place, b: Place) -> Result<Option<MillNode>, Refusal> {
         match self {
             Reader::Service(recording) => {
-                Ok(recording.capture.summary(from_first(a), from_first(b)))
+                let node = recording.capture.summary(from_first(a), from_first(b));
+                let lines = |Node { first, last, toggles, .. }| MillNode { first, last, toggles };
+                Ok(node.map(lines))
             }
             Reader::Mill(mill) => mill.summary(from_mark(a), from_mark(b)),
         }

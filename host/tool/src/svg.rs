@@ -1,4 +1,4 @@
-//! A wave as an SVG picture.
+//! A wave as an SVG picture, and what other pictures have in common with it.
 
 use crate::reader::Place;
 use crate::wave::{Step, Wave};
@@ -6,9 +6,9 @@ use std::fmt::Write as _;
 use std::io::{self, Write};
 
 /// Sizes in the picture's units.
-const MARGIN: usize = 10;
-const LETTER: usize = 8;
-const RULER: usize = 40;
+pub const MARGIN: usize = 10;
+pub const LETTER: usize = 8;
+pub const RULER: usize = 40;
 const ROW: usize = 32;
 const HEIGHT: usize = 20;
 
@@ -27,16 +27,10 @@ pub fn draw(
     let (width, height) = (left + room + MARGIN, RULER + ROW * lines.len() + MARGIN);
     let x = |at: usize| left as f64 + at as f64 * column;
 
-    writeln!(
-        out,
-        r#"<svg xmlns="http://www.w3.org/2000/svg" width="{width}" height="{height}" viewBox="0 0 {width} {height}" font-family="monospace" font-size="13">"#
-    )?;
-    writeln!(out, r##"<rect width="{width}" height="{height}" fill="#ffffff"/>"##)?;
-    for tick in 0..=4 {
-        let at = wave.width() * tick / 5;
-        let (x, place, bottom) = (x(at), wave.place(at), height - MARGIN);
-        writeln!(out, r##"<path d="M{x:.2} {RULER}V{bottom}" stroke="#dddddd"/>"##)?;
-        writeln!(out, r##"<text x="{x:.2}" y="16" fill="#555555">{place}</text>"##)?;
+    begin(out, width, height)?;
+    for number in 0..=4 {
+        let at = wave.width() * number / 5;
+        tick(out, x(at), height - MARGIN, wave.place(at))?;
     }
     for (row, (line, label)) in lines.iter().enumerate() {
         let high = RULER + ROW * row + (ROW - HEIGHT) / 2;
@@ -45,14 +39,34 @@ pub fn draw(
         writeln!(out, r##"<text x="{MARGIN}" y="{}" fill="#000000">{label}</text>"##, low - 5)?;
         writeln!(out, r##"<path d="{d}" fill="none" stroke="#1f5fa8" stroke-width="1.2"/>"##)?;
     }
-    if let Some((mark, at)) = mark.and_then(|mark| Some((mark, wave.column(mark)?))) {
-        let (x, bottom) = (x(at), height - MARGIN);
-        writeln!(
-            out,
-            r##"<path d="M{x:.2} 22V{bottom}" stroke="#c02020" stroke-dasharray="4 3"/>"##
-        )?;
-        writeln!(out, r##"<text x="{:.2}" y="34" fill="#c02020">mark {mark}</text>"##, x + 4.0)?;
+    if let Some((place, at)) = mark.and_then(|mark| Some((mark, wave.column(mark)?))) {
+        self::mark(out, x(at), height - MARGIN, place)?;
     }
+    end(out)
+}
+
+/// The beginning of a picture, and its background.
+pub fn begin(out: &mut dyn Write, width: usize, height: usize) -> io::Result<()> {
+    writeln!(
+        out,
+        r#"<svg xmlns="http://www.w3.org/2000/svg" width="{width}" height="{height}" viewBox="0 0 {width} {height}" font-family="monospace" font-size="13">"#
+    )?;
+    writeln!(out, r##"<rect width="{width}" height="{height}" fill="#ffffff"/>"##)
+}
+
+/// A place above, and a line down from it.
+pub fn tick(out: &mut dyn Write, x: f64, bottom: usize, place: Place) -> io::Result<()> {
+    writeln!(out, r##"<path d="M{x:.2} {RULER}V{bottom}" stroke="#dddddd"/>"##)?;
+    writeln!(out, r##"<text x="{x:.2}" y="16" fill="#555555">{place}</text>"##)
+}
+
+/// The mark, and a line down from it.
+pub fn mark(out: &mut dyn Write, x: f64, bottom: usize, place: Place) -> io::Result<()> {
+    writeln!(out, r##"<path d="M{x:.2} 22V{bottom}" stroke="#c02020" stroke-dasharray="4 3"/>"##)?;
+    writeln!(out, r##"<text x="{:.2}" y="34" fill="#c02020">mark {place}</text>"##, x + 4.0)
+}
+
+pub fn end(out: &mut dyn Write) -> io::Result<()> {
     writeln!(out, "</svg>")
 }
 

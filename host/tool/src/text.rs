@@ -4,7 +4,7 @@ use crate::reader::Place;
 use crate::wave::{Step, Wave};
 use std::io::{self, Write};
 
-/// How lines are drawn.
+/// How lines are drawn, or bars (`bars`).
 #[derive(Clone, Copy, Debug, PartialEq, Eq)]
 pub enum Style {
     /// Two rows a line, of box characters.

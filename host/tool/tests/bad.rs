@@ -61,6 +61,25 @@ fn what_is_wrong_is_said() {
             "changes a.cap --total --hex",
             " changes: --total prints a number; it takes no --hex or --bits",
         ),
+        ("density a.cap --parts 0", " density: --parts 0: parts are 1 to 65535"),
+        ("density a.cap --parts 65536", " density: --parts 65536: parts are 1 to 65535"),
+        ("density a.cap --parts -1", " density: --parts -1: not a whole number"),
+        ("density a.cap --parts 4", " density: --parts 4: the stretch has 3 samples"),
+        ("density a.cap --parts 4 --svg x.svg", " density: --parts 4: the stretch has 3 samples"),
+        ("density a.cap --from 9 --parts 1", " density: --parts 1: the stretch has 0 samples"),
+        ("density a.cap --ascii", " density: --ascii goes with --parts"),
+        ("density a.cap --width 9", " density: --width goes with --parts or --svg"),
+        ("density a.cap --parts 1 --width 0", " density: --width 0: a width is 1 to 65535"),
+        (
+            "density a.cap --parts 1 --ascii --svg x.svg",
+            " density: --ascii and --svg exclude each other",
+        ),
+        ("density a.cap --lines 0", " density: there is no option '--lines'; see --help"),
+        ("density a.cap --from mark", " density: --from mark: this capture has no mark"),
+        (
+            "density a.cap --svg no/x.svg",
+            " density: no/x.svg: No such file or directory (os error 2)",
+        ),
         ("render a.cap --width 0", " render: --width 0: a width is 1 to 65535"),
         ("render a.cap --width 65536", " render: --width 65536: a width is 1 to 65535"),
         ("render a.cap --spp 1", " render: --spp goes with --pixels"),
@@ -114,6 +133,7 @@ fn garbage_is_answered_or_refused() {
         "samples",
         "render",
         "check",
+        "density",
         "help",
         "--help",
         "-h",
@@ -152,6 +172,7 @@ fn garbage_is_answered_or_refused() {
         "--total",
         "--read",
         "--width",
+        "--parts",
         "--spp",
         "--start",
         "-1e308",
@@ -185,7 +206,7 @@ fn garbage_is_answered_or_refused() {
     ];
     let mut rng = Rng(9);
     for _ in 0..600 {
-        let mut line = vec![words[rng.below(10)]];
+        let mut line = vec![words[rng.below(11)]];
         line.extend((0..rng.below(7)).map(|_| rng.pick(&words)));
         let run = folder.run_words(&line, &[0, 1, 0, 1]);
         assert!((0..=2).contains(&run.status), "{line:?} {}", run.err);

@@ -139,6 +139,8 @@ fn files_alike_in_granted_lines_give_the_same() {
         "render --pixels --start -9.5 --spp 0.5 --hex",
         "render --pixels --start nan",
         "check",
+        "density",
+        "density --parts 2",
     ] {
         let [one, two] = ["one", "two"].map(|name| {
             let run = folder.run(&format!("{line} --grant 0,2 {name}.cap"));
@@ -204,6 +206,10 @@ fn what_a_mill_may_not_ask_is_refused() {
         (
             "check --grant 0 one.cap",
             " check: --grant: the check of summaries is not given to mills",
+        ),
+        (
+            "density --grant 0-15 one.cap",
+            " density: --grant: the count of changes tells of all lines, and is not given to mills",
         ),
         (
             "record --unit 1 --grant 0 -o x.cap one.cap",

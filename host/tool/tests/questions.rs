@@ -44,6 +44,16 @@ fn ask(folder: &Folder, line: &str, answers: &str) {
     }
 }
 
+/// The first place of each part of a stretch, and the changes in it: at its first place too, unless that is the stretch's.
+fn parts_of(s: &[Lines], from: usize, to: usize, parts: usize) -> Vec<[usize; 2]> {
+    let start = |part: usize| from + (to - from) * part / parts;
+    let changes = |part: usize| {
+        let places = (start(part)..start(part + 1)).filter(|&i| i > from);
+        places.filter(|&i| s[i] != s[i - 1]).count()
+    };
+    (0..parts).map(|part| [start(part), changes(part)]).collect()
+}
+
 #[test]
 fn answers_are_those_of_plain_scans() {
     let folder = Folder::new("questions-random");
@@ -71,6 +81,24 @@ fn answers_are_those_of_plain_scans() {
         let total = folder.run(&format!("changes {lines} --from {a} --to {b} --total {file}"));
         assert_eq!(total.out, text([[changes.len()]]));
         assert_eq!(total.status, i32::from(changes.is_empty()));
+
+        let density = plain::density(s, a, b);
+        let run = folder.run(&format!("density --from {a} --to {b} {file}"));
+        let status = i32::from(density == 0);
+        assert_eq!((run.status, run.out, run.err), (status, format!("{density}\n"), String::new()));
+        let samples = b.min(len).saturating_sub(a);
+        if samples > 0 {
+            let parts = 1 + rng.below(samples.min(30));
+            let line = format!("density --from {a} --to {b} --parts {parts} --ascii {file}");
+            let (run, numbers) = (folder.run(&line), parts_of(s, a, a + samples, parts));
+            assert_eq!((run.status, run.err.as_str()), (status, ""), "{line}");
+            let printed = run.out.lines().map(|line| {
+                let words: Vec<&str> = line.split_whitespace().collect();
+                [words[0], words[1]].map(|word| word.parse::<usize>().unwrap())
+            });
+            assert!(printed.eq(numbers.iter().copied()), "{line}\n{}", run.out);
+            assert_eq!(numbers.iter().map(|part| part[1]).sum::<usize>(), density as usize);
+        }
 
         let (gap, tolerance, budget) = (rng.below(50), rng.below(50), rng.below(5));
         let burst = walk.burst_at(mask, a, gap, tolerance, budget).map(|burst| {
@@ -216,6 +244,53 @@ fn drawings() {
     assert_eq!(folder.run("render --svg - a.cap").yes(), picture);
     assert_eq!(picture.matches("stroke-width").count(), 8);
     assert!(picture.contains("mark 2</text>"));
+}
+
+#[test]
+fn where_a_capture_is_busy() {
+    let folder = saved("questions-density");
+    // Changes at 2, 4, 5 and 7.
+    assert_eq!(folder.run("density a.cap").yes(), "4\n");
+    assert_eq!(folder.run("density --from mark a.cap").yes(), "3\n");
+    assert_eq!(folder.run("density --from mark-1 --to end-1 a.cap").yes(), "3\n");
+    assert_eq!(folder.run("density --to 99 a.cap").yes(), "4\n");
+    for empty in ["--from 8", "--from 3 --to 2", "--to 2", "--from 18446744073709551615"] {
+        let run = folder.run(&format!("density {empty} a.cap"));
+        assert_eq!(run, Run { status: 1, out: "0\n".into(), err: String::new() });
+    }
+
+    let bars = "0 0\n2 1 #####\n4 2 ##########\n6 1 #####\n";
+    assert_eq!(folder.run("density --parts 4 --ascii --width 10 a.cap").yes(), bars);
+    let bars = "0 0\n2 1 █▌\n4 2 ███\n6 1 █▌\n";
+    assert_eq!(folder.run("density --parts 4 --width 3 a.cap").yes(), bars);
+    let longest = format!("0 4 {}\n", "█".repeat(50));
+    assert_eq!(folder.run("density --parts 1 a.cap").yes(), longest);
+    assert_eq!(folder.run("density --parts 8 a.cap").yes().lines().count(), 8);
+    let quiet = folder.run("density --parts 2 --to 2 a.cap");
+    assert_eq!(quiet, Run { status: 1, out: "0 0\n1 0\n".into(), err: String::new() });
+
+    folder.run("density --parts 4 --svg a.svg a.cap").yes();
+    let picture = String::from_utf8(folder.read("a.svg")).unwrap();
+    assert!(picture.starts_with("<svg ") && picture.ends_with("</svg>\n"));
+    assert_eq!(folder.run("density --parts 4 --svg - a.cap").yes(), picture);
+    assert!(picture.contains("<title>4 to 5: 2</title>") && picture.contains("mark 2</text>"));
+    // Where parts are not said, there is one for each sample here; four have a change.
+    let picture = folder.run("density --svg - --width 80 a.cap").yes();
+    assert_eq!(picture.matches("<title>").count(), 4);
+    let err = "logic-capture density: no samples to draw\n".to_string();
+    let run = folder.run("density --from 8 --svg x.svg a.cap");
+    assert_eq!(run, Run { status: 1, out: String::new(), err });
+    assert!(!folder.has("x.svg"));
+}
+
+#[test]
+fn a_long_capture_has_a_hundred_parts_in_its_picture() {
+    let folder = Folder::new("questions-hundred");
+    let samples: Vec<u8> = (0..100_000).map(|i| (i / 7 % 2) as u8).collect();
+    folder.write("a.bin", &samples);
+    let picture = folder.run("density --svg - --unit 1 a.bin").yes();
+    assert_eq!(picture.matches("<title>").count(), 100);
+    assert_eq!(folder.run("density --unit 1 a.bin").yes(), "14285\n");
 }
 
 #[test]

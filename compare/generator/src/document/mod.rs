@@ -6,6 +6,7 @@ pub mod rules;
 
 use crate::digest::digest;
 use crate::feed::to_bytes;
+use crate::node::{joined, span, Node, NUMBERS};
 use crate::op::{Lent, Op, Recorder, Settings, Store, Wish};
 use crate::side::{Answer, Side};
 
@@ -116,6 +117,12 @@ impl Document {
             Op::Next { mask, from } => optional(rules::next(s, *mask, *from).map(|i| [i])),
             Op::Prev { mask, from } => optional(rules::prev(s, *mask, *from).map(|i| [i])),
             Op::Summary { a, b } => optional(rules::summary(s, *a, *b).map(|n| n.map(u64::from))),
+            // Over right levels a plain scan decides, else the nodes that are there.
+            Op::Density { a, b } if self.puts.is_empty() => vec![rules::density(s, *a, *b)],
+            Op::Density { a, b } => {
+                let node = joined(*a, *b, len, |level, number| self.node(level, number));
+                vec![node.map_or(0, |node| node.count as u64)]
+            }
             Op::Burst(burst) => optional(rules::burst(s, burst)),
             Op::Render(view) => {
                 refusals::render(view)?;
@@ -200,17 +207,35 @@ impl Document {
 
     /// Append leaves right nodes, so a wrong one is among those written by hand.
     fn whole(&self) -> Vec<u64> {
+        let numbers = NUMBERS as u64;
         let wrong = |&&(level, index, value): &&(u64, u64, u16)| {
-            let span = 32u64.pow(level as u32);
-            let number = index / 3;
-            let right = rules::summary(&self.samples, number * span, (number + 1) * span);
-            right.is_some_and(|node| node[index as usize % 3] != value)
+            let right = self.right(level as u32, index / numbers);
+            right.is_some_and(|node| node.numbers()[(index % numbers) as usize] != value)
         };
-        let first = self.puts.iter().filter(wrong).map(|&(l, i, _)| (l, i / 3)).min();
+        let first = self.puts.iter().filter(wrong).map(|&(l, i, _)| (l, i / numbers)).min();
         match first {
             None => vec![1],
             Some((level, number)) => vec![0, level, number],
         }
+    }
+
+    /// The node of a level's range; of level 0, a sample. None where it covers none that is stored.
+    fn right(&self, level: u32, number: u64) -> Option<Node> {
+        let (a, b) = (number * span(level), (number + 1) * span(level));
+        let [first, last, toggles] = rules::summary(&self.samples, a, b)?;
+        let count = rules::density(&self.samples, a, b) as u32;
+        Some(Node { first, last, toggles, count })
+    }
+
+    /// The node that memory holds: the right one, with the numbers that were written by hand.
+    fn node(&self, level: u32, number: u64) -> Node {
+        let mut numbers = self.right(level, number).expect("it covers a stored sample").numbers();
+        for &(_, index, value) in self.puts.iter().filter(|put| put.0 == level as u64) {
+            if index / NUMBERS as u64 == number {
+                numbers[index as usize % NUMBERS] = value;
+            }
+        }
+        Node::read(&numbers)
     }
 
     fn recording(&mut self) -> &mut Recording {

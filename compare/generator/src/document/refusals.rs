@@ -1,14 +1,15 @@
 //! Document 01's table: where each number is checked, its rows in order.
 
 use super::rules;
+use crate::node::{span, NUMBERS};
 use crate::op::{Lent, Recorder, Settings, Store, View, Wish};
 
 const MOST: u64 = 67_108_864;
 
 /// The memory that a store needs. The ring is a recorder's.
 pub fn need(unit: u64, capacity: u64) -> Lent {
-    let nodes = |level: u32| capacity.div_ceil(32u64.pow(level));
-    Lent { samples: capacity * unit, levels: [1, 2, 3, 4].map(|level| 3 * nodes(level)), ring: 0 }
+    let numbers = |level: u32| NUMBERS as u64 * capacity.div_ceil(span(level));
+    Lent { samples: capacity * unit, levels: [1, 2, 3, 4].map(numbers), ring: 0 }
 }
 
 fn row_1(s: &Store) -> bool {

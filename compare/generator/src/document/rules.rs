@@ -1,4 +1,4 @@
-//! Document 01's rules, and CR 4 of document 02, as plain scans over all samples: no levels, no ring, no cut into
+//! Document 01's rules, and CR 4 and CR 5 of document 02, as plain scans over all samples: no levels, no ring, no cut into
 //! pushes. Written from the documents and not from the Rust, which is compared with them.
 
 use crate::op::{Burst, Condition, Settings, Term, View, Wish};
@@ -40,6 +40,12 @@ pub fn summary(s: &[u16], a: u64, b: u64) -> Option<[u16; 3]> {
     let part = &s[a as usize..b as usize];
     let toggles = part.windows(2).fold(0, |sum, pair| sum | (pair[0] ^ pair[1]));
     Some([part[0], part[part.len() - 1], toggles])
+}
+
+/// The changes in [a, b), cut at the end: places above a at which any line differs from the sample before.
+pub fn density(s: &[u16], a: u64, b: u64) -> u64 {
+    let places = a.saturating_add(1)..b.min(s.len() as u64);
+    places.filter(|&i| changes(s, i, 0xFFFF)).count() as u64
 }
 
 /// First and last change, then the jumps made at the end and at the start.

@@ -1,4 +1,4 @@
-//! Next, previous and summary.
+//! Next, previous, summary and density.
 
 use super::refused::rows_1_and_2;
 use super::A;
@@ -16,6 +16,7 @@ pub fn write(list: &mut List, rng: &mut Rng) {
     short(list, rng);
     lone_changes(list, rng);
     chunks(list);
+    counts(list);
     for (size, count) in [(Size::Short, 3), (Size::Border, 9), (Size::Big, 5)] {
         for _ in 0..count {
             random(list, rng, size);
@@ -35,7 +36,11 @@ fn summary(a: u64, b: u64) -> Op {
     Op::Summary { a, b }
 }
 
-/// Shelf examples 1 to 7.
+fn density(a: u64, b: u64) -> Op {
+    Op::Density { a, b }
+}
+
+/// Shelf examples 1 to 7; of 6 and 7 the counts too.
 fn shelf(list: &mut List) {
     list.holding(8, 8, &A);
     list.say(next(1, 0));
@@ -45,6 +50,8 @@ fn shelf(list: &mut List) {
     list.say(prev(1, 100));
     list.say(summary(0, 8));
     list.say(summary(4, 4));
+    list.say(density(0, 8));
+    list.say(density(4, 4));
 }
 
 /// Nothing stored, one sample, places at and beyond the end, masks beyond the unit.
@@ -58,8 +65,10 @@ fn edges(list: &mut List) {
                     list.say(next(mask, place));
                     list.say(prev(mask, place));
                 }
-                list.say(summary(0, place));
-                list.say(summary(place, u64::MAX));
+                for (a, b) in [(0, place), (place, u64::MAX)] {
+                    list.say(summary(a, b));
+                    list.say(density(a, b));
+                }
             }
         }
     }
@@ -69,7 +78,7 @@ fn refusals(list: &mut List) {
     for (channels, unit) in [(8, 1), (16, 2)] {
         list.holding(channels, 3, &[0, 1, 0]);
         let good = Store { unit, capacity: 3, len: 3, mark: None };
-        let calls = [next(1, 0), prev(1, 2), summary(0, 3)];
+        let calls = [next(1, 0), prev(1, 2), summary(0, 3), density(0, 3)];
         rows_1_and_2(list, good, &calls);
         for call in calls {
             list.say(call);
@@ -95,7 +104,9 @@ fn short(list: &mut List, rng: &mut Rng) {
                 say(prev(mask, place), kept && rng.once_in(8));
             }
             for end in 0..7 {
-                say(summary(place, end), kept && rng.once_in(16));
+                let kept = kept && rng.once_in(16);
+                say(summary(place, end), kept);
+                say(density(place, end), kept);
             }
         }
     });
@@ -128,6 +139,10 @@ fn lone_changes(list: &mut List, rng: &mut Rng) {
             }
             list.say(summary(place - 1, place + 1));
             list.say(summary(place, len));
+            // A change at the first place is outside.
+            for (a, b) in [(0, len), (0, place), (place - 1, len), (place, len)] {
+                list.say(density(a, b));
+            }
         }
     }
 }
@@ -157,6 +172,51 @@ fn chunks(list: &mut List) {
         }
         for (a, b) in [(0, len), (1, len - 1), (CHUNK - 1, CHUNK + 1), (CHUNK, 2 * CHUNK)] {
             list.say(summary(a, b));
+            list.say(density(a, b));
+        }
+    }
+}
+
+/// Counts above 65,535, in appends of several sizes; and counts written by hand, whose sums are cut at 2^32 − 1.
+fn counts(list: &mut List) {
+    for (channels, mask) in [(8, 0xFF), (16, 0xFFFF)] {
+        let len = 70_000;
+        list.capture(channels, len);
+        for (count, seed) in [(3, 1), (60_000, 2), (1, 3), (32, 4), (len - 60_036, 5)] {
+            list.say(Op::Append(Feed::Noise { count, seed, mask }));
+            list.say(density(0, u64::MAX));
+        }
+        for (a, b) in [(1, len), (0, 65_536), (0, 66_000), (5, 65_900), (59_999, 60_040)] {
+            list.say(density(a, b));
+        }
+    }
+    for channels in [8, 16] {
+        // Five whole nodes of level 1 and a part of one; in the first three samples two changes.
+        list.holding(channels, 200, &[vec![5, 6], vec![7; 168]].concat());
+        let ranges =
+            [(0, 170), (0, 96), (32, 128), (31, 161), (64, 160), (0, 64), (10, 74), (96, 170)];
+        let mut ask = |node: u64, [low, high]: [u16; 2]| {
+            for (half, value) in [(3, low), (4, high)] {
+                list.say(Op::Put { level: 1, index: 5 * node + half, value });
+            }
+            for (a, b) in ranges {
+                list.say(density(a, b));
+            }
+        };
+        ask(1, [0xFFFF, 0]);
+        ask(2, [1, 0]);
+        ask(3, [0, 0x8000]);
+        ask(4, [0xFFFF, 0x7FFF]);
+        ask(2, [0xFFFF, 0xFFFF]);
+        ask(1, [0xFFFF, 0xFFFF]);
+        // A border more makes the sum 2^32: the third node begins with another sample.
+        ask(1, [0xFFFC, 0xFFFF]);
+        ask(2, [0, 0]);
+        ask(3, [0, 0]);
+        ask(4, [0, 0]);
+        list.say(Op::Put { level: 1, index: 5 * 2, value: 6 });
+        for (a, b) in ranges {
+            list.say(density(a, b));
         }
     }
 }
@@ -167,6 +227,8 @@ pub fn random(list: &mut List, rng: &mut Rng, size: Size) {
     for _ in 0..6 {
         list.say(next(mask(rng, shape.lines()), shape.place(rng)));
         list.say(prev(mask(rng, shape.lines()), shape.place(rng)));
-        list.say(summary(shape.place(rng), shape.place(rng)));
+        let (a, b) = (shape.place(rng), shape.place(rng));
+        list.say(summary(a, b));
+        list.say(density(a, b));
     }
 }

@@ -164,22 +164,45 @@ fn wrong_nodes(list: &mut List) {
         // All toggle somewhere in the larger nodes, so 0 is wrong as toggles.
         for (level, node) in [(4, 0), (3, 1), (3, 0), (2, 33), (2, 32), (2, 1), (1, 1_056), (1, 32)]
         {
-            list.say(Op::Put { level, index: 3 * node + 2, value: 0 });
+            list.say(Op::Put { level, index: 5 * node + 2, value: 0 });
+            list.say(Op::Whole);
+        }
+        // Nearly every place has a change: no count is 0, and none of these has a high half.
+        list.capture(channels, 70_000);
+        list.say(Op::Append(Feed::Noise { count: 33_800, seed: 5, mask }));
+        for (level, node, half, value) in [
+            (4, 0, 4, 1),
+            (3, 1, 3, 0),
+            (3, 0, 3, 0),
+            (2, 33, 4, 0x8000),
+            (2, 1, 3, 0),
+            (1, 1_056, 4, 1),
+            (1, 9, 3, 0),
+        ] {
+            list.say(Op::Put { level, index: 5 * node + half, value });
             list.say(Op::Whole);
         }
     }
     // Numbers of no stored sample's node count for nothing; right numbers are no fault.
     list.holding(8, 200, &[9; 33]);
-    for (level, index, value) in
-        [(1, 6, 9), (1, 9, 1), (2, 3, 1), (4, 0, 9), (1, 4, 9), (1, 3, 8), (1, 1, 0)]
-    {
+    let mut put = |level, index, value| {
         list.say(Op::Put { level, index, value });
         list.say(Op::Whole);
+    };
+    for (level, index, value) in
+        [(1, 10, 9), (1, 15, 1), (2, 5, 1), (4, 0, 9), (1, 6, 9), (1, 5, 8), (1, 1, 0)]
+    {
+        put(level, index, value);
     }
-    list.say(Op::Put { level: 1, index: 1, value: 9 });
-    list.say(Op::Whole);
-    list.say(Op::Put { level: 1, index: 3, value: 9 });
-    list.say(Op::Whole);
+    put(1, 1, 9);
+    put(1, 5, 9);
+    // Each half of a count.
+    for (level, index) in [(1, 13), (4, 3), (4, 4), (2, 4), (1, 9), (1, 3)] {
+        put(level, index, 1);
+    }
+    for (level, index) in [(1, 3), (1, 9), (2, 4), (4, 3), (4, 4)] {
+        put(level, index, 0);
+    }
 }
 
 fn short(list: &mut List, rng: &mut Rng) {
@@ -221,6 +244,7 @@ fn borders(list: &mut List, rng: &mut Rng) {
                 }
                 list.say(Op::Run);
                 list.say(Op::Whole);
+                list.say(Op::Density { a: 0, b: len });
                 list.say(Op::Raw(0));
                 list.say(Op::Raw(1));
                 let i = len - 1 - rng.below(3);
@@ -241,6 +265,7 @@ fn threes(list: &mut List, rng: &mut Rng) {
         }
         list.say(Op::Run);
         list.say(Op::Whole);
+        list.say(Op::Density { a: 0, b: 99 });
     }
 }
 
@@ -256,6 +281,7 @@ fn chunks(list: &mut List) {
         list.say(Op::Append(Feed::Runs(vec![(len - half - 2, 5), (1, 6), (1, 7)])));
         list.say(Op::Run);
         list.say(Op::Whole);
+        list.say(Op::Density { a: 0, b: len });
         for chunk in [0, 1, 2, 3, 4, 1 << 44, u64::MAX] {
             list.say(Op::Raw(chunk));
         }
@@ -273,6 +299,7 @@ pub fn random(list: &mut List, rng: &mut Rng, size: Size) {
     shape.build(list);
     list.say(Op::Run);
     list.say(Op::Whole);
+    list.say(Op::Density { a: 0, b: u64::MAX });
     for _ in 0..3 {
         list.say(Op::Get(shape.place(rng)));
         let start = shape.place(rng);

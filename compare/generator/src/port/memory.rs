@@ -1,5 +1,6 @@
 //! Lent memory, filled with a pattern, and what documents 01 and 02 say that append leaves in it.
 
+use crate::node::{Node, NUMBERS};
 use crate::op::Lent;
 use port::LentMut;
 
@@ -54,9 +55,10 @@ impl Memory {
                 let start = number * span;
                 let kept = (start < len).then(|| self.node(unit, level, number));
                 let new = (start.max(len)..end.min(start + span)).map(|i| self.node(unit, 0, i));
-                let made = kept.into_iter().chain(new).reduce(join);
+                let made = kept.into_iter().chain(new).reduce(Node::join);
                 let made = made.expect("a touched node covers a sample");
-                self.levels[level - 1][3 * number..3 * number + 3].copy_from_slice(&made);
+                self.levels[level - 1][NUMBERS * number..][..NUMBERS]
+                    .copy_from_slice(&made.numbers());
             }
         }
     }
@@ -72,15 +74,13 @@ impl Memory {
         }
     }
 
-    /// First, last and toggles of a node; at level 0 of a sample.
-    pub fn node(&self, unit: usize, level: usize, number: usize) -> [u16; 3] {
+    /// A node as it stands there; at level 0 a sample's.
+    pub fn node(&self, unit: usize, level: usize, number: usize) -> Node {
         if level > 0 {
-            let at = &self.levels[level - 1][3 * number..];
-            return [at[0], at[1], at[2]];
+            return Node::read(&self.levels[level - 1][NUMBERS * number..]);
         }
         let at = &self.samples[number * unit..];
-        let sample = if unit == 1 { at[0] as u16 } else { u16::from_le_bytes([at[0], at[1]]) };
-        [sample, sample, 0]
+        Node::of_sample(if unit == 1 { at[0] as u16 } else { u16::from_le_bytes([at[0], at[1]]) })
     }
 
     pub fn first_difference(&self, right: &Memory) -> String {
@@ -99,8 +99,4 @@ impl Memory {
         }
         "nowhere".into()
     }
-}
-
-fn join(a: [u16; 3], b: [u16; 3]) -> [u16; 3] {
-    [a[0], b[1], a[2] | b[2] | (a[1] ^ b[0])]
 }

@@ -3,12 +3,10 @@
 
 use super::memory::Memory;
 use crate::document::rules;
+use crate::node::{span, Node, TOP};
 use crate::op::Burst;
 use crate::shapes::CHUNK;
 use std::cell::RefCell;
-
-/// The highest level; a node of level l covers 32^l samples.
-const TOP: u32 = 4;
 
 /// The most nodes that a search over right levels reads in a chunk.
 pub const MOST: u64 = 384;
@@ -102,7 +100,7 @@ impl Walk<'_> {
             };
             let level = (0..=cap).rev().find(fits).expect("a sample fits");
             let past = if back { place - span(level) } else { place + span(level) };
-            let [first, last, toggles] = self.node(level, place.min(past));
+            let Node { first, last, toggles, .. } = self.node(level, place.min(past));
             let (near, far) = if back { (last, first) } else { (first, last) };
             walked.steps += 1;
             if ((near ^ value) | toggles) & self.mask == 0 {
@@ -116,17 +114,13 @@ impl Walk<'_> {
         }
     }
 
-    fn node(&self, level: u32, start: u64) -> [u16; 3] {
+    fn node(&self, level: u32, start: u64) -> Node {
         self.memory.node(self.unit, level as usize, (start / span(level)) as usize)
     }
 
     fn sample(&self, place: u64) -> u16 {
-        self.node(0, place)[0]
+        self.node(0, place).first
     }
-}
-
-fn span(level: u32) -> u64 {
-    32u64.pow(level)
 }
 
 #[cfg(test)]
@@ -194,11 +188,11 @@ mod tests {
         samples[40] = 1;
         let mut memory = held(&samples);
         assert_eq!(counted(walk(&memory, 96).next(31)), (Some(40), 1 + 9));
-        memory.levels[0][3..6].copy_from_slice(&[0, 0, 0]);
+        memory.levels[0][5..10].fill(0);
         assert_eq!(counted(walk(&memory, 96).next(31)), (None, 2));
         // A change that is in none of its samples: from there on the walk keeps to samples.
         let mut memory = held(&[0; 96]);
-        memory.levels[0][5] = 1;
+        memory.levels[0][7] = 1;
         assert_eq!(counted(walk(&memory, 96).next(31)), (None, 1 + 64));
     }
 }

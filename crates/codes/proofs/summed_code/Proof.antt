@@ -2,13 +2,17 @@
 use mathlib.Core.Path.{refl}
 use denote.Ref.{now}
 use borrow.Author.Needs.{needs}
+use Rattle.rules.specs.Node.{Node}
 use Rattle.summary.specs.declared.Summed.{Summed}
 use Rattle.summary.specs.Summary.{summedOf}
-use Rattle.codes.specs.Record.{nodeNumbers}
-use Rattle.codes.specs.Code.{perhaps}
+use Rattle.codes.specs.Record.{nodeNumbers, countNumber}
+use Rattle.codes.specs.Code.{Reply, perhaps}
 use Rattle.codes.proofs.Coded.{coded}
 use Rattle.codes.proofs.summed_code.Statement.{statement}
 use Rattle.codes.proofs.summed_code.Tie as tie
+
+abbrev said : Summed → Reply Node
+said x = perhaps (summedOf x)
 
 enum-known-answer : tie.Need-enum-known-answer
 enum-known-answer c = search needs
@@ -32,13 +36,16 @@ enum-told : tie.Need-enum-told
 enum-told c = search needs
 
 returns : tie.Need-returns
-returns c = coded nodeNumbers (λ (x : Summed). perhaps (summedOf x)) _ _ _ (c .before .before .answer .given .1) (c .code .ensures) refl
+returns c = let e = c .before .before .answer .given .1 in (coded nodeNumbers said _ _ _ e (c .code .ensures) refl, coded countNumber said _ _ _ e (c .code .ensures) refl)
 
 returns-2 : tie.Need-returns-2
-returns-2 c = coded nodeNumbers (λ (x : Summed). perhaps (summedOf x)) _ _ _ (c .before .answer2 .given .1) refl refl
+returns-2 c = let e = c .before .answer2 .given .1 in (coded nodeNumbers said _ _ _ e refl refl, coded countNumber said _ _ _ e refl refl)
 
 returns-3 : tie.Need-returns-3
-returns-3 c = coded nodeNumbers (λ (x : Summed). perhaps (summedOf x)) _ (now (c .before .before .args .node)) _ (c .enum-told .given .1) refl refl
+returns-3 c =
+    let a = c .before .before .args in
+    let e = c .enum-told .given .1 in
+    (coded nodeNumbers said _ (now (a .node)) _ e refl refl, coded countNumber said _ (now (a .count)) _ e refl refl)
 
 pub summed-code-spec : {M : Type 1} → statement M
 summed-code-spec =

@@ -2,7 +2,7 @@
 use mathlib.Core.Path.{sym, ap, _∙_}
 use mathlib.Core.Option.{Option, some}
 use borrow.Author.Needs.{needs}
-use Rattle.rules.specs.Node.{Node}
+use Rattle.rules.specs.Node.{Lines}
 use Rattle.rules.specs.Search.{cutSummary}
 use Rattle.rules.specs.Answer.{Answer, given, seen}
 use Rattle.summary.specs.declared.Summed.{Summed}
@@ -11,7 +11,7 @@ use Rattle.mill_read.proofs.cut_summed.Statement.{statement}
 use Rattle.mill_read.proofs.cut_summed.Tie as tie
 
 -- what is shown of a summary
-shown : tie.Start → Summed → Answer (Option Node)
+shown : tie.Start → Summed → Answer (Option Lines)
 shown s x = seen (cutSummary (s .args .grant)) (summedOf x)
 
 enum-known-summed : tie.Need-enum-known-summed
@@ -32,7 +32,7 @@ returns c = sym (ap (shown (c .before .before .before)) (c .before .summed .give
 
 returns-2 : tie.Need-returns-2
 unfolding shown
-returns-2 c = ap (λ (n : Node). given (some n)) (c .cut-node .ensures) ∙ sym (ap (shown (c .before .before .before .before)) (c .before .before .summed2 .given .1))
+returns-2 c = ap (λ (n : Lines). given (some n)) (c .cut-node .ensures) ∙ sym (ap (shown (c .before .before .before .before)) (c .before .before .summed2 .given .1))
 
 returns-3 : tie.Need-returns-3
 unfolding shown

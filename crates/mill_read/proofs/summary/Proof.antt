@@ -10,7 +10,7 @@ use mir.Syntax.{w64}
 use mir.Val.{toZ, ofZ}
 use borrow.Author.Needs.{needs}
 use Rattle.rules.specs.Sample.{sampleOf}
-use Rattle.rules.specs.Node.{Node}
+use Rattle.rules.specs.Node.{Node, Lines}
 use Rattle.rules.specs.Search.{cutSummary}
 use Rattle.rules.specs.Answer.{Answer, given, unless, seen}
 use Rattle.rules.specs.Refusal.{Store, Lent}
@@ -48,14 +48,14 @@ module _ (f : tie.After-refusal) where
   abbrev summed-at : ℕ → ℕ → Option Node
   summed-at i j = summaryOf levels (sampleOf (s .args .c .unitsize) (now (s .args .samples))) (s .args .c .len) i j
 
-  abbrev answer : ℤ → ℤ → Answer (Option Node)
+  abbrev answer : ℤ → ℤ → Answer (Option Lines)
   answer y z = unless (millSummaryRefusal st lent y z) (cutSummary (s .args .grant) (summed-at (placeAt (originIn (s .args .c)) y) (placeAt (originIn (s .args .c)) z)))
 
   let-pass : f .refusal .result ≡ 0 → Passed st lent p q
   let-pass z = passed st lent false p q (f .refusal .ensures) z
 
   -- what is shown at the places as they are read back is shown at the places
-  answered : (r : Answer (Option Node)) → r ≡ answer p q → r ≡ answer (s .args .a) (s .args .b)
+  answered : (r : Answer (Option Lines)) → r ≡ answer p q → r ≡ answer (s .args .a) (s .args .b)
   answered r e = e ∙ ap₂ answer (read-is (s .args .a) (s .fits .a)) (read-is (s .args .b) (s .fits .b))
 
 refusal-requires : tie.Need-refusal-requires

@@ -1,56 +1,24 @@
--- `range::join_on` meets its contract: what is left to join gives what all give. Assumes nothing.
-use Prim.Native.Nat.{_-_}
+-- `range::join_on` meets its contract: lines by one loop, the count by another. Assumes nothing.
 use mathlib.Core.Path.{_∙_}
-use native.Mathlib.Omega.{arith}
-use Rattle.node.specs.Memory.{asNode, nodeIn}
-use Rattle.range.proofs.Joins.{Joining, joining-starts, joining-on}
 use borrow.Author.Needs.{needs}
+use Rattle.node.proofs.Told.{is-told}
 use Rattle.range.proofs.join_on.Statement.{statement}
 use Rattle.range.proofs.join_on.Tie as tie
 
-abbrev Inv-loop : tie.InvT-loop
-Inv-loop below from b acc₀ i₀ acc i = Joining (nodeIn below) (asNode acc₀) from b (asNode acc) i
+lines-on-requires : tie.Need-lines-on-requires
+lines-on-requires c κs = search needs
 
-abbrev μ-loop : tie.MeasureT-loop
-μ-loop below from b acc₀ i₀ acc i = b - i
+count-on-requires : tie.Need-count-on-requires
+count-on-requires c κs = search needs
 
-loop-holds : tie.Need-loop-holds Inv-loop μ-loop
-loop-holds c = joining-starts _ _ _ _ (c .before .pre .0)
+with-count-requires : tie.Need-with-count-requires
+with-count-requires c κs = search needs
 
-add-loop : tie.Need-add-loop Inv-loop μ-loop
-add-loop c = search needs
-
-join-four-requires : tie.Need-join-four-requires Inv-loop μ-loop
-join-four-requires c κs = search needs
-
-add-i : tie.Need-add-i Inv-loop μ-loop
-add-i c = search needs
-
-loop-less : tie.Need-loop-less Inv-loop μ-loop
-loop-less c = search needs
-
-loop-again : tie.Need-loop-again Inv-loop μ-loop
-loop-again c =
-    let p = c .before .before .loop in
-    joining-on _ _ _ _ (asNode (p .acc)) (p .i) (p .inv) 4 _ (omega (arith, c .before .loop-test .taken)) (c .join-four .ensures)
-
-join-rest-requires : tie.Need-join-rest-requires Inv-loop μ-loop
-join-rest-requires c κs = search needs
-
-returns : tie.Need-returns Inv-loop μ-loop
-returns c = c .join-rest .ensures ∙ c .before .before .loop .inv .same
+returns : tie.Need-returns
+returns c = is-told _ _ (record {
+  lines = c .with-count .ensures .0 ∙ c .before .before .lines-on .ensures .lines;
+  count = λ _. c .with-count .ensures .1 ∙ c .before .count-on .ensures;
+})
 
 pub join-on-spec : {M : Type 1} → statement M
-join-on-spec =
-    tie.close
-    (tie.spec
-    Inv-loop
-    μ-loop
-    loop-holds
-    add-loop
-    join-four-requires
-    add-i
-    loop-less
-    loop-again
-    join-rest-requires
-    returns)
+join-on-spec = tie.close (tie.spec lines-on-requires count-on-requires with-count-requires returns)

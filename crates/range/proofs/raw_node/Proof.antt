@@ -1,39 +1,27 @@
--- `range::raw_node` meets its contract: in each branch the unit is a number. Assumes nothing.
-use Prim.Native.Nat.{ℕ, _*_, _≤_}
-use mathlib.Core.Path.{_≡_, sym, ap, _∙_, subst}
-use native.Mathlib.Omega.{arith}
-use denote.Ref.{now}
-use Rattle.rules.specs.Sample.{sampleOf}
-use Rattle.rules.specs.Node.{nodeOf}
-use Rattle.rules.proofs.Sample.{unit-two}
-use Rattle.range.specs.Part.{RangeIn}
+-- `range::raw_node` meets its contract: lines by one loop, the count by another. Assumes nothing.
+use mathlib.Core.Path.{sym, _∙_}
+use mathlib.Core.Bool.{false≢true}
+use borrow.Author.Needs.{needs}
 use Rattle.range.proofs.raw_node.Statement.{statement}
 use Rattle.range.proofs.raw_node.Tie as tie
 
--- the range's room, at a unit that is known
-room : (u a b n k : ℕ) → RangeIn u a b n → u ≡ k → b * k ≤ n
-room u a b n k h e = subst (λ (v : ℕ). b * v ≤ n) e (h .room)
+raw-lines-requires : tie.Need-raw-lines-requires
+raw-lines-requires c κs = search needs
 
-raw-one-requires : tie.Need-raw-one-requires
-raw-one-requires c κs =
-    let s = c .before .before in
-    (s .pre .some, omega (arith, room _ _ (s .args .b) _ 1 (s .pre) (c .if1 .taken)))
+raw-count-requires : tie.Need-raw-count-requires
+raw-count-requires c κs = search needs
 
-raw-two-requires : tie.Need-raw-two-requires
-raw-two-requires c κs =
-    let s = c .before .before in
-    (s .pre .some, room _ _ (s .args .b) _ 2 (s .pre) (unit-two (s .pre .unit-size) (c .if1 .left)))
+with-count-requires : tie.Need-with-count-requires
+with-count-requires c κs = search needs
 
 returns : tie.Need-returns
-returns c =
-    let a = c .before .before .before .args in
-    c .raw-one .ensures ∙ ap (λ (u : ℕ). nodeOf (sampleOf u (now (a .part))) (a .a) (a .b)) (sym (c .before .if1 .taken))
+returns c = record {
+  lines = c .with-count .ensures .0 ∙ c .before .before .before .raw-lines .ensures;
+  count = λ _. c .with-count .ensures .1 ∙ c .before .raw-count .ensures;
+}
 
 returns-2 : tie.Need-returns-2
-returns-2 c =
-    let s = c .before .before .before in
-    c .raw-two .ensures
-    ∙ ap (λ (u : ℕ). nodeOf (sampleOf u (now (s .args .part))) (s .args .a) (s .args .b)) (sym (unit-two (s .pre .unit-size) (c .before .if1 .left)))
+returns-2 c = record { lines = c .before .raw-lines .ensures; count = λ z. absurd (false≢true (sym (c .if1 .left) ∙ z)) }
 
 pub raw-node-spec : {M : Type 1} → statement M
-raw-node-spec = tie.close (tie.spec raw-one-requires raw-two-requires returns returns-2)
+raw-node-spec = tie.close (tie.spec raw-lines-requires raw-count-requires with-count-requires returns returns-2)

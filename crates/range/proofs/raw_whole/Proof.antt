@@ -1,94 +1,95 @@
--- `range::raw_whole` meets its contract: the words' differences, folded, are the samples'. Assumes nothing.
-use Prim.Native.Nat.{ℕ, _+_, _-_}
+-- `range::raw_whole` meets its contract: of the two runs' changes one is the same. Assumes nothing.
+use Prim.Native.Nat.{ℕ, _+_, _-_, _≤_, min}
 use mathlib.Core.Path.{_≡_, refl, ap, _∙_}
 use native.Mathlib.Omega.{arith}
 use borrow.Author.Needs.{needs}
 use denote.Ref.{now}
 use Rattle.rules.specs.Sample.{sampleOf}
-use Rattle.range.specs.Packed.{packed}
-use Rattle.range.proofs.Raw.{apart, scanned, byte-sample}
-use Rattle.range.proofs.Packed.{whole-apart}
+use Rattle.rules.specs.Node.{differs}
+use Rattle.range.specs.Run.{Run, Both}
+use Rattle.range.proofs.Part.{range-places, range-part, held-in}
+use Rattle.range.proofs.Raw.{both-ends, both-whole, run-node}
 use Rattle.range.proofs.raw_whole.Statement.{statement}
 use Rattle.range.proofs.raw_whole.Tie as tie
 
-shared-slice-read-first : tie.Need-shared-slice-read-first
-shared-slice-read-first c = search needs
-
-repeated-requires : tie.Need-repeated-requires
-repeated-requires c κs = search needs
-
-eight-requires : tie.Need-eight-requires
-eight-requires c κs = search needs
-
-add-eight : tie.Need-add-eight
-add-eight c = search needs
-
-eight-requires-2 : tie.Need-eight-requires-2
-eight-requires-2 c κs = search needs
-
-add-eight-2 : tie.Need-add-eight-2
-add-eight-2 c = search needs
-
-eight-requires-3 : tie.Need-eight-requires-3
-eight-requires-3 c κs = search needs
-
-add-eight-3 : tie.Need-add-eight-3
-add-eight-3 c = search needs
-
-eight-requires-4 : tie.Need-eight-requires-4
-eight-requires-4 c κs = search needs
-
-wide-requires : tie.Need-wide-requires
-wide-requires c κs = search needs
-
-add-wide : tie.Need-add-wide
-add-wide c = search needs
-
-shared-slice-read-wide : tie.Need-shared-slice-read-wide
-shared-slice-read-wide c = search needs
-
-wide-requires-2 : tie.Need-wide-requires-2
-wide-requires-2 c κs = search needs
-
-folded-requires : tie.Need-folded-requires
-folded-requires c κs = search needs
-
-all : (a : ℕ) → 32 ≡ a + 32 - a
-all a = omega arith
+-- both runs have 16 places
+halves : (s : ℕ → ℕ) (a n mask count x y d : ℕ) → n ≡ 16 → Both s a n mask count → x ≡ s (a + 15) → y ≡ s (a + 16) → d ≡ differs y x → (d ≤ count) × Run s a 31 mask (count - d)
+halves s a n mask count x y d e p ex ey ed = both-whole s a mask count x y d (both-ends s a n 16 mask count mask p (omega arith) refl) ex ey ed
 
 end : (a : ℕ) → a + 31 ≡ a + 32 - 1
 end a = omega arith
 
+both-requires : tie.Need-both-requires
+both-requires c κs =
+    let s = c .before in
+    (omega (arith, s .pre .0), range-part (s .pre .1) (s .args .a) (s .args .a + s .args .half + 16) (omega arith) (omega (arith, s .pre .0)))
+
+add-get : tie.Need-add-get
+add-get c = record { fits = omega (arith, range-places (c .before .before .pre .1)) }
+
+get-requires : tie.Need-get-requires
+get-requires c κs =
+    let s = c .before .before in
+    held-in (s .pre .1) _ (omega arith)
+
+add-get-2 : tie.Need-add-get-2
+add-get-2 c = record { fits = omega (arith, range-places (c .before .before .before .pre .1)) }
+
+get-requires-2 : tie.Need-get-requires-2
+get-requires-2 c κs =
+    let s = c .before .before .before in
+    held-in (s .pre .1) _ (omega arith)
+
+border-requires : tie.Need-border-requires
+border-requires c κs = search needs
+
+get-requires-3 : tie.Need-get-requires-3
+get-requires-3 c κs =
+    let s = c .before .before .before .before .before in
+    held-in (s .pre .1) _ (omega arith)
+
+add-get-3 : tie.Need-add-get-3
+add-get-3 c = record { fits = omega (arith, range-places (c .before .before .before .before .before .before .pre .1)) }
+
+get-requires-4 : tie.Need-get-requires-4
+get-requires-4 c κs =
+    let s = c .before .before .before .before .before .before in
+    held-in (s .pre .1) _ (omega arith)
+
+sub-capped : tie.Need-sub-capped
+sub-capped c =
+    let w = c .before .before .before in
+    let h = w .before .before .before in
+    let s = h .before .before in
+    let a = s .args in
+    halves (sampleOf (a .unitsize) (now (a .part))) (a .a) (a .half) (h .both .result .mask) (h .both .result .count) _ _ _ (s .pre .0) (h .both .ensures) (w .before .get2 .ensures) (w .before .before .get .ensures) (w .border .ensures .0) .0
+
+capped-requires : tie.Need-capped-requires
+capped-requires c κs = search needs
+
 returns : tie.Need-returns
 returns c =
-    let w = c .before .before .before in
-    let e = w .before in
-    let r = e .before .before .before .before in
-    let p = r .before .before .before .args in
-    let a = p .a in
-    let part = now (p .part) in
-    scanned (sampleOf 1 part) a (a + 32) (a + 32) _ (omega arith) refl (w .wide .ensures .0 ∙ byte-sample part a) (c .before .wide2 .ensures .0 ∙ byte-sample part (a + 31) ∙ ap (sampleOf 1 part) (end a))
-    (c .folded .ensures
-    ∙ whole-apart (sampleOf 1 part) (λ i. omega (arith, byte-sample part i, r .before .shared-slice-known2 .given i)) a _ _ _ _ _ (r .repeated .ensures ∙ ap (λ (x : ℕ). packed 3 (λ _. x) 0) (byte-sample part a))
-    (e .before .before .before .eight .ensures) (e .before .before .eight2 .ensures) (e .before .eight3 .ensures) (e .eight4 .ensures)
-    ∙ ap (apart (sampleOf 1 part) a) (all a))
+    let w = c .before .before .before .before in
+    let h = w .before .before .before in
+    let s = h .before .before in
+    let a = s .args in
+    run-node (sampleOf (a .unitsize) (now (a .part))) (a .a) (a .a + 32) _ _ _ 31
+    (halves (sampleOf (a .unitsize) (now (a .part))) (a .a) (a .half) (h .both .result .mask) (h .both .result .count) _ _ _ (s .pre .0) (h .both .ensures) (w .before .get2 .ensures) (w .before .before .get .ensures) (w .border .ensures .0) .1)
+    (omega arith) (c .before .before .before .get3 .ensures) (c .before .before .get4 .ensures ∙ ap (sampleOf (a .unitsize) (now (a .part))) (end (a .a))) refl (c .capped .ensures)
 
 pub raw-whole-spec : {M : Type 1} → statement M
 raw-whole-spec =
     tie.close
     (tie.spec
-    shared-slice-read-first
-    repeated-requires
-    eight-requires
-    add-eight
-    eight-requires-2
-    add-eight-2
-    eight-requires-3
-    add-eight-3
-    eight-requires-4
-    wide-requires
-    add-wide
-    shared-slice-read-wide
-    wide-requires-2
-    folded-requires
+    both-requires
+    add-get
+    get-requires
+    add-get-2
+    get-requires-2
+    border-requires
+    get-requires-3
+    add-get-3
+    get-requires-4
+    sub-capped
+    capped-requires
     returns)

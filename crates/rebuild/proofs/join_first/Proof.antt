@@ -1,6 +1,7 @@
 -- `rebuild::join_first` meets its contract: the new samples in its range join the node of place len. Assumes nothing.
 use borrow.Author.Needs.{needs}
 use denote.Ref.{now}
+use Rattle.node.proofs.Told.{is-told}
 use Rattle.rebuild.proofs.Running.{join-room, first-joins}
 use Rattle.rebuild.proofs.join_first.Statement.{statement}
 use Rattle.rebuild.proofs.join_first.Tie as tie
@@ -37,7 +38,7 @@ returns c =
     let s = b .before .before .before in
     let a = s .args in
     first-joins (a .unitsize) (now (a .part)) (now (a .level)) _ (a .base) (a .len) (a .top) (b .end-of .result) _ (s .pre .from) (s .pre .some) (b .end-of .ensures)
-    (n .raw-node .ensures) (p .put-running .ensures)
+    (is-told _ _ (n .raw-node .ensures)) (p .put-running .ensures)
 
 pub join-first-spec : {M : Type 1} → statement M
 join-first-spec =

@@ -5,6 +5,7 @@ use native.Mathlib.Omega.{arith}
 use borrow.Author.Needs.{needs}
 use denote.Ref.{now}
 use Rattle.rules.specs.Node.{levelNode}
+use Rattle.node.proofs.Told.{is-told}
 use Rattle.range.specs.Part.{partSample}
 use Rattle.rebuild.proofs.Nodes.{Putting, putting-starts, putting-on, putting-end}
 use Rattle.rebuild.proofs.Running.{part-node, part-room}
@@ -55,7 +56,7 @@ loop-again c =
     let s = e .before .before .before .before .before in
     let a = s .args in
     putting-on _ _ _ _ (p .level) (p .j) (p .inv) _ _ (e .before .loop-test .taken)
-    (part-node (a .unitsize) (now (a .part)) (a .base) (a .top) (p .j) _ (e .end-of .result) _ (omega (arith, s .pre .from, p .inv .from)) (omega (arith, e .before .loop-test .taken)) refl (e .end-of .ensures) (n .raw-node .ensures))
+    (part-node (a .unitsize) (now (a .part)) (a .base) (a .top) (p .j) _ (e .end-of .result) _ (omega (arith, s .pre .from, p .inv .from)) (omega (arith, e .before .loop-test .taken)) refl (e .end-of .ensures) (is-told _ _ (n .raw-node .ensures)))
     (c .before .before .put-node .ensures)
 
 same-length : tie.Need-same-length Inv-loop μ-loop

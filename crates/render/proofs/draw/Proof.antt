@@ -7,6 +7,7 @@ use native.Mathlib.Omega.{arith}
 use lib.ListN.{length, length-set}
 use denote.Ref.{now}
 use Rattle.rules.specs.Sample.{sampleOf}
+use Rattle.rules.specs.Node.{linesOf}
 use Rattle.rules.specs.Pixel.{Range, rangeFrom}
 use Rattle.rules.proofs.Row.{from-stored}
 use Rattle.node.specs.Memory.{asNode, levelOf}
@@ -78,7 +79,7 @@ loop-again c =
     let n = summed (levelOf (now (a .l1)) (now (a .l2)) (now (a .l3)) (now (a .l4))) (sampleOf (a .c .unitsize) (now (a .samples))) in (
       omega (arith, c .before .before .loop-test .taken),
       simp length-set (l .inv .1),
-      drawn-turn n (rangeFrom (a .origin) (viewAs (a .view)) (a .c .len)) (l .px) (asNode (c .pixel-node .result)) (now (a .output)) (l .output) (omega (arith, s .pre .room, c .before .before .loop-test .taken)) (l .inv .2) (c .pixel-node .ensures ∙ ap (pixelNode n) (c .before .pixel-range .ensures)),
+      drawn-turn n (rangeFrom (a .origin) (viewAs (a .view)) (a .c .len)) (l .px) (asNode (c .pixel-node .result)) (now (a .output)) (l .output) (omega (arith, s .pre .room, c .before .before .loop-test .taken)) (l .inv .2) (c .pixel-node .ensures ∙ ap (λ (r : Option Range). linesOf (pixelNode n r)) (c .before .pixel-range .ensures)),
     )
 
 same-length : tie.Need-same-length Inv-loop μ-loop

@@ -3,6 +3,7 @@ use mathlib.Core.Path.{sym, ap, _∙_, subst}
 use denote.Ref.{now}
 use borrow.Author.Needs.{needs}
 use Rattle.rules.specs.Sample.{sampleOf}
+use Rattle.rules.specs.Node.{linesOf}
 use Rattle.node.specs.Memory.{levelOf}
 use Rattle.pixel.specs.declared.Pixel.{Pixel}
 use Rattle.pixel.specs.Ranges.{rangeAs}
@@ -33,12 +34,12 @@ summary-in-requires c κs =
 returns : tie.Need-returns
 returns c =
     let a = start-at (c .before .before .before) .args in
-    c .leaf .ensures ∙ sym (ap (λ (p : Pixel). pixelNode (summed (levelOf (now (a .l1)) (now (a .l2)) (now (a .l3)) (now (a .l4))) (sampleOf (a .c .unitsize) (now (a .samples)))) (rangeAs p)) (c .before .enum-told .given .1))
+    ap linesOf (c .leaf .ensures) ∙ sym (ap (λ (p : Pixel). linesOf (pixelNode (summed (levelOf (now (a .l1)) (now (a .l2)) (now (a .l3)) (now (a .l4))) (sampleOf (a .c .unitsize) (now (a .samples)))) (rangeAs p))) (c .before .enum-told .given .1))
 
 returns-2 : tie.Need-returns-2
 returns-2 c =
     let a = start-at (c .before .before .before .before) .args in
-    c .summary-in .ensures ∙ sym (ap (λ (p : Pixel). pixelNode (summed (levelOf (now (a .l1)) (now (a .l2)) (now (a .l3)) (now (a .l4))) (sampleOf (a .c .unitsize) (now (a .samples)))) (rangeAs p)) (c .before .before .p .given .1))
+    c .summary-in .ensures .lines ∙ sym (ap (λ (p : Pixel). linesOf (pixelNode (summed (levelOf (now (a .l1)) (now (a .l2)) (now (a .l3)) (now (a .l4))) (sampleOf (a .c .unitsize) (now (a .samples)))) (rangeAs p))) (c .before .before .p .given .1))
 
 pub pixel-node-spec : {M : Type 1} → statement M
 pixel-node-spec = tie.close (tie.spec enum-told leaf-requires enum-known-p summary-in-requires returns returns-2)

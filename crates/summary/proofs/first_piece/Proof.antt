@@ -5,6 +5,7 @@ use denote.Ref.{now}
 use borrow.Author.Needs.{needs}
 use Rattle.rules.specs.Sample.{sampleOf}
 use Rattle.node.specs.Memory.{asNode, levelOf}
+use Rattle.node.proofs.Told.{told-on}
 use Rattle.range.specs.Part.{partSample}
 use Rattle.range.proofs.Part.{shift-node, range-in}
 use Rattle.summary.proofs.Laws.{end-inside, part-run, part-level, piece-room}
@@ -52,29 +53,44 @@ returns c =
     let s = start-at (c .before .before) in
     let a = s .args in
     let e = end-inside (a .pos) (a .b) (c .before .before .before .before .best-level .result) (c .before .before .before .span .result) (c .before .before .run-end .result) (s .pre .2) (c .before .before .before .before .best-level .ensures) (c .before .before .before .span .ensures .0) (c .before .before .run-end .ensures) in
-    part-run (a .pos) (a .b) (c .before .before .before .before .best-level .result) (c .before .before .before .span .result) (c .before .before .run-end .result) (s .pre .2) (c .before .before .before .before .best-level .ensures) (c .before .before .before .span .ensures .0) (c .before .before .run-end .ensures) (levelOf (now (a .l1)) (now (a .l2)) (now (a .l3)) (now (a .l4))) (partSample (a .unitsize) (now (a .part)) (a .base)) (asNode (c .raw-node .result)) (c .before .if1 .taken)
-    (c .raw-node .ensures ∙ shift-node (sampleOf (a .unitsize) (now (a .part))) (a .base) (a .pos) (c .before .before .run-end .result) (s .pre .1) (e .0))
+    part-run (a .pos) (a .b) (c .before .before .before .before .best-level .result) (c .before .before .before .span .result) (c .before .before .run-end .result) (s .pre .2) (c .before .before .before .before .best-level .ensures) (c .before .before .before .span .ensures .0) (c .before .before .run-end .ensures) (levelOf (now (a .l1)) (now (a .l2)) (now (a .l3)) (now (a .l4))) (partSample (a .unitsize) (now (a .part)) (a .base)) (a .counted) (asNode (c .raw-node .result)) (c .before .if1 .taken)
+    (told-on (a .counted) _ _ _ (c .raw-node .ensures) (shift-node (sampleOf (a .unitsize) (now (a .part))) (a .base) (a .pos) (c .before .before .run-end .result) (s .pre .1) (e .0)))
 
 level-of-requires : tie.Need-level-of-requires
 level-of-requires c κs = search needs
 
-div-join-nodes : tie.Need-div-join-nodes
-div-join-nodes c = search needs
+div-first : tie.Need-div-first
+div-first c = search needs
 
-div-join-nodes-2 : tie.Need-div-join-nodes-2
-div-join-nodes-2 c = search needs
+div-last : tie.Need-div-last
+div-last c = search needs
 
-join-nodes-requires : tie.Need-join-nodes-requires
-join-nodes-requires c κs =
+join-lines-requires : tie.Need-join-lines-requires
+join-lines-requires c κs =
     let s = start-at (c .before .before) in
     let a = s .args in
     piece-room (a .pos) (a .b) (c .before .before .before .before .best-level .result) (c .before .before .before .span .result) (c .before .before .run-end .result) (s .pre .2) (c .before .before .before .before .best-level .ensures) (c .before .before .before .span .ensures .0) (c .before .before .run-end .ensures) (levelOf (now (a .l1)) (now (a .l2)) (now (a .l3)) (now (a .l4))) (c .before .if1 .left) (a .unitsize) (a .base) _ (s .pre .0) (now (c .level-of .result)) (c .level-of .ensures)
 
+join-count-requires : tie.Need-join-count-requires
+join-count-requires c κs =
+    let v = c .before in
+    let s = start-at (v .before .before) in
+    let a = s .args in
+    piece-room (a .pos) (a .b) (v .before .before .before .before .best-level .result) (v .before .before .before .span .result) (v .before .before .run-end .result) (s .pre .2) (v .before .before .before .before .best-level .ensures) (v .before .before .before .span .ensures .0) (v .before .before .run-end .ensures) (levelOf (now (a .l1)) (now (a .l2)) (now (a .l3)) (now (a .l4))) (v .before .if1 .left) (a .unitsize) (a .base) _ (s .pre .0) (now (v .level-of .result)) (v .level-of .ensures)
+
+with-count-requires : tie.Need-with-count-requires
+with-count-requires c κs = search needs
+
 returns-2 : tie.Need-returns-2
 returns-2 c =
-    let s = start-at (c .before .before .before) in
+    let v = c .before .before .before in
+    let s = start-at (v .before .before) in
     let a = s .args in
-    part-level (a .pos) (a .b) (c .before .before .before .before .before .best-level .result) (c .before .before .before .before .span .result) (c .before .before .before .run-end .result) (s .pre .2) (c .before .before .before .before .before .best-level .ensures) (c .before .before .before .before .span .ensures .0) (c .before .before .before .run-end .ensures) (levelOf (now (a .l1)) (now (a .l2)) (now (a .l3)) (now (a .l4))) (partSample (a .unitsize) (now (a .part)) (a .base)) (asNode (c .join-nodes .result)) (c .before .before .if1 .left) (now (c .before .level-of .result)) (c .before .level-of .ensures) (c .join-nodes .ensures)
+    part-level (a .pos) (a .b) (v .before .before .before .before .best-level .result) (v .before .before .before .span .result) (v .before .before .run-end .result) (s .pre .2) (v .before .before .before .before .best-level .ensures) (v .before .before .before .span .ensures .0) (v .before .before .run-end .ensures) (levelOf (now (a .l1)) (now (a .l2)) (now (a .l3)) (now (a .l4))) (partSample (a .unitsize) (now (a .part)) (a .base)) (a .counted) (asNode (c .with-count .result)) (v .before .if1 .left) (now (v .level-of .result)) (v .level-of .ensures)
+    (record {
+      lines = c .with-count .ensures .0 ∙ c .before .before .join-lines .ensures .lines;
+      count = λ z. c .with-count .ensures .1 ∙ c .before .join-count .ensures z;
+    })
 
 pub first-piece-spec : {M : Type 1} → statement M
 first-piece-spec =
@@ -89,7 +105,9 @@ first-piece-spec =
     raw-node-requires
     returns
     level-of-requires
-    div-join-nodes
-    div-join-nodes-2
-    join-nodes-requires
+    div-first
+    div-last
+    join-lines-requires
+    join-count-requires
+    with-count-requires
     returns-2)

@@ -1,11 +1,11 @@
 -- `summary::summary_of_chunk` meets its contract: the part that it hands on holds the samples of the range. Assumes nothing.
 use Prim.Native.Nat.{_*_, _/_}
-use mathlib.Core.Path.{_∙_}
 use native.Mathlib.Omega.{arith}
 use native.Mathlib.Nat.{mul-le-mul-right}
 use denote.Ref.{now}
 use Rattle.rules.specs.Node.{chunk}
 use Rattle.node.specs.Memory.{levelOf}
+use Rattle.node.proofs.Told.{told-on}
 use Rattle.rules.specs.Reading.{partOf}
 use Rattle.capture.proofs.Calls.{stored}
 use Rattle.capture.specs.Record.{storeOf}
@@ -65,7 +65,8 @@ returns c =
     let s = c .before .before .before .before .before .before .before in
     let a = s .args in
     let p = s .pre in
-    c .chunk-summary .ensures ∙ chunk-part (storeOf (a .c)) (now (a .samples)) (levelOf (now (a .l1)) (now (a .l2)) (now (a .l3)) (now (a .l4))) (p .sound) (a .pos / chunk * chunk) (a .pos) (a .end) (omega arith) (p .order) (p .stored)
+    told-on (a .counted) _ _ _ (c .chunk-summary .ensures)
+    (chunk-part (storeOf (a .c)) (now (a .samples)) (levelOf (now (a .l1)) (now (a .l2)) (now (a .l3)) (now (a .l4))) (p .sound) (a .pos / chunk * chunk) (a .pos) (a .end) (omega arith) (p .order) (p .stored))
 
 pub summary-of-chunk-spec : {M : Type 1} → statement M
 summary-of-chunk-spec = tie.close (tie.spec mul-base mul-from mul-to sub-chunk-summary part-chunk-summary-start part-chunk-summary-end chunk-summary-requires returns)

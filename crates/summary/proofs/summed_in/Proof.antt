@@ -11,6 +11,7 @@ use Rattle.rules.specs.Sample.{sampleOf}
 use Rattle.rules.specs.Node.{Node}
 use Rattle.rules.specs.Answer.{given}
 use Rattle.node.specs.Memory.{levelOf}
+use Rattle.node.proofs.Told.{is-told}
 use Rattle.summary.specs.Summary.{summed}
 use Rattle.summary.proofs.summed_in.Statement.{statement}
 use Rattle.summary.proofs.summed_in.Tie as tie
@@ -33,7 +34,7 @@ returns-2 c =
     let a = known .before .before .before .before .before .args in
     let e = c .before .before .lesser .ensures in
     let h : a .a < min (a .b) (a .c .len) = omega (arith, e, c .before .if1 .left) in
-    ap (λ (n : Node). given (some n)) (c .summary-in .ensures ∙ ap (summed (levelOf (now (a .l1)) (now (a .l2)) (now (a .l3)) (now (a .l4))) (sampleOf (a .c .unitsize) (now (a .samples))) (a .a)) e) ∙ sym (ap (λ (t : Bool). given (cond t (some (summed (levelOf (now (a .l1)) (now (a .l2)) (now (a .l3)) (now (a .l4))) (sampleOf (a .c .unitsize) (now (a .samples))) (a .a) (min (a .b) (a .c .len)))) none)) (lt-ltb _ _ h))
+    ap (λ (n : Node). given (some n)) (is-told _ _ (c .summary-in .ensures) ∙ ap (summed (levelOf (now (a .l1)) (now (a .l2)) (now (a .l3)) (now (a .l4))) (sampleOf (a .c .unitsize) (now (a .samples))) (a .a)) e) ∙ sym (ap (λ (t : Bool). given (cond t (some (summed (levelOf (now (a .l1)) (now (a .l2)) (now (a .l3)) (now (a .l4))) (sampleOf (a .c .unitsize) (now (a .samples))) (a .a) (min (a .b) (a .c .len)))) none)) (lt-ltb _ _ h))
 
 pub summed-in-spec : {M : Type 1} → statement M
 summed-in-spec = tie.close (tie.spec lesser-requires returns summary-in-requires returns-2)

@@ -7,6 +7,7 @@ use borrow.Author.Needs.{needs}
 use Rattle.rules.specs.Sample.{sampleOf}
 use Rattle.node.specs.Memory.{levelOf}
 use Rattle.capture.specs.Record.{storeOf}
+use Rattle.node.proofs.Told.{is-told}
 use Rattle.whole.proofs.Laws.{number-small, samples-room, join-room, made-samples, made-below}
 use Rattle.whole.proofs.made.Statement.{statement}
 use Rattle.whole.proofs.made.Tie as tie
@@ -40,7 +41,7 @@ returns : tie.Need-returns
 returns c =
     let s = start-at (c .before .before .before) in
     let a = s .args in
-    c .raw-node .ensures ∙ made-samples (sampleOf (a .c .unitsize) (now (a .samples))) (a .c .len) (levelOf (now (a .l1)) (now (a .l2)) (now (a .l3)) (now (a .l4))) (a .level) (a .j) (c .before .lesser .result) (c .before .before .if1 .taken) (c .before .lesser .ensures)
+    is-told _ _ (c .raw-node .ensures) ∙ made-samples (sampleOf (a .c .unitsize) (now (a .samples))) (a .c .len) (levelOf (now (a .l1)) (now (a .l2)) (now (a .l3)) (now (a .l4))) (a .level) (a .j) (c .before .lesser .result) (c .before .before .if1 .taken) (c .before .lesser .ensures)
 
 add-lesser-2 : tie.Need-add-lesser-2
 add-lesser-2 c =
@@ -67,7 +68,8 @@ join-nodes-requires : tie.Need-join-nodes-requires
 join-nodes-requires c κs =
     let s = start-at (c .before .before .before .before) in
     let a = s .args in
-    join-room (storeOf (a .c)) (now (a .samples)) (levelOf (now (a .l1)) (now (a .l2)) (now (a .l3)) (now (a .l4))) (a .level) (a .j) (s .pre) (c .before .lesser2 .result) (now (c .level-of .result)) (omega (arith, s .pre .low, c .before .before .before .if1 .left)) (c .before .lesser2 .ensures ∙ ap (min (a .j * 32 + 32)) (c .before .before .nodes-of .ensures)) (c .level-of .ensures)
+    let r = join-room (storeOf (a .c)) (now (a .samples)) (levelOf (now (a .l1)) (now (a .l2)) (now (a .l3)) (now (a .l4))) (a .level) (a .j) (s .pre) (c .before .lesser2 .result) (now (c .level-of .result)) (omega (arith, s .pre .low, c .before .before .before .if1 .left)) (c .before .lesser2 .ensures ∙ ap (min (a .j * 32 + 32)) (c .before .before .nodes-of .ensures)) (c .level-of .ensures) in
+    (r .0, record { few = omega (arith, c .before .lesser2 .ensures); room = r .1 })
 
 returns-2 : tie.Need-returns-2
 returns-2 c =

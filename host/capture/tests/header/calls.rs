@@ -57,7 +57,12 @@ pub fn whole(l: &Lent) -> u32 {
 }
 
 pub fn summary(l: &Lent) -> u32 {
-    lent!(l, lc_summary, (l.store()), (l.given.place, l.given.end, l.output.cast()))
+    let Given { place, end, .. } = l.given;
+    lent!(l, lc_summary, (l.store()), (place, end, l.output.cast(), l.number(0)))
+}
+
+pub fn density(l: &Lent) -> u32 {
+    lent!(l, lc_density, (l.store()), (l.given.place, l.given.end, l.number(0)))
 }
 
 pub fn next_change(l: &Lent) -> u32 {

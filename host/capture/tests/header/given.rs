@@ -39,10 +39,14 @@ pub struct Given {
     pub mill_end: i64,
 }
 
+/// The numbers of a node.
+pub const NODE: usize = 5;
+
 /// The node of samples.
-fn node(samples: &[u16]) -> [u16; 3] {
+fn node(samples: &[u16]) -> [u16; NODE] {
     let toggles = samples.windows(2).fold(0, |toggles, pair| toggles | (pair[0] ^ pair[1]));
-    [samples[0], samples[samples.len() - 1], toggles]
+    let count = samples.windows(2).filter(|pair| pair[0] != pair[1]).count() as u16;
+    [samples[0], samples[samples.len() - 1], toggles, count, 0]
 }
 
 impl Given {
@@ -54,7 +58,7 @@ impl Given {
         samples.resize(2 * CAPACITY, 0);
         let levels = [32, 1024, 32_768, 1_048_576].map(|span| {
             let mut numbers: Vec<u16> = run.chunks(span).flat_map(node).collect();
-            numbers.resize(3 * CAPACITY.div_ceil(span), 0);
+            numbers.resize(NODE * CAPACITY.div_ceil(span), 0);
             numbers
         });
         let mut record = [0; 17];

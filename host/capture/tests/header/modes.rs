@@ -2,7 +2,7 @@
 //! draw other pixels and keep another count of samples, and the crate, which sets the default mode, does not.
 
 use crate::calls::{self, EXPORTS};
-use crate::given::{Given, Lent, CAPACITY};
+use crate::given::{Given, Lent, CAPACITY, NODE};
 use capture::{Capture, Pixel, Recorder, Settings, View, Wish};
 use std::arch::asm;
 
@@ -86,7 +86,7 @@ fn kept(limit: usize, wish: f64, seconds: Option<usize>) -> usize {
         ring: vec![0; CAPACITY.max(limit)],
         samples: vec![0; 2000],
         levels: [32usize, 1024, 32_768, 1_048_576]
-            .map(|span| vec![0; 3 * 2000usize.div_ceil(span)]),
+            .map(|span| vec![0; NODE * 2000usize.div_ceil(span)]),
         ..Given::new()
     };
     let lent = Lent::new(given);

@@ -61,6 +61,7 @@ fn exports() -> Vec<Tried> {
         question("lc_samples", calls::samples, &[rows::OUTPUT]),
         question("lc_whole", calls::whole, &[]),
         question("lc_summary", calls::summary, &[]),
+        question("lc_density", calls::density, &[]),
         question("lc_next_change", calls::next_change, &[]),
         question("lc_prev_change", calls::prev_change, &[]),
         question("lc_burst_at", calls::burst_at, &[]),

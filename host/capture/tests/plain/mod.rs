@@ -23,7 +23,14 @@ pub fn prev_change(s: &[Lines], mask: Lines, from: usize) -> Option<usize> {
 pub fn summary(s: &[Lines], a: usize, b: usize) -> Option<Node> {
     let part = s.get(a..b.min(s.len()))?;
     let toggles = part.windows(2).fold(0, |toggles, pair| toggles | pair[0] ^ pair[1]);
-    Some(Node { first: *part.first()?, last: *part.last()?, toggles })
+    let count = part.windows(2).filter(|pair| pair[0] != pair[1]).count() as u32;
+    Some(Node { first: *part.first()?, last: *part.last()?, toggles, count })
+}
+
+/// The changes above `a` and below `b`.
+pub fn density(s: &[Lines], a: usize, b: usize) -> u32 {
+    let places = a.saturating_add(1)..b.min(s.len());
+    places.filter(|&i| s[i] != s[i - 1]).count() as u32
 }
 
 /// A burst over any two searches, of which none is made without need.

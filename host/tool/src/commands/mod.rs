@@ -4,6 +4,7 @@ mod burst;
 mod changes;
 mod check;
 mod demo;
+mod density;
 mod info;
 mod next;
 mod prev;
@@ -15,7 +16,9 @@ mod summary;
 use crate::args::{Args, Known};
 use crate::failure::{bad, Failure, Outcome};
 use crate::lines;
+use crate::number;
 use crate::reader::Reader;
+use crate::wave::MOST_COLUMNS;
 use capture::Counted;
 use std::io::Write;
 
@@ -29,13 +32,14 @@ pub struct Command {
     pub run: fn(&Args, &mut dyn Write) -> Result<Outcome, Failure>,
 }
 
-pub const COMMANDS: [Command; 11] = [
+pub const COMMANDS: [Command; 12] = [
     demo::COMMAND,
     record::COMMAND,
     info::COMMAND,
     next::COMMAND,
     prev::COMMAND,
     changes::COMMAND,
+    density::COMMAND,
     burst::COMMAND,
     summary::COMMAND,
     samples::COMMAND,
@@ -74,6 +78,29 @@ fn print_found(
 /// Something that a command cannot do without.
 fn needed<T>(value: Option<T>, what: &str) -> Result<T, Failure> {
     value.ok_or_else(|| bad(format!("{what} is missing; see --help")))
+}
+
+/// Options that are of no use without another.
+fn only_with(args: &Args, owner: &str, names: &[&str]) -> Result<(), Failure> {
+    match names.iter().find(|name| args.flag(name) && !args.flag(owner)) {
+        Some(name) => Err(bad(format!("{name} goes with {owner}"))),
+        None => Ok(()),
+    }
+}
+
+fn exclude(args: &Args, one: &str, other: &str) -> Result<(), Failure> {
+    if args.flag(one) && args.flag(other) {
+        return Err(bad(format!("{one} and {other} exclude each other")));
+    }
+    Ok(())
+}
+
+/// How wide a drawing is.
+fn read_width(text: &str) -> Result<usize, String> {
+    match number::whole(text)? {
+        width @ 1..=MOST_COLUMNS => Ok(width),
+        _ => Err(format!("a width is 1 to {MOST_COLUMNS}")),
+    }
 }
 
 #[cfg(test)]

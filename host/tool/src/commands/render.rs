@@ -1,13 +1,13 @@
 //! The waveform of a stretch, as text or as a picture.
 
-use super::{chosen_lines, Command};
+use super::{chosen_lines, exclude, only_with, read_width, Command};
 use crate::args::{Args, Takes};
 use crate::failure::{bad, Failure, Outcome};
 use crate::output::Output;
 use crate::reader::Reader;
 use crate::text::{self, Style};
 use crate::value::Form;
-use crate::wave::{Wave, MOST_COLUMNS};
+use crate::wave::Wave;
 use crate::{file, lines, note, number, place, svg};
 use capture::View;
 use std::io::Write;
@@ -71,13 +71,6 @@ fn run(args: &Args, out: &mut dyn Write) -> Result<Outcome, Failure> {
     Ok(Outcome::Yes)
 }
 
-fn read_width(text: &str) -> Result<usize, String> {
-    match number::whole(text)? {
-        width @ 1..=MOST_COLUMNS => Ok(width),
-        _ => Err(format!("a width is 1 to {MOST_COLUMNS}")),
-    }
-}
-
 /// The pixels of a view as they are, for programs that draw themselves.
 fn pixels(
     args: &Args,
@@ -113,18 +106,4 @@ fn labelled(args: &Args, reader: &Reader) -> Result<Vec<(u8, String)>, Failure> 
         None => (line, format!("{line:>2}")),
     };
     Ok(chosen_lines(args, reader)?.into_iter().map(label).collect())
-}
-
-fn only_with(args: &Args, owner: &str, names: &[&str]) -> Result<(), Failure> {
-    match names.iter().find(|name| args.flag(name) && !args.flag(owner)) {
-        Some(name) => Err(bad(format!("{name} goes with {owner}"))),
-        None => Ok(()),
-    }
-}
-
-fn exclude(args: &Args, one: &str, other: &str) -> Result<(), Failure> {
-    if args.flag(one) && args.flag(other) {
-        return Err(bad(format!("{one} and {other} exclude each other")));
-    }
-    Ok(())
 }

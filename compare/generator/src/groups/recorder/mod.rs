@@ -90,6 +90,7 @@ fn questions(list: &mut List, len: u64, place: u64) {
         list.say(Op::Next { mask: 0xFFFF, from });
         list.say(Op::Prev { mask: 3, from });
         list.say(Op::Summary { a: from, b: len });
+        list.say(Op::Density { a: from, b: len });
     }
     let burst = Burst { mask: 7, sample: place, max_gap: 50, tolerance: 20, budget: 3 };
     list.say(Op::Burst(burst));
