@@ -11,13 +11,13 @@ use borrow.Author.Tests.{eq-eqb, ne-eqb}
 use lib.ListN.{length, getD, set, length-set}
 use lib.Seq.{sets, length-sets, getD-set-same, getD-set-other}
 use Rattle.rules.specs.Sample.{sampleOf}
-use Rattle.rules.specs.Node.{Node, leaf, nodeOf, span, topLevel, nodeEnd}
+use Rattle.rules.specs.Node.{Node, half, numbersOf, leaf, nodeOf, span, topLevel, nodeEnd}
 use Rattle.rules.specs.Refusal.{nodeSize}
 use Rattle.rules.specs.Walk.{allLevels}
 use Rattle.rules.proofs.Node.{node-one}
 use Rattle.rules.proofs.Walk.{span-pos}
 use Rattle.rules.proofs.Found.{TrueNodes}
-use Rattle.node.specs.Memory.{half, numbersOf, nodeIn, putNode, readerOf, Right}
+use Rattle.node.specs.Memory.{nodeIn, putNode, readerOf, Right}
 
 -- ---- a run of stores
 -- other numbers stay

@@ -1,13 +1,13 @@
 -- Nodes in level memory, and when all of them are right.
 use mathlib.Core.Path.{_≡_}
 use mathlib.Core.Bool.{Bool, cond}
-use mathlib.Core.List.{List, [], _∷_}
-use Prim.Native.Nat.{ℕ, zero, suc, _+_, _*_, _/_, _%_, _≤_, _<_}
+use mathlib.Core.List.{List}
+use Prim.Native.Nat.{ℕ, zero, suc, _+_, _*_, _/_, _≤_, _<_}
 use lib.Dec.{leb, eqb}
 use lib.ListN.{getD}
 use lib.Seq.{sets}
 use Rattle.rules.specs.Sample.{sampleOf}
-use Rattle.rules.specs.Node.{leaf, span, topLevel, levelNode}
+use Rattle.rules.specs.Node.{half, numbersOf, leaf, span, topLevel, levelNode}
 use Rattle.rules.specs.Node as rule
 use Rattle.rules.specs.Refusal.{nodeSize}
 use Rattle.node.specs.declared.Node.{Node}
@@ -15,14 +15,6 @@ use Rattle.node.specs.declared.Node.{Node}
 -- the code's node as 01's
 abbrev pub asNode : Node → rule.Node
 asNode n = record { first = n .first; last = n .last; toggles = n .mask; count = n .count }
-
--- how many values a number of level memory has
-abbrev pub half : ℕ
-half = 65536
-
--- a node's numbers, the count's last: "as two 16-bit numbers, low first, so a node is five numbers" (02, CR 5)
-abbrev pub numbersOf : rule.Node → List ℕ
-numbersOf n = n .first ∷ n .last ∷ n .toggles ∷ n .count % half ∷ n .count / half ∷ []
 
 -- node j of a level's list
 abbrev pub nodeIn : List ℕ → ℕ → rule.Node

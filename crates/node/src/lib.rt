@@ -4,10 +4,10 @@ ghost use mathlib.Core.Path.{_≡_};
 ghost use mathlib.Core.Bool.{Bool, false};
 ghost use Prim.Native.Nat.{_+_, _*_, _/_, _%_, _≤_};
 ghost use lib.ListN.{length};
-ghost use Rattle.rules.specs.Node.{leaf, join, quiet, differs, capCount, linesOf};
+ghost use Rattle.rules.specs.Node.{half, leaf, join, quiet, differs, capCount, linesOf};
 ghost use Rattle.rules.specs.Refusal.{nodeSize};
 ghost use Rattle.node.specs.Told.{Told};
-ghost use Rattle.node.specs.Memory.{asNode, half, nodeIn, putNode, levelOf};
+ghost use Rattle.node.specs.Memory.{asNode, nodeIn, putNode, levelOf};
 
 // 01's node, with the count of 02's CR 5; `mask` is its toggles.
 pub struct Node {

@@ -94,6 +94,7 @@ fn rebuild_whole(
     ensures { λ r. ⌜ (first ≤ r) × (newNodes (partSample unitsize (now (part .entry)) base) (now (level .exit)) r top 1 ≡ newNodes (partSample unitsize (now (part .entry)) base) (now (level .entry)) first top 1) ⌝ }
 {
     let end = (top + 1) / FAN;
+    // 16 wherever there is a whole node, as raw_whole asks.
     let half = lesser(part.len(), HALF_FAN);
     let mut j = first;
     while j < end {

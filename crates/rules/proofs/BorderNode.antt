@@ -5,7 +5,7 @@ use mathlib.Core.List.{List, [], _∷_}
 use mathlib.Core.Option.{Option, none, some}
 use Prim.Native.Nat.{ℕ, _+_, _*_, _^_}
 use Rattle.rules.specs.Sample.{unitOf, sampleOf, sampleCount, listFrom, samplesOf, line}
-use Rattle.rules.specs.Node.{Node, Lines, togglesOf, differs, countOf, changesIn, mostCount, capCount, nodeOf, join, leaf, mirror, linesOf, cut, quiet, topLevel, span, chunk, nodesFor, nodeStart, nodeEnd, levelNode}
+use Rattle.rules.specs.Node.{Node, Lines, togglesOf, differs, countOf, changesIn, mostCount, numbersOf, capCount, nodeOf, join, leaf, mirror, linesOf, cut, quiet, topLevel, span, chunk, nodesFor, nodeStart, nodeEnd, levelNode}
 use Rattle.rules.specs.Search.{seek, next, previous, summary, cutSummary, countIn, density}
 use Rattle.rules.specs.Cutting.{Rising, cutEnd, partsSum, bordersSum}
 use native.Mathlib.Omega.{arith}
@@ -78,6 +78,11 @@ pub nodes :
     -- "Cutting down takes first, last and toggles AND that mask"
     × (cut 6 (node 5 3 15 9) ≡ lines 4 2 6)
     × (linesOf (node 5 3 15 9) ≡ lines 5 3 15)
+    -- "low first": the last count that its low number holds alone, the next one, one with both, and the most
+    × (numbersOf (node 1 2 3 65535) ≡ 1 ∷ 2 ∷ 3 ∷ 65535 ∷ 0 ∷ [])
+    × (numbersOf (node 1 2 3 65536) ≡ 1 ∷ 2 ∷ 3 ∷ 0 ∷ 1 ∷ [])
+    × (numbersOf (node 1 2 3 327684) ≡ 1 ∷ 2 ∷ 3 ∷ 4 ∷ 5 ∷ [])
+    × (numbersOf (node 1 2 3 4294967295) ≡ 1 ∷ 2 ∷ 3 ∷ 65535 ∷ 65535 ∷ [])
     -- "No masked change against the value before, nor inside": the border alone, inside alone, both, another line, the last sample
     × (quiet (node 1 1 0 7) 1 1 ≡ true)
     × (quiet (node 1 1 0 7) 0 1 ≡ false)
@@ -87,7 +92,7 @@ pub nodes :
     × (quiet (node 1 1 2 7) 1 1 ≡ true)
     × (quiet (node 1 0 0 7) 1 1 ≡ true)
 unfolding sampleOf togglesOf countOf nodeOf
-nodes = (refl, refl, refl, refl, refl, refl, refl, refl, refl, refl, refl, refl, refl, refl, refl, refl, refl, refl, refl, refl, refl, refl, refl, refl, refl, refl, refl, refl, refl, refl)
+nodes = (refl, refl, refl, refl, refl, refl, refl, refl, refl, refl, refl, refl, refl, refl, refl, refl, refl, refl, refl, refl, refl, refl, refl, refl, refl, refl, refl, refl, refl, refl, refl, refl, refl, refl)
 
 -- ---- levels; the sample at each place is the place
 abbrev places : ℕ → ℕ

@@ -1,10 +1,11 @@
 -- Nodes of ranges of samples, and the levels that they stand in. 01: Records, Node and Store.
 -- A capture's samples are a function from places to numbers: the rules say nothing of the memory that holds them.
 use mathlib.Core.Bool.{Bool, cond}
-use Prim.Native.Nat.{ℕ, zero, suc, _+_, _-_, _*_, _/_, _^_, _≤_, min}
+use mathlib.Core.List.{List, [], _∷_}
+use Prim.Native.Nat.{ℕ, zero, suc, _+_, _-_, _*_, _/_, _%_, _^_, _≤_, min}
 use lib.Bits.{bitAnd, bitOr, bitXor}
 use lib.Dec.{eqb}
-use Rattle.rules.specs.Sample.{Word, cutTo}
+use Rattle.rules.specs.Sample.{maskBits, Word, cutTo}
 
 -- "Three 16-bit numbers: first, last, toggles." 02, CR 5: "A node gains the number of places inside it at which any line changes"
 pub record Node : Type 0 where
@@ -31,6 +32,14 @@ changes s i = bitXor (s i) (s (i - 1))
 unfoldable pub togglesOf : (ℕ → ℕ) → ℕ → ℕ → ℕ
 togglesOf s a zero = 0
 togglesOf s a (suc n) = bitOr (togglesOf s a n) (changes s (a + suc n))
+
+-- how many values a word has
+abbrev pub half : ℕ
+half = 2 ^ maskBits
+
+-- a node's numbers: the count is the last two, "as two 16-bit numbers, low first, so a node is five numbers" (02, CR 5)
+abbrev pub numbersOf : Node → List ℕ
+numbersOf n = n .first ∷ n .last ∷ n .toggles ∷ n .count % half ∷ n .count / half ∷ []
 
 -- 1 where two samples differ in any line, else 0
 abbrev pub differs : ℕ → ℕ → ℕ
