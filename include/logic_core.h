@@ -15,7 +15,7 @@
  *     1            a number of the record is out of its range
  *     2            lent memory is shorter than lc_needs says
  * and of a mill's reader (lc_mill_*, below) besides, in this order:
- *     12           a search's or burst's mask has a line beyond the grant
+ *     12           a line of a search's or burst's mask, or of an encoder, is beyond the grant
  *     13           a place is before the first sample
  *
  * The record is five numbers: unit (bytes a sample, 1 or 2), capacity (samples, 1 to 67108864), len (stored samples),
@@ -55,12 +55,13 @@ enum lc_recorder {
     LC_FALLING_LINES = 11, LC_EDGE_LINES = 12, LC_KNOWN = 13, LC_PREVIOUS = 14, LC_RING_PLACE = 15, LC_KEPT = 16
 };
 
-/* Which is which behind an out pointer that takes several: the sizes of lc_needs, a node, the ends of lc_burst_at, and the
- * jumps of lc_mill_burst_at. The numbers of a node begin so in level memory too. */
+/* Which is which behind an out pointer that takes several: the sizes of lc_needs, a node, the ends of lc_burst_at, the counts
+ * of lc_encoder, and the jumps of lc_mill_burst_at. The numbers of a node begin so in level memory too. */
 enum lc_out {
     LC_SIZE_SAMPLES = 0, LC_SIZE_LEVEL_1 = 1, LC_SIZE_LEVEL_2 = 2, LC_SIZE_LEVEL_3 = 3, LC_SIZE_LEVEL_4 = 4,
     LC_NODE_FIRST = 0, LC_NODE_LAST = 1, LC_NODE_TOGGLES = 2, LC_BURST_FIRST = 0, LC_BURST_LAST = 1, LC_BURST_JUMPS_END = 2,
-    LC_BURST_JUMPS_START = 3, LC_MILL_JUMPS_END = 0, LC_MILL_JUMPS_START = 1
+    LC_BURST_JUMPS_START = 3, LC_ENCODER_FORWARD = 0, LC_ENCODER_BACKWARD = 1, LC_ENCODER_SKIPPED = 2,
+    LC_MILL_JUMPS_END = 0, LC_MILL_JUMPS_START = 1
 };
 
 /* Lent memory in one value: the samples, the levels 1 to 4, and how many elements of each are lent, in lc_needs' order. */
@@ -146,6 +147,16 @@ uint32_t lc_prev_change(const size_t record[5], LC_CONST_MEMORY, uint16_t mask, 
 uint32_t lc_burst_at(const size_t record[5], LC_CONST_MEMORY, uint16_t mask, size_t sample, size_t max_gap,
                      size_t tolerance, size_t budget, size_t ends[4], size_t *read);
 
+/* Replays an encoder from its lines a and b, over the whole capture. (a, b) = 00, 10, 11, 01, 00 is the way forward, its
+ * reverse the way backward. counts becomes the steps forward, the steps backward and the skips: places at which both lines
+ * differ from the sample before, so that nobody can tell which way it went, and it does not move. position becomes where it
+ * is at the end, from 0 at the first sample: the steps forward less those backward. The three counts add up to the places at
+ * which a line of the two changes. Below two samples all four numbers become 0.
+ *
+ * A line that the unit lacks, 8 to 15 where a sample is one byte, is 0 throughout. Refuses with 1, 2, and 14 where a and b
+ * are equal or one of them is above 15. */
+uint32_t lc_encoder(const size_t record[5], LC_CONST_MEMORY, size_t a, size_t b, int64_t *position, size_t counts[3]);
+
 /* Draws width pixels of a view that begins at place start, spp samples to a pixel: output becomes two numbers for each,
  * first sample and the lines that change, 0 and 0 where there is no sample. Output past 2 * width is unchanged. Refuses with
  * 1, 2, 10 where start or spp is infinite or not a number, and 11 where width is above 65536 or output below 2 * width. */
@@ -163,8 +174,8 @@ uint32_t lc_render(const size_t record[5], LC_CONST_MEMORY, double start, double
  * 0, and the end at len - mark, or len. Counts, gaps, tolerance, budget, jumps and the nodes read are those of the calls
  * above.
  *
- * Refusals come in the order 1, 2, 12, 13, and then the call's own. A place at or past the end is refused by lc_mill_get
- * alone; any place may be given, up to both ends of int64_t. */
+ * Refusals come in the order 1, 2, 12, 13, and then the call's own; that of lc_mill_encoder, 14, comes ahead of 12. A place
+ * at or past the end is refused by lc_mill_get alone; any place may be given, up to both ends of int64_t. */
 
 /* Which places there are: first becomes that of the first sample, end the one behind the last, and marked 1 where there is a
  * mark, which is at 0 then, else 0. Without samples both places are 0. It takes no grant. Refuses with 1 and 2. */
@@ -197,6 +208,11 @@ uint32_t lc_mill_prev_change(const size_t record[5], LC_CONST_MEMORY, uint16_t g
 uint32_t lc_mill_burst_at(const size_t record[5], LC_CONST_MEMORY, uint16_t grant, uint16_t mask, int64_t sample,
                           size_t max_gap, size_t tolerance, size_t budget, int64_t *first, int64_t *last, size_t jumps[2],
                           size_t *read);
+
+/* As lc_encoder, from the first sample on, wherever the mark is. Refuses with 1, 2, 14 where a and b are equal or one of
+ * them is above 15, and then 12 where one is beyond the grant. */
+uint32_t lc_mill_encoder(const size_t record[5], LC_CONST_MEMORY, uint16_t grant, size_t a, size_t b, int64_t *position,
+                         size_t counts[3]);
 
 /* As lc_render: draws width pixels of a view; start is a place as the mill counts, and may be before the first sample, where
  * there is nothing to draw: 13 is not given. Refuses with 1, 2, 10 and 11. */

@@ -40,6 +40,9 @@ pub mod out {
     pub const BURST_LAST: usize = 1;
     pub const BURST_JUMPS_END: usize = 2;
     pub const BURST_JUMPS_START: usize = 3;
+    pub const ENCODER_FORWARD: usize = 0;
+    pub const ENCODER_BACKWARD: usize = 1;
+    pub const ENCODER_SKIPPED: usize = 2;
     pub const MILL_JUMPS_END: usize = 0;
     pub const MILL_JUMPS_START: usize = 1;
 }
@@ -62,6 +65,12 @@ exports! {
         l3: *const u16, l3_len: usize, l4: *const u16, l4_len: usize, a: usize, b: usize,
         count: *mut u32
     ) -> u32;
+    fn lc_encoder(
+        record: *const [usize; 5], samples: *const u8, samples_len: usize,
+        l1: *const u16, l1_len: usize, l2: *const u16, l2_len: usize,
+        l3: *const u16, l3_len: usize, l4: *const u16, l4_len: usize, a: usize, b: usize,
+        position: *mut i64, counts: *mut [usize; 3]
+    ) -> u32;
     fn lc_feeder_start(
         channels: usize, capacity: usize, limit: usize, terms: *const u8, terms_len: usize,
         seconds: bool, wish: f64, rate: usize, samples: *const u8, samples_len: usize,
@@ -80,6 +89,12 @@ exports! {
         l3: *const u16, l3_len: usize, l4: *const u16, l4_len: usize, grant: u16, mask: u16,
         sample: i64, max_gap: usize, tolerance: usize, budget: usize, first: *mut i64,
         last: *mut i64, jumps: *mut [usize; 2], read: *mut usize
+    ) -> u32;
+    fn lc_mill_encoder(
+        record: *const [usize; 5], samples: *const u8, samples_len: usize,
+        l1: *const u16, l1_len: usize, l2: *const u16, l2_len: usize,
+        l3: *const u16, l3_len: usize, l4: *const u16, l4_len: usize, grant: u16, a: usize,
+        b: usize, position: *mut i64, counts: *mut [usize; 3]
     ) -> u32;
     fn lc_mill_extent(
         record: *const [usize; 5], samples: *const u8, samples_len: usize,

@@ -1,5 +1,5 @@
-/* Records the lines of a log turner through a trigger, searches and draws what was recorded, and checks each answer by
- * a plain scan. Prints the answers; exits with 1 at the first that is wrong. */
+/* Records the lines of a log turner through a trigger, searches and draws what was recorded, replays its encoder to see that
+ * the log came home, and checks each answer by a plain scan. Prints the answers; exits with 1 at the first that is wrong. */
 #include "logic_core.h"
 
 #include <inttypes.h>
@@ -9,12 +9,18 @@
 enum {
     CHANNELS = 8,       /* up to 8: one byte a sample */
     CAPACITY = 100000,  /* samples */
-    LIMIT = 4000,       /* samples wanted */
+    LIMIT = 40000,      /* samples wanted */
     PUSH = 300,         /* samples in a push */
     WIDTH = 60,         /* pixels */
-    DRIVE = 3           /* the line of the turner's drive; the encoder's lines are 0 and 1 */
+    START = 15000,      /* the sample at which the turner's drive starts */
+    STEP = 90,          /* samples a step of the encoder */
+    TURN = 4,           /* its steps in a turn */
+    TURNS = 40,         /* trial turns, and as many back */
+    REST = 10 * STEP,   /* samples between them */
+    DRIVE = 3,          /* the line of the turner's drive */
+    A = 0, B = 1        /* the encoder's lines */
 };
-static const uint16_t ENCODER = 1 << 0 | 1 << 1;
+static const uint16_t ENCODER = 1 << A | 1 << B;
 static const uint8_t RISING = 0;
 
 static void *lend(size_t bytes) {
@@ -34,10 +40,18 @@ static void must(int holds, const char *what) {
     }
 }
 
-/* The machine: the drive starts at sample 5000, and the encoder then moves a step every 90 samples. */
+/* The steps that the turner makes one way, so many samples after it begins. */
+static size_t turned(size_t samples) {
+    const size_t steps = samples / STEP;
+    return steps < TURNS * TURN ? steps : TURNS * TURN;
+}
+
+/* The machine: the drive starts, and the turner makes its turns, rests, and makes as many back. */
 static uint8_t machine(size_t k) {
     static const uint8_t step[4] = {0, 1, 3, 2};
-    return k < 5000 ? 0 : (uint8_t)(step[(k - 5000) / 90 % 4] | 1 << DRIVE);
+    const size_t back = START + TURNS * TURN * STEP + REST;
+    const size_t position = k < START ? 0 : k < back ? turned(k - START) : TURNS * TURN - turned(k - back);
+    return (uint8_t)(step[position % 4] | (k < START ? 0 : 1 << DRIVE));
 }
 
 /* The first change above from, by looking at every sample. */
@@ -46,6 +60,12 @@ static size_t scan(const uint8_t *s, size_t len, uint16_t mask, size_t from) {
         if ((s[i] ^ s[i - 1]) & mask)
             return i;
     return len;
+}
+
+/* Where a sample stands in the order in which an encoder goes forward, (A,B) = 00, 10, 11, 01. */
+static int stands(uint8_t sample) {
+    const int a = sample >> A & 1, b = sample >> B & 1;
+    return b ? 3 - a : a;
 }
 
 int main(void) {
@@ -65,7 +85,9 @@ int main(void) {
     must(lc_feeder_start(CHANNELS, CAPACITY, LIMIT, terms, sizeof terms, false, 0.25, 0, LC_LEND(m), ring, LIMIT, record,
                          &cut) == 0, "start");
 
-    size_t pushed = 0;
+    /* Between pushes questions may be asked: here, how far the log has turned. */
+    int64_t position, furthest = 0;
+    size_t counts[3], pushed = 0;
     for (uint32_t code = 0; code != LC_NONE;) {
         uint8_t bytes[PUSH];
         for (size_t i = 0; i < PUSH; i++)
@@ -73,12 +95,15 @@ int main(void) {
         pushed += PUSH;
         code = lc_push(record, LC_LEND(m), ring, LIMIT, bytes, sizeof bytes);
         must(code == 0 || code == LC_NONE, "push");
+        must(lc_encoder(record, LC_LEND(m), A, B, &position, counts) == 0, "encoder");
+        if (position > furthest)
+            furthest = position;
     }
     const size_t len = record[LC_LEN], mark = record[LC_MARK];
     printf("pushed %zu, stored %zu, mark %zu\n", pushed, len, mark);
     must(len == LIMIT && record[LC_MARKED] != 0 && mark == LIMIT / 4, "the run's length and mark");
     for (size_t i = 0; i < len; i++)
-        must(m.samples[i] == machine(5000 - mark + i), "the run's samples");
+        must(m.samples[i] == machine(START - mark + i), "the run's samples");
     size_t level, number;
     must(lc_whole(record, LC_LEND(m), &level, &number) == 0, "whole");
 
@@ -98,8 +123,19 @@ int main(void) {
            len);
     must(lc_prev_change(record, LC_LEND(m), ENCODER, len, &place, &read) == 0 && place == last, "previous change");
 
+    /* Which way those steps went. The log made its trial turns forward and back, and is home: no step is lost. */
+    printf("turned: %zu steps forward, %zu backward, %zu skipped\n", counts[LC_ENCODER_FORWARD],
+           counts[LC_ENCODER_BACKWARD], counts[LC_ENCODER_SKIPPED]);
+    printf("the log: %" PRId64 " turns at the furthest, %" PRId64 " at the end\n", furthest / TURN, position / TURN);
+    size_t went[4] = {0};
+    for (size_t i = 1; i < len; i++)
+        went[(stands(m.samples[i]) - stands(m.samples[i - 1]) + 4) % 4]++;
+    must(counts[LC_ENCODER_FORWARD] == went[1] && counts[LC_ENCODER_BACKWARD] == went[3], "the steps forward and backward");
+    must(counts[LC_ENCODER_SKIPPED] == went[2] && went[1] + went[2] + went[3] == steps, "all steps");
+    must(furthest == TURNS * TURN && position == 0, "the log came home");
+
     size_t ends[4];
-    must(lc_burst_at(record, LC_LEND(m), ENCODER, 2000, 100, 0, 1000, ends, &read) == 0, "burst");
+    must(lc_burst_at(record, LC_LEND(m), ENCODER, 2 * mark, REST + 100, 0, 1000, ends, &read) == 0, "burst");
     printf("burst: %zu to %zu, %zu jumps at its end, %zu at its start\n", ends[LC_BURST_FIRST], ends[LC_BURST_LAST],
            ends[LC_BURST_JUMPS_END], ends[LC_BURST_JUMPS_START]);
     must(ends[LC_BURST_FIRST] == first && ends[LC_BURST_LAST] == last, "the burst's ends");
@@ -164,6 +200,17 @@ int main(void) {
     const uint32_t before = lc_mill_next_change(record, LC_LEND(m), ENCODER, ENCODER, run_first - 1, &step, &read);
     printf("the drive's line and a place before the run: refused with %u and %u\n", (unsigned)beyond, (unsigned)before);
     must(beyond == 12 && before == 13 && step == (int64_t)first - (int64_t)mark && read == 77, "a mill's refusals");
+
+    /* It replays the encoder too. Equal lines are refused ahead of one beyond the grant. */
+    int64_t seen = 77;
+    size_t steps_seen[3] = {77, 77, 77};
+    const uint32_t equal = lc_mill_encoder(record, LC_LEND(m), ENCODER, DRIVE, DRIVE, &seen, steps_seen);
+    const uint32_t drive = lc_mill_encoder(record, LC_LEND(m), ENCODER, A, DRIVE, &seen, steps_seen);
+    printf("an encoder of equal lines, and one with the drive's: refused with %u and %u\n", (unsigned)equal, (unsigned)drive);
+    must(equal == 14 && drive == 12 && seen == 77 && steps_seen[LC_ENCODER_FORWARD] == 77, "an encoder's refusals");
+    must(lc_mill_encoder(record, LC_LEND(m), ENCODER, A, B, &seen, steps_seen) == 0 && seen == position, "a mill's encoder");
+    for (int c = 0; c < 3; c++)
+        must(steps_seen[c] == counts[c], "a mill's steps");
 
     /* A refusal has a number, and changes nothing. */
     uint16_t value = 77;

@@ -1,5 +1,6 @@
 //! How fast the unchanged Rust is, and beside it the port. See ../README.md.
 
+mod plain;
 mod rattle;
 mod rust;
 mod side;
@@ -7,7 +8,7 @@ mod table;
 mod work;
 
 use table::Table;
-use work::{Appends, Bursts, Pushes, Ranges, Row, Samples, Wait, Walk};
+use work::{Appends, Bursts, Encoder, Pushes, Ranges, Row, Samples, Wait, Walk};
 
 /// Four chunks.
 const LEN: u64 = 4_194_304;
@@ -18,8 +19,12 @@ const FEW: u64 = 393_216;
 fn main() {
     keep_memory();
     Table::heading();
-    if std::env::args().nth(1).as_deref() == Some("length") {
-        return [1, 2].into_iter().for_each(lengths);
+    match std::env::args().nth(1).as_deref() {
+        Some("length") => return [1, 2].into_iter().for_each(lengths),
+        Some("encoder") => {
+            return [1, 2].into_iter().for_each(|unit| encoders(&mut Table::new(unit)))
+        }
+        _ => {}
     }
     for unit in [1, 2] {
         let mut table = Table::new(unit);
@@ -29,6 +34,7 @@ fn main() {
             searches(&mut table, gap);
         }
         questions(&mut table);
+        encoders(&mut table);
     }
 }
 
@@ -114,6 +120,26 @@ fn questions(table: &mut Table) {
     bursts(table, "burst, dense", 16, 1_000);
     table.hold(&Samples::with_changes(table.unit, LEN, 1_000));
     bursts(table, "burst, sparse", 2_000, 100);
+}
+
+/// An encoder on two lines beside each other, in the higher byte where there are two.
+fn encoders(table: &mut Table) {
+    let lines = if table.unit == 1 { [3, 4] } else { [11, 12] };
+    for (name, gap) in [
+        ("a step every 2 to 10", Some([2, 10])),
+        ("a step every 100", Some([50, 150])),
+        ("a step every 1000", Some([500, 1_500])),
+        ("no step", None),
+    ] {
+        let samples = Samples::turning(table.unit, LEN, lines, gap);
+        table.hold(&samples);
+        let work = Encoder { samples: &samples, lines };
+        table.line(&format!("encoder, {name}"), "sample", |side| side.encoder(&work));
+        if gap == Some([50, 150]) {
+            let name = format!("encoder, {name}, by a mill");
+            table.line(&name, "sample", |side| side.mill_encoder(&work));
+        }
+    }
 }
 
 /// How cost grows with the capture: a lone change in its middle, all of it as a row of pixels, and bursts in it.

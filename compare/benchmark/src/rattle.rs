@@ -1,8 +1,8 @@
 //! The port, over memory that it is lent. Without the static library it has no operation. The counts of nodes read, and those
 //! of the changes in a summary, are thrown away: the Rust has none.
 
-use crate::side::{timed, Side, Timed};
-use crate::work::{Appends, Bursts, Pushes, Ranges, Row, Samples, Wait, Walk, GRANT};
+use crate::side::{timed, turned, Side, Timed};
+use crate::work::{Appends, Bursts, Encoder, Pushes, Ranges, Row, Samples, Wait, Walk, GRANT};
 use port::{mill, out, record, Asked, Feeder, Lent, LentMut, Record, Settings};
 use std::cell::RefCell;
 
@@ -222,6 +222,16 @@ impl Side for Rattle {
         })
     }
 
+    fn encoder(&self, work: &Encoder) -> Option<Timed> {
+        let ([a, b], record, lent) = (work.lines, &self.held.record, self.held.lent());
+        port::LINKED.then_some(())?;
+        timed(NONE, || {
+            let (mut position, mut counts) = (0, [0; 3]);
+            assert_eq!(port::encoder(record, lent, a, b, &mut position, &mut counts), 0);
+            (work.samples.len(), turned(position, in_order(counts)))
+        })
+    }
+
     fn mill_next_change(&self, work: &Walk) -> Option<Timed> {
         let ((record, mark), lent) = (self.held.marked(), self.held.lent());
         port::LINKED.then_some(())?;
@@ -265,4 +275,20 @@ impl Side for Rattle {
             (work.width, row.iter().map(|&n| n as u64).sum())
         })
     }
+
+    fn mill_encoder(&self, work: &Encoder) -> Option<Timed> {
+        let ([a, b], record, lent) = (work.lines, &self.held.record, self.held.lent());
+        let grant = 1 << a | 1 << b;
+        port::LINKED.then_some(())?;
+        timed(NONE, || {
+            let (mut position, mut counts) = (0, [0; 3]);
+            assert_eq!(mill::encoder(record, lent, grant, a, b, &mut position, &mut counts), 0);
+            (work.samples.len(), turned(position, in_order(counts)))
+        })
+    }
+}
+
+/// Forward, backward and skipped.
+fn in_order(counts: [usize; 3]) -> [u64; 3] {
+    [out::ENCODER_FORWARD, out::ENCODER_BACKWARD, out::ENCODER_SKIPPED].map(|at| counts[at] as u64)
 }

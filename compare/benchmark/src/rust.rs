@@ -1,7 +1,8 @@
 //! The unchanged Rust.
 
-use crate::side::{timed, Side, Timed};
-use crate::work::{Appends, Bursts, Pushes, Ranges, Row, Samples, Wait, Walk, GRANT};
+use crate::plain;
+use crate::side::{timed, turned, Side, Timed};
+use crate::work::{Appends, Bursts, Encoder, Pushes, Ranges, Row, Samples, Wait, Walk, GRANT};
 use edgewise::capture::{Capture, Node, Snapshot};
 use edgewise::trigger::{Condition, Feeder, TriggerTerm};
 use std::sync::Arc;
@@ -19,6 +20,7 @@ impl Rust {
 const NONE: &str = "none";
 const ALLOCATED: &str = "allocated in the call, not cleared";
 const CLEARED: &str = "allocated in the call, cleared";
+const SCAN: &str = "none, a plain scan";
 
 fn capture(unit: usize) -> Capture {
     Capture::new(1, 8 * unit)
@@ -118,6 +120,14 @@ impl Side for Rust {
         })
     }
 
+    /// It has no such call: a plain scan stands in its place.
+    fn encoder(&self, work: &Encoder) -> Option<Timed> {
+        timed(SCAN, || {
+            let (position, counts) = plain::encoder(work.samples, work.lines);
+            (work.samples.len(), turned(position, counts))
+        })
+    }
+
     // It has no reader for mills: these are its own calls, and their answers are cut down.
 
     fn mill_next_change(&self, work: &Walk) -> Option<Timed> {
@@ -138,5 +148,9 @@ impl Side for Rust {
             let row = self.snapshot.render(work.start, work.spp, work.width as usize);
             (work.width, row.into_iter().map(|v| (v & GRANT) as u64).sum())
         })
+    }
+
+    fn mill_encoder(&self, work: &Encoder) -> Option<Timed> {
+        self.encoder(work)
     }
 }

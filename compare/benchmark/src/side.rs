@@ -1,12 +1,12 @@
 //! A side of the benchmark. Each function does one work and says how long it took;
 //! a side that lacks an operation leaves its function as it stands here.
 
-use crate::work::{Appends, Bursts, Pushes, Ranges, Row, Samples, Walk};
+use crate::work::{Appends, Bursts, Encoder, Pushes, Ranges, Row, Samples, Walk};
 use std::time::{Duration, Instant};
 
 pub struct Timed {
     pub time: Duration,
-    /// Samples stored or copied, changes found, calls made, pixels drawn.
+    /// Samples stored, copied or replayed, changes found, calls made, pixels drawn.
     pub count: u64,
     /// A sum over the answers: equal on both sides, and nothing is optimised away.
     pub sum: u64,
@@ -55,7 +55,12 @@ pub trait Side {
         None
     }
 
-    // The same by a mill's reader: lines of GRANT, places from the middle of the capture.
+    fn encoder(&self, work: &Encoder) -> Option<Timed> {
+        None
+    }
+
+    // The same by a mill's reader: lines of GRANT, places from the middle of the capture; an encoder by one who may see no
+    // other line.
 
     fn mill_next_change(&self, work: &Walk) -> Option<Timed> {
         None
@@ -68,6 +73,15 @@ pub trait Side {
     fn mill_render(&self, work: &Row) -> Option<Timed> {
         None
     }
+
+    fn mill_encoder(&self, work: &Encoder) -> Option<Timed> {
+        None
+    }
+}
+
+/// What an encoder comes to as one number.
+pub fn turned(position: i64, counts: [u64; 3]) -> u64 {
+    counts.into_iter().fold(position as u64, |sum, n| sum.wrapping_mul(257).wrapping_add(n))
 }
 
 /// Times a work that gives its count and its sum.

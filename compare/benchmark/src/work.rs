@@ -33,6 +33,30 @@ impl Samples {
         Samples { unit, bytes }
     }
 
+    /// An encoder on two lines, with at least and at most so many samples from step to step, or no step at all. It turns back
+    /// at times and seldom skips. Every 50 samples or so one of the other lines changes.
+    pub fn turning(unit: usize, len: u64, [a, b]: [usize; 2], gap: Option<[u64; 2]>) -> Samples {
+        let mut rng = Rng::new(gap.map_or(0, |[least, _]| least));
+        let order = [0, 1 << a, 1 << a | 1 << b, 1 << b];
+        let (mut quarter, mut turn, mut others) = (0, 1, 0u16);
+        let (mut to_step, mut to_other) = (gap.map_or(len, |[least, _]| least), 50);
+        let mut bytes = Vec::new();
+        for _ in 0..len {
+            if let (0, Some([least, most])) = (to_step, gap) {
+                turn = if rng.once_in(20) { 4 - turn } else { turn };
+                quarter += if rng.once_in(100) { 2 } else { turn };
+                to_step = least + rng.below(most - least + 1);
+            }
+            if to_other == 0 {
+                others ^= 1 << rng.below(8 * unit as u64) & !order[2];
+                to_other = 25 + rng.below(51);
+            }
+            (to_step, to_other) = (to_step - 1, to_other - 1);
+            bytes.extend(&(order[quarter % 4] | others).to_le_bytes()[..unit]);
+        }
+        Samples { unit, bytes }
+    }
+
     /// Zeros, with line 0 set in the middle sample and behind it: one change.
     pub fn lone(unit: usize, len: u64) -> Samples {
         let one = |i| ((i >= len / 2 + 1) as u16).to_le_bytes();
@@ -103,6 +127,12 @@ pub struct Bursts {
     pub places: Ranges,
     pub max_gap: u64,
     pub budget: u64,
+}
+
+/// An encoder replayed from two lines of these samples.
+pub struct Encoder<'a> {
+    pub samples: &'a Samples,
+    pub lines: [usize; 2],
 }
 
 /// One row of pixels.

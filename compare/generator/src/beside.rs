@@ -1,6 +1,7 @@
 //! The port beside the Rust and the document: the recorded answers, then random captures for a given time.
 
 use crate::document::rules;
+use crate::encoders::Encoders;
 use crate::feed::Feed;
 use crate::groups::GROUPS;
 use crate::line::Numbers;
@@ -9,15 +10,16 @@ use crate::mill::Mills;
 use crate::noise::Noise;
 use crate::op::Op;
 use crate::port::Port;
-use crate::shapes::{mask, Size, CHUNK};
+use crate::shapes::{line, mask, Size, CHUNK};
 use crate::side::Side;
 use crate::unfinished::Unfinished;
 use crate::write::{file_name, path};
 use rng::Rng;
 use std::time::{Duration, Instant};
 
-/// Differences shown.
+/// Differences shown, and how many are enough.
 const SHOWN: usize = 5;
+const MANY: usize = 1_000;
 
 pub fn run(seconds: u64, seed: u64) -> bool {
     if !port::LINKED {
@@ -95,8 +97,10 @@ fn random(seconds: u64, seed: u64) -> bool {
     let mut mills = Mills::default();
     let mut unfinished = Unfinished::default();
     let mut noise = Noise::default();
+    let mut encoders = Encoders::default();
     let mut longs = 0;
-    while begun.elapsed() < Duration::from_secs(seconds) {
+    encoders.sweep(&mut list, &mut rng);
+    while begun.elapsed() < Duration::from_secs(seconds) && list.asker().differences.len() < MANY {
         let group = &GROUPS[rng.below(GROUPS.len() as u64) as usize];
         match rng.below(2_000) {
             0..=1 => {
@@ -110,6 +114,9 @@ fn random(seconds: u64, seed: u64) -> bool {
         mills.ask(&mut list, &mut rng);
         unfinished.ask(&mut list, &mut rng);
         noise.ask(&mut list, &mut rng);
+        if rng.once_in(2) {
+            encoders.ask(&mut list, &mut rng);
+        }
         list.text();
     }
     let asker = list.asker();
@@ -125,7 +132,7 @@ fn random(seconds: u64, seed: u64) -> bool {
     );
     let [by_rust, refused, alone] = asker.counts.mill;
     println!(
-        "of these, mills asked {}: the Rust answers {by_rust}, CR 1 refuses {refused}, it alone answers {alone}; {} asked of two captures alike",
+        "of these, mills asked {}: the Rust answers {by_rust}, 02 refuses {refused}, it alone answers {alone}; {} asked of two captures alike",
         by_rust + refused + alone,
         mills.twice,
     );
@@ -142,6 +149,13 @@ fn random(seconds: u64, seed: u64) -> bool {
         "{} counts of changes compared with the nodes that memory holds, {unmade} of them over memory that no call made, {} cut at 2^32 - 1",
         made + unmade,
         noise.port.cut + unfinished.port.cut,
+    );
+    let made = mills.other.turns + asker.port().map_or(0, |port| port.turns);
+    let unmade = noise.port.turns + unfinished.port.turns;
+    println!(
+        "{} encoders replayed, {unmade} of them over memory that no call made; {} runs beside their reverse",
+        made + unmade,
+        encoders.reversed,
     );
     asker.differences.is_empty()
 }
@@ -179,6 +193,8 @@ fn long(list: &mut List, rng: &mut Rng) {
     list.say(Op::Whole);
     list.say(Op::Run);
     list.say(Op::Density { a: 0, b: u64::MAX });
+    list.say(Op::Encoder { a: 0, b: 1 });
+    list.say(Op::Encoder { a: line(rng, 8 * unit), b: line(rng, 8 * unit) });
     for _ in 0..12 {
         let place = near(rng, len);
         list.say(Op::Next { mask: mask(rng, 8 * unit), from: place });

@@ -30,6 +30,7 @@ impl Op {
             Op::Prev { mask, from } => vec![21, *mask as u64, *from],
             Op::Summary { a, b } => vec![22, *a, *b],
             Op::Density { a, b } => vec![23, *a, *b],
+            Op::Encoder { a, b } => vec![24, *a, *b],
             Op::Burst(b) => {
                 vec![30, b.mask as u64, b.sample, b.max_gap, b.tolerance, b.budget]
             }
@@ -76,6 +77,7 @@ impl Op {
             21 => Op::Prev { mask: next()? as u16, from: next()? },
             22 => Op::Summary { a: next()?, b: next()? },
             23 => Op::Density { a: next()?, b: next()? },
+            24 => Op::Encoder { a: next()?, b: next()? },
             30 => Op::Burst(Burst {
                 mask: next()? as u16,
                 sample: next()?,
@@ -112,6 +114,7 @@ fn mill_numbers(Mill { grant, ask }: &Mill) -> Vec<u64> {
             line.insert(1, grant);
             line
         }
+        Ask::Encoder { a, b } => vec![68, grant, a, b],
     }
 }
 

@@ -6,6 +6,7 @@ mod beside;
 mod check;
 mod digest;
 mod document;
+mod encoders;
 mod feed;
 mod groups;
 mod line;

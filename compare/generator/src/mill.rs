@@ -6,7 +6,7 @@ use crate::groups::render::SPECIAL;
 use crate::list::{append, List};
 use crate::op::{Ask, Mill, Op, Store, View};
 use crate::port::Port;
-use crate::shapes::{mask, CHUNK};
+use crate::shapes::{line, mask, CHUNK};
 use crate::side::Side;
 use rng::Rng;
 
@@ -17,7 +17,8 @@ pub struct Run {
     pub mark: u64,
 }
 
-/// The kinds of question that search.
+/// The kinds of question, and those that search.
+const KINDS: u64 = 9;
 pub const SEARCHES: [u64; 3] = [4, 5, 6];
 
 #[derive(Default)]
@@ -44,7 +45,7 @@ impl Mills {
         for _ in 0..grants {
             let grant = grant(rng);
             for _ in 0..3 {
-                let kind = rng.below(8);
+                let kind = rng.below(KINDS);
                 let ask = ask(rng, run, grant, kind);
                 list.say(Op::Mill(Mill { grant, ask }));
             }
@@ -54,8 +55,9 @@ impl Mills {
         }
         if rng.once_in(100) {
             let grant = grant(rng);
-            let calls = [0, 1, 2, 3, 4, 5, 6, 7].map(|kind| ask(rng, run, grant, kind));
-            rows_1_and_2(list, store, &calls.map(|ask| Op::Mill(Mill { grant, ask })));
+            let call = |kind| Op::Mill(Mill { grant, ask: ask(rng, run, grant, kind) });
+            let calls: Vec<Op> = (0..KINDS).map(call).collect();
+            rows_1_and_2(list, store, &calls);
         }
         if rng.once_in(3) {
             self.alike(list, rng, store);
@@ -83,7 +85,7 @@ impl Mills {
             self.other.take(&op);
         }
         let run = Run { len: store.len, mark: store.mark.unwrap_or(0) };
-        for kind in 0..8 {
+        for kind in 0..KINDS {
             for _ in 0..2 {
                 let op = Op::Mill(Mill { grant, ask: ask(rng, run, grant, kind) });
                 list.say(op.clone());
@@ -116,7 +118,7 @@ pub fn grant(rng: &mut Rng) -> u16 {
     }
 }
 
-/// A question of one of the eight kinds.
+/// A question of one of the kinds.
 pub fn ask(rng: &mut Rng, run: Run, grant: u16, kind: u64) -> Ask {
     let at = place(rng, run);
     match kind {
@@ -143,7 +145,18 @@ pub fn ask(rng: &mut Rng, run: Run, grant: u16, kind: u64) -> Ask {
             let budget = rng.pick(&[0, 1, 2, 9, u64::MAX]);
             Ask::Burst { mask: within(rng, grant), sample: at, max_gap, tolerance, budget }
         }
-        _ => Ask::Render(view(rng, run, at)),
+        7 => Ask::Render(view(rng, run, at)),
+        _ => Ask::Encoder { a: line_within(rng, grant), b: line_within(rng, grant) },
+    }
+}
+
+/// A line that is most often within the grant.
+fn line_within(rng: &mut Rng, grant: u16) -> u64 {
+    let granted: Vec<u64> = (0..16).filter(|line| grant >> line & 1 == 1).collect();
+    match rng.below(8) {
+        0 => line(rng, 16),
+        _ if granted.is_empty() => rng.below(16),
+        _ => rng.pick(&granted),
     }
 }
 

@@ -1,7 +1,7 @@
-//! Searches, bursts, summaries and densities over memory that no list of calls made: patterns, what other captures left, and
-//! numbers put into the levels of a capture. What they find may be no change; place and count of nodes are those of the walk
-//! over what memory holds, a summary and its count of changes those of the nodes that are there, to which the port's side
-//! holds them.
+//! Searches, bursts, summaries, densities and encoders over memory that no list of calls made: patterns, what other captures
+//! left, and numbers put into the levels of a capture. What they find may be no change; place and count of nodes are those of
+//! the walk over what memory holds, a summary and its count of changes those of the nodes that are there, to which the port's
+//! side holds them. An encoder's position is that of its counts, and a mill that may see its lines gets what the service gets.
 
 use crate::document::{refusals::need, rules};
 use crate::feed::Feed;
@@ -43,6 +43,7 @@ impl Noise {
             self.counts(rng, rules::unit(channels), capacity);
         }
         densities(&mut self.port, list, rng);
+        encoders(&mut self.port, list, rng);
     }
 
     /// Large counts in neighbouring nodes of a level, most of which add up to about 2^32.
@@ -113,6 +114,23 @@ pub fn densities(port: &mut Port, list: &mut List, rng: &mut Rng) {
             for fault in port.faults() {
                 list.asker().differs(&format!("memory that no call made: {op:?}: {fault}"));
             }
+        }
+    }
+}
+
+/// Replays encoders as the service and as a mill that may see both lines.
+pub fn encoders(port: &mut Port, list: &mut List, rng: &mut Rng) {
+    for _ in 0..3 {
+        let (a, b) = (rng.below(16), rng.below(16));
+        let grant = rng.number() as u16 | 1 << a | 1 << b;
+        let ops = [Op::Encoder { a, b }, Op::Mill(Mill { grant, ask: Ask::Encoder { a, b } })];
+        let answers = ops.each_ref().map(|op| port.take(op).expect("it is a call"));
+        let mut faults = port.faults();
+        if answers[0] != answers[1] || answers[0].is_ok() != (a != b) {
+            faults.push(format!("the answers are {answers:?}"));
+        }
+        for fault in faults {
+            list.asker().differs(&format!("memory that no call made: {ops:?}: {fault}"));
         }
     }
 }

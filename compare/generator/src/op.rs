@@ -98,6 +98,7 @@ pub enum Ask {
     Prev { mask: u16, from: i64 },
     Burst { mask: u16, sample: i64, max_gap: u64, tolerance: u64, budget: u64 },
     Render(View),
+    Encoder { a: u64, b: u64 },
 }
 
 #[derive(Clone, Debug)]
@@ -123,6 +124,8 @@ pub enum Op {
     Burst(Burst),
     Render(View),
     RenderDigest(View),
+    // An encoder, by its lines A and B.
+    Encoder { a: u64, b: u64 },
     // The recorder.
     Pretrigger { time: f64, rate: u64, unit: u64 },
     Start(Settings),

@@ -7,12 +7,13 @@ mod recorder;
 mod walk;
 
 use crate::digest::digest;
-use crate::document::{listed, optional, refusals};
+use crate::document::rules::Turns;
+use crate::document::{listed, optional, refusals, turned};
 use crate::node::{joined, span, Node};
 use crate::op::{Burst, Lent, Op, Recorder, Store, View};
 use crate::side::{Answer, Side};
 use memory::{pattern, Memory, GUARD};
-use port::{record, Asked, Feeder, Record, NONE};
+use port::{out, record, Asked, Feeder, Record, NONE};
 use recorder::Recording;
 use walk::{Walk, Walked, Way, MOST};
 
@@ -46,6 +47,8 @@ pub struct Port {
     /// Counts of changes held against the nodes that memory holds, and how many of them are cut.
     pub densities: u64,
     pub cut: u64,
+    /// Encoders replayed.
+    pub turns: u64,
     calls: u64,
     faults: Vec<String>,
 }
@@ -173,6 +176,9 @@ impl Port {
             Op::Render(view) => self.render(view, render_of(view), listed),
             Op::RenderDigest(view) => self
                 .render(view, render_of(view), |row| vec![digest(row.iter().map(|&v| v as u64))]),
+            Op::Encoder { a, b } => self.encoder(|record, lent, position, counts| {
+                port::encoder(record, lent, a as usize, b as usize, position, counts)
+            }),
             Op::Mill(mill) => self.mill(mill),
             _ => return None,
         })
@@ -325,6 +331,30 @@ impl Port {
             self.faults.push("output past the pixels changed".into());
         }
         said(code, || row(&after[..drawn]))
+    }
+
+    /// An encoder by the service's call or a mill's. Over any memory it moves by its steps, of which each place has at most
+    /// one.
+    fn encoder(
+        &mut self,
+        call: impl Fn(&Record, port::Lent, &mut i64, &mut [usize; 3]) -> u32,
+    ) -> Answer {
+        let before = (-41, [42, 43, 44]);
+        let (mut position, mut counts) = before;
+        let code = call(&self.record, self.lent(), &mut position, &mut counts);
+        self.kept(code, "encoder", before, (position, counts));
+        let [forward, backward, skipped] =
+            [out::ENCODER_FORWARD, out::ENCODER_BACKWARD, out::ENCODER_SKIPPED]
+                .map(|at| counts[at] as u64);
+        if code == 0 {
+            self.same("position", forward as i128 - backward as i128, position as i128);
+            let steps = forward as u128 + backward as u128 + skipped as u128;
+            if steps > self.len().saturating_sub(1) as u128 {
+                self.faults.push(format!("{steps} steps in {} samples", self.len()));
+            }
+            self.turns += 1;
+        }
+        said(code, || turned(Turns { position, forward, backward, skipped }))
     }
 
     fn place(

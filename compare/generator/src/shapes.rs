@@ -16,6 +16,9 @@ const ROOM: u64 = 4_194_304;
 
 pub const CHANNELS: [u64; 7] = [0, 1, 3, 8, 9, 16, 17];
 
+/// Numbers that are no line.
+pub const NO_LINES: [u64; 4] = [16, 17, 1 << 63, u64::MAX];
+
 #[derive(Clone, Copy)]
 pub enum Size {
     Short,
@@ -188,6 +191,16 @@ pub fn mask(rng: &mut Rng, lines: u64) -> u16 {
         3 => 1 << rng.below(lines),
         4 => 3,
         _ => 1 << rng.below(2),
+    }
+}
+
+/// A line to replay an encoder from: mostly one of the two that change most, seldom one that the unit lacks, or none.
+pub fn line(rng: &mut Rng, lines: u64) -> u64 {
+    match rng.below(12) {
+        0 => rng.below(16),
+        1 => rng.pick(&NO_LINES),
+        2..=4 => rng.below(lines),
+        _ => rng.below(2),
     }
 }
 

@@ -1,6 +1,6 @@
 //! Appends and pushes over memory that no list of calls made. As document 02's CR 2 says of level 1, the nodes of a level
 //! that they write depend on len, its unfinished node and the new samples, their counts of changes too; what is stored before
-//! is noise here, and searches, summaries and densities follow it.
+//! is noise here, and searches, summaries, densities and encoders follow it.
 
 use crate::document::{refusals::need, rules};
 use crate::feed::Feed;
@@ -60,5 +60,6 @@ impl Unfinished {
         let run = Run { len: self.port.len(), mark: 0 };
         noise::searches(&mut self.port, list, rng, run);
         noise::densities(&mut self.port, list, rng);
+        noise::encoders(&mut self.port, list, rng);
     }
 }

@@ -99,7 +99,7 @@ mod tests {
         }
     }
 
-    /// With the numbers that document 01 prints, in its order.
+    /// With the numbers that document 01 prints, in its order; then CR 6's order, forward and backward.
     #[test]
     fn holds_the_shelf_examples() {
         let lists = texts();
@@ -121,6 +121,8 @@ mod tests {
             (4, vec![&format!("{start} 3 0 0 1 2 0"), "52 1 1 0 0 0", "14 0 0 1 1 0 0 2"]),
             (4, vec![&format!("51 8 3 0 1 {half} 3 1 0 0 0 0 1 2 0")]),
             (0, vec![a, "15 8 1 9", "15 7 0 0 3"]),
+            (5, vec!["11 5 0 1 3 2 0 0 0 5", "24 0 1 1 0 4 4 0 0"]),
+            (5, vec!["11 5 0 2 3 1 0 0 0 5", "24 0 1 1 0 18446744073709551612 0 4 0"]),
         ] {
             let lines = lines.join("\n");
             assert!(lists[list].contains(&lines), "no\n{lines}");

@@ -152,6 +152,19 @@ pub fn density(record: &Record, lent: Lent, a: usize, b: usize, count: &mut u32)
     lent!(lc_density, (record), lent, as_ptr, (a, b, count))
 }
 
+/// An encoder replayed from lines a and b. The counts have names, [`out`].
+#[inline]
+pub fn encoder(
+    record: &Record,
+    lent: Lent,
+    a: usize,
+    b: usize,
+    position: &mut i64,
+    counts: &mut [usize; 3],
+) -> u32 {
+    lent!(lc_encoder, (record), lent, as_ptr, (a, b, position, counts))
+}
+
 #[inline]
 pub fn next_change(
     record: &Record,

@@ -102,6 +102,19 @@ pub fn burst_at(
 }
 
 #[inline]
+pub fn encoder(
+    record: &Record,
+    lent: Lent,
+    grant: u16,
+    a: usize,
+    b: usize,
+    position: &mut i64,
+    counts: &mut [usize; 3],
+) -> u32 {
+    lent!(lc_mill_encoder, (record), lent, as_ptr, (grant, a, b, position, counts))
+}
+
+#[inline]
 pub fn render(
     record: &Record,
     lent: Lent,

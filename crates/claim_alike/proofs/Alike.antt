@@ -12,6 +12,7 @@ use Rattle.rules.specs.Pixel.{Range, rowBy, cutPixels}
 use Rattle.rules.specs.Sample.{allLines, cutLines}
 use Rattle.rules.proofs.Node.{node-one}
 use Rattle.rules.proofs.Row.{Stored}
+use Rattle.rules.proofs.Encoder.{encoder-same, lines-chosen}
 use Rattle.claim_alike.specs.Alike.{AreWords, Same, Alike}
 use Rattle.claim_alike.proofs.Below.{summary-below, density-below, render-below, next-below, previous-below, burst-below, row-below}
 use Rattle.claim_alike.proofs.Cut.{all-lines, linesIn, summary-cut, render-cut, next-cut, previous-cut, burst-cut, row-cut}
@@ -27,6 +28,7 @@ same-len v s₁ s₂ len words₁ words₂ lines = record {
       sym (burst-cut v s₁ len mask w sample gap tolerance budget)
       ∙ burst-below t₁ t₂ len lines mask sample gap tolerance budget
       ∙ burst-cut v s₂ len mask w sample gap tolerance budget;
+  encoders = λ a b w. encoder-same s₁ s₂ len a b (λ i l. lines-chosen v a b (s₁ i) (s₂ i) w (lines i l));
   densities = λ e. density-below s₁ s₂ len (samples e);
   counts = λ e. summary-below s₁ s₂ len (samples e);
 }

@@ -10,6 +10,9 @@ use Rattle.rules.specs.Search.{summary, density}
 use Rattle.rules.specs.Walk.{allLevels, runReader, nextSearch, previousSearch}
 use Rattle.rules.specs.Burst.{burstSearch}
 use Rattle.rules.specs.Pixel.{View, Range, rowBy, pixelRange, render}
+use Rattle.rules.specs.Sample.{line}
+use Rattle.rules.specs.Encoder.{encoder}
+use Rattle.rules.proofs.Encoder.{encoder-same}
 use Rattle.rules.proofs.Node.{node-same, changes-same}
 use Rattle.rules.proofs.Row.{Stored, pixels-stored, row-same}
 use Rattle.rules.proofs.Walk.{span-pos}
@@ -29,6 +32,9 @@ module _ (s₁ s₂ : ℕ → ℕ) (len : ℕ) (same : (i : ℕ) → i < len →
 
   pub density-below : (a b : ℕ) → density s₁ len a b ≡ density s₂ len a b
   density-below a b = changes-same s₁ s₂ a (min b len) (λ i l u. same i (omega arith))
+
+  pub encoder-below : (a b : ℕ) → encoder s₁ len a b ≡ encoder s₂ len a b
+  encoder-below a b = encoder-same s₁ s₂ len a b (λ i l. (ap (λ (x : ℕ). line x a) (same i l), ap (λ (x : ℕ). line x b) (same i l)))
 
   -- a row over any ranges of stored places, and 01's
   pub row-below : (range : ℕ → Option Range) → Stored range len → (px n : ℕ) → rowBy (nodeOf s₁) range px n ≡ rowBy (nodeOf s₂) range px n

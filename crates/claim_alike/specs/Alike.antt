@@ -7,6 +7,7 @@ use Rattle.rules.specs.Search.{summary, cutSummary, density}
 use Rattle.rules.specs.Walk.{nextSearch, previousSearch}
 use Rattle.rules.specs.Burst.{burstSearch}
 use Rattle.rules.specs.Pixel.{View, render, cutPixels}
+use Rattle.rules.specs.Encoder.{encoder, pairMask}
 
 -- "Unit 1: one byte .. Unit 2: two bytes" (01, Records): a sample is a number that a mask's word holds
 abbrev pub AreWords : (ℕ → ℕ) → ℕ → Type 0
@@ -26,6 +27,8 @@ module _ (v : ℕ) (s₁ : ℕ → ℕ) (len₁ : ℕ) (s₂ : ℕ → ℕ) (len
     pub nexts : (mask : ℕ) → Within mask v → (from : ℕ) → nextSearch s₁ len₁ mask from ≡ nextSearch s₂ len₂ mask from
     pub previouses : (mask : ℕ) → Within mask v → (from : ℕ) → previousSearch s₁ len₁ mask from ≡ previousSearch s₂ len₂ mask from
     pub bursts : (mask : ℕ) → Within mask v → (sample gap tolerance budget : ℕ) → burstSearch s₁ len₁ mask sample gap tolerance budget ≡ burstSearch s₂ len₂ mask sample gap tolerance budget
+    -- 02, CR 6: an encoder on two of those lines
+    pub encoders : (a b : ℕ) → Within (pairMask a b) v → encoder s₁ len₁ a b ≡ encoder s₂ len₂ a b
     -- 02, CR 5: "Since it tells of every line, .. alikeness covers it only for a viewer who chose all lines": densities, and summaries with their counts
     pub densities : v ≡ allLines → (a b : ℕ) → density s₁ len₁ a b ≡ density s₂ len₂ a b
     pub counts : v ≡ allLines → (a b : ℕ) → summary s₁ len₁ a b ≡ summary s₂ len₂ a b

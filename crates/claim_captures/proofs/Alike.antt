@@ -1,12 +1,15 @@
 -- Two captures that hold a run each look alike to a viewer of chosen lines exactly when the runs are the same on those lines.
 use mathlib.Core.Path.{_≡_, refl, sym, ap, _∙_}
-use mathlib.Core.List.{List}
+use mathlib.Core.List.{List, [], _∷_}
 use mathlib.Core.Option.{Option}
 use Prim.Native.Nat.{ℕ, zero, suc, _+_, _≤_, _<_}
+use native.Mathlib.Nat.{zero-lt-suc}
 use native.Mathlib.Omega.{arith}
 use lib.ListN.{length}
 use Rattle.rules.specs.Search.{summary, cutSummary}
-use Rattle.rules.specs.Refusal.{firstOf, viewRows, mostSamples}
+use Rattle.rules.specs.Encoder.{pairWrong, pairRow}
+use Rattle.rules.specs.Refusal.{firstOf, viewRows, mostSamples, topLine}
+use Rattle.rules.proofs.Refusal.{row-passed}
 use Rattle.rules.specs.Answer.{given, unless, seen}
 use Rattle.rules.specs.Pixel.{cutPixels}
 use Rattle.claim_alike.specs.Alike.{Alike}
@@ -15,7 +18,7 @@ use Rattle.capture.specs.declared.Capture.{Capture}
 use Rattle.pixel.specs.Ranges.{viewAs}
 use Rattle.claim_captures.specs.Words.{Memory, at, Answered, Usize, Agree, Same}
 use Rattle.claim_captures.specs.Claim.{Held, Answers, LookAlike, CapturesAlike}
-use Rattle.claim_captures.proofs.Answers.{bounds, answers}
+use Rattle.claim_captures.proofs.Answers.{bounds, answers, unless-same}
 
 -- ---- two calls that answer x and y agree exactly when these are seen as the same
 module _ {X A B : Type 0} {may₁ may₂ : X → Type 0} {told : X → A} {x y : A} (view : A → B) (one : Answered may₁ told x) (two : Answered may₂ told y) where
@@ -72,6 +75,9 @@ module _ {run₁ : List ℕ} {mark₁ : Option ℕ} (c₁ : Capture) (m₁ : Mem
     previouses = λ mask from _ w _. agreed (λ x. x) (a₁ .previous-is mask from) (a₂ .previous-is mask from) (ap given (rules .previouses mask w from));
     bursts = λ mask sample gap tolerance budget _ w _ _ _ _.
         agreed (λ x. x) (a₁ .burst-is mask sample gap tolerance budget) (a₂ .burst-is mask sample gap tolerance budget) (ap given (rules .bursts mask w sample gap tolerance budget));
+    encoders = λ a b _ _ w.
+        agreed (λ x. x) (a₁ .encoder-is a b) (a₂ .encoder-is a b)
+        (unless-same (firstOf (pairRow topLine a b ∷ [])) _ _ (λ z. rules .encoders a b (w (row-passed 14 0 (pairWrong topLine a b) (zero-lt-suc 13) .0 z .0))));
     densities = λ e a b _ _. agreed (λ x. x) (a₁ .density-is a b) (a₂ .density-is a b) (ap given (rules .densities e a b));
     counts = λ e a b _ _. agreed (λ x. x) (a₁ .summary-is a b) (a₂ .summary-is a b) (ap given (rules .counts e a b));
   }

@@ -20,12 +20,13 @@ use Rattle.rules.specs.Walk.{Counted, Walked, nextSearch, previousSearch}
 use Rattle.rules.specs.Burst.{burstSearch}
 use Rattle.rules.specs.Burst as rule-burst
 use Rattle.rules.specs.Pixel.{pixelRange, render}
-use Rattle.rules.specs.Refusal.{Row, Lent, firstOf, storeRows, storeRefusal, getRow, copied, copyRow, samplesRefusal, viewRows, renderRefusal}
+use Rattle.rules.specs.Encoder.{Turns, encoder, pairRow}
+use Rattle.rules.specs.Refusal.{topLine, Row, Lent, firstOf, storeRows, storeRefusal, getRow, copied, copyRow, samplesRefusal, viewRows, renderRefusal}
 use Rattle.rules.specs.Answer.{Answer, refused, given, unless, unrefused}
 use Rattle.rules.proofs.Sample.{list-length, list-same}
 use Rattle.rules.proofs.Refusal.{Sound, sound, row-passed, rows-left}
 use Rattle.rules.proofs.Row.{row-length}
-use Rattle.claim_alike.proofs.Below.{summary-below, density-below, render-below, next-below, previous-below, burst-below}
+use Rattle.claim_alike.proofs.Below.{summary-below, density-below, encoder-below, render-below, next-below, previous-below, burst-below}
 use Rattle.node.specs.Memory.{levelOf, Right}
 use Rattle.rebuild.proofs.Right.{right-same}
 use Rattle.capture.specs.declared.Capture.{Capture}
@@ -51,6 +52,10 @@ use Rattle.burst.specs.declared.Bursts.{Bursts}
 use Rattle.burst.specs.declared.Bursts.the-variants as bursts
 use Rattle.burst.specs.Answer.{burstAs, burstOf}
 use Rattle.burst.proofs.Answers.{burst-right}
+use Rattle.encoder.specs.declared.Encoded.{Encoded}
+use Rattle.encoder.specs.declared.Encoded.the-variants as encoded-as
+use Rattle.encoder.specs.Answer.{encodedOf}
+use Rattle.encoder.proofs.Answers.{encoder-right}
 use Rattle.pixel.specs.declared.View.{View}
 use Rattle.pixel.specs.Ranges.{viewAs}
 use Rattle.render.specs.declared.Drawn.{Drawn}
@@ -58,7 +63,7 @@ use Rattle.render.specs.declared.Drawn.the-variants as drawn-as
 use Rattle.render.specs.Render.{drawnOf, drawn}
 use Rattle.render.proofs.Answers.{render-row}
 use Rattle.claim_captures.specs.Words.{Memory, levels, Ref, Places, at, Answered}
-use Rattle.claim_captures.specs.Claim.{MayGet, MaySummary, MayDensity, MayNext, MayPrevious, MayBurst, MaySamples, MayRender, samplesOf, samplesIn, pixelsOf, pixelsIn, Held, Answers}
+use Rattle.claim_captures.specs.Claim.{MayGet, MaySummary, MayDensity, MayNext, MayPrevious, MayBurst, MayEncoder, MaySamples, MayRender, samplesOf, samplesIn, pixelsOf, pixelsIn, Held, Answers}
 
 -- ---- an answer for each value
 pub got-for : (x : Answer ℕ) → (v : Got) × (gotOf v ≡ x)
@@ -77,6 +82,10 @@ summed-for (given (some n)) = (summed-as.Node (record { first = n .first; last =
 pub changes-for : (x : Answer ℕ) → (v : Changes) × (changesOf v ≡ x)
 changes-for (refused n) = (changes-as.Refused n, refl)
 changes-for (given k) = (changes-as.Count k, refl)
+
+pub encoded-for : (x : Answer Turns) → (v : Encoded) × (encodedOf v ≡ x)
+encoded-for (refused n) = (encoded-as.Refused n, refl)
+encoded-for (given t) = (encoded-as.Turns (record { position = t .position; forward = t .forward; backward = t .backward; skipped = t .skipped }), refl)
 
 -- a search's, by an enum of three cases: a refusal, a find with its count, and a count alone
 pub counted-for : {A R : Type 0} (means : R → Answer (Counted A)) (refusal : ℕ → R) (at : A → ℕ → R) (nothing : ℕ → R)
@@ -241,6 +250,11 @@ module _ {run : List ℕ} {mark : Option ℕ} (c : Capture) (m : Memory) (h : He
       answered burstAs burst-for (burstOf c (m .samples) (levels m) mask sample gap tolerance budget) (λ f n. burstSearch f n mask sample gap tolerance budget)
       (λ v e. burst-right ([], ([], tt)) c ms m1 m2 m3 m4 mask sample gap tolerance budget v e right) (burst-below t (at run) (c .len) agree mask sample gap tolerance budget)
 
+  encoder-is : (a b : ℕ) → Answered (MayEncoder c m a b) encodedOf (unless (firstOf (pairRow topLine a b ∷ [])) (encoder (at run) (length run) a b))
+  encoder-is a b =
+      allowing encodedOf encoded-for
+      (λ v e. encoder-right ([], ([], tt)) c ms m1 m2 m3 m4 a b v e right ∙ asked-run (λ x n. pairRow topLine a b ∷ []) (λ f x n. encoder f n a b) (λ z. encoder-below t (at run) (c .len) agree a b))
+
   -- ---- samples
   module _ (start count : ℕ) (output : List ℕ) where
     abbrev copies-number : ℕ
@@ -278,4 +292,4 @@ module _ {run : List ℕ} {mark : Option ℕ} (c : Capture) (m : Memory) (h : He
         }
 
   pub answers : Answers run c m
-  answers = record { get-is = get-is; samples-are = samples-are; summary-is = summary-is; density-is = density-is; next-is = next-is; previous-is = previous-is; burst-is = burst-is; render-is = render-is }
+  answers = record { get-is = get-is; samples-are = samples-are; summary-is = summary-is; density-is = density-is; next-is = next-is; previous-is = previous-is; burst-is = burst-is; encoder-is = encoder-is; render-is = render-is }

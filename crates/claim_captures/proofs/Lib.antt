@@ -2,3 +2,4 @@ pub mod Words
 pub mod Answers
 pub mod Alike
 pub mod Additive
+pub mod Turns

@@ -3,6 +3,7 @@
 -- says of the arguments, the answer, and the memory after the call.
 -- No range is asked of record, memory and the viewer's lines. In `LookAlike` a question's arguments range over what its parameters' types hold: nothing else can be asked.
 use mathlib.Core.Path.{_≡_}
+use mathlib.Core.Bool.{false}
 use mathlib.Core.List.{List, [], _∷_}
 use mathlib.Core.Logic.{_↔_}
 use mathlib.Core.Option.{Option}
@@ -15,7 +16,8 @@ use Rattle.rules.specs.Search.{summary, cutSummary, density}
 use Rattle.rules.specs.Walk.{nextSearch, previousSearch}
 use Rattle.rules.specs.Burst.{burstSearch}
 use Rattle.rules.specs.Pixel.{render, cutPixels}
-use Rattle.rules.specs.Refusal.{firstOf, storeRefusal, getRow, copied, copyRow, viewRows}
+use Rattle.rules.specs.Encoder.{Turns, encoder, pairMask, pairWrong, pairRow}
+use Rattle.rules.specs.Refusal.{firstOf, storeRefusal, getRow, copied, copyRow, viewRows, topLine}
 use Rattle.rules.specs.Answer.{Answer, refused, given, unless, seen}
 use Rattle.claim_alike.specs.Alike.{AreWords}
 use Rattle.node.specs.Memory.{Right}
@@ -41,11 +43,15 @@ use Rattle.search.proofs.prev_change.Reads as prev-change
 use Rattle.burst.specs.declared.Bursts.{Bursts}
 use Rattle.burst.specs.Answer.{burstAs}
 use Rattle.burst.proofs.burst_at.Reads as burst-at
+use Rattle.encoder.specs.declared.Encoded.{Encoded}
+use Rattle.encoder.specs.Answer.{encodedOf}
+use Rattle.encoder.proofs.encoder.Reads as encoder-call
 use Rattle.pixel.specs.declared.View.{View}
 use Rattle.pixel.specs.Ranges.{viewAs}
 use Rattle.render.specs.declared.Drawn.{Drawn}
 use Rattle.render.specs.declared.Drawn.the-variants as drawn
 use Rattle.render.proofs.render.Reads as render-call
+use Rattle.claim_captures.specs.Turns.{Replayed, Reversed}
 use Rattle.claim_captures.specs.Words.{Memory, levels, Ref, Places, lending, at, Same, AddUp, Answered, Usize, F64, Agree}
 
 -- ---- what each call may answer, by its contract; a question leaves what it was lent
@@ -68,6 +74,9 @@ abbrev pub MayBurst : Capture → Memory → ℕ → ℕ → ℕ → ℕ → ℕ
 MayBurst c m mask sample gap tolerance budget v =
     (κs : Lfts 2) × (p : Places)
     × burst-at.Post κs (lending c p m (mask, (sample, (gap, (tolerance, (budget, tt)))))) v (lending c p m (mask, (sample, (gap, (tolerance, (budget, tt))))))
+
+abbrev pub MayEncoder : Capture → Memory → ℕ → ℕ → Encoded → Type 0
+MayEncoder c m a b v = (κs : Lfts 2) × (p : Places) × encoder-call.Post κs (lending c p m (a, (b, tt))) v (lending c p m (a, (b, tt)))
 
 -- samples' answer, and the output after it
 pub record Copying : Type 0 where
@@ -130,6 +139,8 @@ pub record Answers (run : List ℕ) (c : Capture) (m : Memory) : Type 0 where
   pub previous-is : (mask from : ℕ) → Answered (MayPrevious c m mask from) foundOf (given (previousSearch (at run) (length run) mask from))
   pub burst-is : (mask sample gap tolerance budget : ℕ)
       → Answered (MayBurst c m mask sample gap tolerance budget) burstAs (given (burstSearch (at run) (length run) mask sample gap tolerance budget))
+  -- 02, CR 6; 14 refuses it
+  pub encoder-is : (a b : ℕ) → Answered (MayEncoder c m a b) encodedOf (unless (firstOf (pairRow topLine a b ∷ [])) (encoder (at run) (length run) a b))
   pub render-is : (view : View) (width : ℕ) (output : List ℕ)
       → Answered (MayRender c m view width output) (pixelsIn width)
       (unless (firstOf (viewRows (viewAs view) width (length output))) (render (at run) (length run) (viewAs view) width))
@@ -151,6 +162,8 @@ pub record LookAlike (v : ℕ) (c₁ : Capture) (m₁ : Memory) (c₂ : Capture)
   pub previouses : (mask from : ℕ) → Word mask → Within mask v → Usize from → Agree (MayPrevious c₁ m₁ mask from) (MayPrevious c₂ m₂ mask from) foundOf
   pub bursts : (mask sample gap tolerance budget : ℕ) → Word mask → Within mask v → Usize sample → Usize gap → Usize tolerance → Usize budget
       → Agree (MayBurst c₁ m₁ mask sample gap tolerance budget) (MayBurst c₂ m₂ mask sample gap tolerance budget) burstAs
+  -- 02, CR 6: an encoder on two of those lines; what 14 refuses is refused by both
+  pub encoders : (a b : ℕ) → Usize a → Usize b → (pairWrong topLine a b ≡ false → Within (pairMask a b) v) → Agree (MayEncoder c₁ m₁ a b) (MayEncoder c₂ m₂ a b) encodedOf
   -- 02, CR 5: "Since it tells of every line, .. alikeness covers it only for a viewer who chose all lines": densities, and summaries with their counts
   pub densities : v ≡ allLines → (a b : ℕ) → Usize a → Usize b → Agree (MayDensity c₁ m₁ a b) (MayDensity c₂ m₂ a b) changesOf
   pub counts : v ≡ allLines → (a b : ℕ) → Usize a → Usize b → Agree (MaySummary c₁ m₁ a b) (MaySummary c₂ m₂ a b) summedOf
@@ -173,3 +186,19 @@ Additive run c m = (part : ℕ → ℕ → ℕ) → ((x y : ℕ) → x < y → y
 
 abbrev pub DensitiesAdd : Type 0
 DensitiesAdd = (run : List ℕ) (mark : Option ℕ) (c : Capture) (m : Memory) → Held run mark c m → Additive run c m
+
+-- ---- 02, CR 6: encoders
+-- the call may answer t for lines a and b
+abbrev pub SaysTurns : Capture → Memory → ℕ → ℕ → Turns → Type 0
+SaysTurns c m a b t = (v : Encoded) × MayEncoder c m a b v × (encodedOf v ≡ given t)
+
+-- what it answers of a run, and of two runs of which one is the other in reverse
+abbrev pub EncodersReplay : Type 0
+EncodersReplay = (run : List ℕ) (mark : Option ℕ) (c : Capture) (m : Memory) → Held run mark c m → Replayed run (SaysTurns c m)
+
+abbrev pub EncodersReverse : Type 0
+EncodersReverse =
+    (run₁ : List ℕ) (mark₁ : Option ℕ) (c₁ : Capture) (m₁ : Memory) (run₂ : List ℕ) (mark₂ : Option ℕ) (c₂ : Capture) (m₂ : Memory)
+    → Held run₁ mark₁ c₁ m₁
+    → Held run₂ mark₂ c₂ m₂
+    → Reversed run₁ (SaysTurns c₁ m₁) run₂ (SaysTurns c₂ m₂)

@@ -5,6 +5,7 @@ use mathlib.Core.List.{List, [], _∷_, _++_, map-append}
 use mathlib.Core.Logic.{_↔_}
 use mathlib.Core.Option.{Option, none, some}
 use Prim.Native.Nat.{ℕ, zero, suc, _+_, _*_, _<_}
+use native.Mathlib.Nat.{zero-lt-suc}
 use lib.Bits.{bitAnd}
 use lib.Dec.{eqb}
 use lib.ListN.{length, drop, getD}
@@ -12,17 +13,20 @@ use Rattle.rules.specs.Node.{Node, Lines}
 use Rattle.rules.specs.Search.{summary, cutSummary}
 use Rattle.rules.specs.Walk.{Walked, Counted}
 use Rattle.rules.specs.Burst.{Burst}
-use Rattle.rules.specs.Refusal.{firstOf, viewRows}
-use Rattle.rules.specs.Answer.{given, unless}
+use Rattle.rules.specs.Refusal.{firstOf, viewRows, topLine}
+use Rattle.rules.specs.Answer.{Answer, given, unless}
 use Rattle.rules.specs.Pixel.{render, cutPixels}
+use Rattle.rules.specs.Encoder.{Turns, pairWrong, pairRow}
+use Rattle.rules.proofs.Refusal.{row-passed}
 use Rattle.claim_alike.specs.Alike.{Alike}
 use Rattle.claim_alike.proofs.Alike.{same-alike, alike-same}
 use Rattle.codes.specs.Record.{captureIn}
 use Rattle.claim_captures.specs.Words.{Memory, at, Same}
 use Rattle.claim_captures.specs.Claim.{Held}
+use Rattle.claim_captures.proofs.Answers.{unless-same}
 use Rattle.claim_captures.proofs.Alike.{agreed, same-seen, places}
 use Rattle.claim_captures.proofs.Additive.{add-up}
-use Rattle.claim_exports.specs.Questions.{Got, got, summed, CutSummed, cutSummed, found, bursted, Drawn, drawn, viewOf, Answers, cutNode, cutDrawn, LookAlike, Additive}
+use Rattle.claim_exports.specs.Questions.{Got, got, summed, CutSummed, cutSummed, found, bursted, turned, Drawn, drawn, viewOf, Answers, cutNode, cutDrawn, LookAlike, Additive}
 use Rattle.claim_exports.proofs.Answers.{mark-held, exports-answer}
 
 -- cut down, what is told of a summary is what is told of the summary cut down
@@ -91,6 +95,10 @@ module _ {run₁ : List ℕ} {mark₁ : Option ℕ} (n₁ : List ℕ) (m₁ : Me
     bursts = λ mask sample gap tolerance budget _ w _ _ _ _ ends size read.
         agreed (λ x. x) (a₁ .burst-is mask sample gap tolerance budget ends size read) (a₂ .burst-is mask sample gap tolerance budget ends size read)
         (ap (λ (s : Counted Burst). bursted (s .found) (s .steps) ends) (rules .bursts mask w sample gap tolerance budget));
+    encoders = λ a b _ _ w position counts size.
+        agreed (λ x. x) (a₁ .encoder-is a b position counts size) (a₂ .encoder-is a b position counts size)
+        (ap (λ (x : Answer Turns). turned x position counts)
+        (unless-same (firstOf (pairRow topLine a b ∷ [])) _ _ (λ z. rules .encoders a b (w (row-passed 14 0 (pairWrong topLine a b) (zero-lt-suc 13) .0 z .0)))));
     densities = λ e a b _ _ count. agreed (λ x. x) (a₁ .density-is a b count) (a₂ .density-is a b count) (ap (λ (n : ℕ). got (given n) count) (rules .densities e a b));
     counts = λ e a b _ _ node size count. agreed (λ x. x) (a₁ .summary-is a b node size count) (a₂ .summary-is a b node size count) (ap (λ (o : Option Node). summed o node count) (rules .counts e a b));
   }

@@ -7,6 +7,7 @@ use Prim.Native.Nat.{ℕ, zero, suc, _+_, _*_}
 use native.Mathlib.Nat.{suc-ne-zero}
 use lib.Dec.{eqb}
 use lib.Ieee.{Float}
+use lib.IntN.{ℤ, pos}
 use lib.ListN.{length, drop}
 use contract.Lifetimes.{Lfts}
 use denote.Ref.{RefT, at-last}
@@ -16,11 +17,13 @@ use Rattle.rules.specs.Search.{summary, density}
 use Rattle.rules.specs.Walk.{Walked, Counted, nextSearch, previousSearch}
 use Rattle.rules.specs.Burst.{Burst, burstSearch}
 use Rattle.rules.specs.Pixel.{pixelRange, render}
-use Rattle.rules.specs.Refusal.{firstOf, getRow, copied, copyRow, samplesRefusal, viewRows, renderRefusal}
+use Rattle.rules.specs.Refusal.{firstOf, getRow, copied, copyRow, samplesRefusal, viewRows, renderRefusal, topLine}
 use Rattle.rules.specs.Answer.{Answer, refused, given, unless, unrefused}
 use Rattle.rules.proofs.Sample.{list-length, list-same}
 use Rattle.rules.proofs.SampleBytes.{list-whole}
 use Rattle.rules.proofs.Refusal.{rows-left}
+use Rattle.rules.specs.Encoder.{Turns, encoder, pairRow}
+use Rattle.codes.specs.Turned.{stepNumbers, TurnsOut}
 use Rattle.claim_alike.proofs.Below.{render-below}
 use Rattle.capture.specs.declared.Capture.{Capture}
 use Rattle.capture.specs.declared.Mark.the-variants.{Absent, At}
@@ -41,7 +44,7 @@ use Rattle.claim_captures.specs.Words.{Memory, levels, Ref, Places, at, Answere
 use Rattle.claim_captures.specs.Claim.{Held}
 use Rattle.claim_captures.specs.Claim as calls
 use Rattle.claim_captures.proofs.Answers.{answers, agree, right, asked-run, copied-inside, drawn-for, anywhere, somewhere}
-use Rattle.claim_exports.specs.Questions.{One, markIn, MayGet, MaySamples, MaySummary, MayDensity, MayNext, MayPrevious, MayBurst, MayRender, found, bursted, drawn, viewOf, Answers}
+use Rattle.claim_exports.specs.Questions.{One, Signed, markIn, MayGet, MaySamples, MaySummary, MayDensity, MayNext, MayPrevious, MayBurst, MayEncoder, MayRender, found, bursted, drawn, viewOf, Answers}
 use Rattle.claim_exports.specs.Questions as told
 
 -- what a question of the calls answers is what its contract asks for
@@ -65,6 +68,19 @@ three n old size = ap (linesNumbers n) (list-whole 3 old size)
 four : (b : Burst) (old : List ℕ) → length old ≡ 4 → burstNumbers b old ≡ b .first ∷ b .last ∷ b .jumps-end ∷ b .jumps-start ∷ []
 unfolding listFrom
 four b old size = ap (burstNumbers b) (list-whole 4 old size)
+
+pub steps-all : (t : Turns) (old : List ℕ) → length old ≡ 3 → stepNumbers t old ≡ t .forward ∷ t .backward ∷ t .skipped ∷ []
+unfolding listFrom
+steps-all t old size = ap (stepNumbers t) (list-whole 3 old size)
+
+module _ (position : ℤ) (counts : List ℕ) (size : length counts ≡ 3) where
+  pub turned-only : (x : Answer Turns) (v : told.Turned) → TurnsOut x (v .code) position (v .position) counts (v .counts) → v ≡ told.turned x position counts
+  turned-only (refused n) v out = λ i. record { code = out .position-is .code-is i; position = out .position-is .value-is i; counts = out .counts-are .value-is i }
+  turned-only (given t) v out = λ i. record { code = out .position-is .code-is i; position = out .position-is .value-is i; counts = (out .counts-are .value-is ∙ steps-all t counts size) i }
+
+  pub turned-out : (x : Answer Turns) → TurnsOut x (told.turned x position counts .code) position (told.turned x position counts .position) counts (told.turned x position counts .counts)
+  turned-out (refused n) = record { position-is = record { code-is = refl; value-is = refl }; counts-are = record { code-is = refl; value-is = refl } }
+  turned-out (given t) = record { position-is = record { code-is = refl; value-is = refl }; counts-are = record { code-is = refl; value-is = sym (steps-all t counts size) } }
 
 pub got-only : (x : Answer ℕ) (old : ℕ) (v : told.Got) → Out number (plain x) (v .code) old (v .value) → v ≡ told.got x old
 got-only (refused n) old v out = λ i. record { code = out .code-is i; value = out .value-is i }
@@ -113,6 +129,10 @@ module _ (steps : ℕ) (old : List ℕ) (size : length old ≡ 4) (old-read : �
 -- some reference to a number
 pub nowhere : One
 nowhere = record { ptr = (0, 0); name = 0; now = 0 }
+
+-- and to a signed one
+pub afar : Signed
+afar = record { ptr = (0, 0); name = 0; now = pos 0 }
 
 module _ {run : List ℕ} {mark : Option ℕ} (numbers : List ℕ) (m : Memory) (h : Held run mark (captureIn numbers) m) where
   abbrev c : Capture
@@ -180,6 +200,24 @@ module _ {run : List ℕ} {mark : Option ℕ} (numbers : List ℕ) (m : Memory) 
         is = λ v may. got-only x count v (subst (λ (y : Answer ℕ). Out number (plain y) (v .code) count (v .value)) e (may .4));
         answer = told.got x count;
         allowed = (([], ([], ([], ([], tt)))), anywhere, somewhere, nowhere, subst⁻¹ (λ (y : Answer ℕ). Out number (plain y) (told.got x count .code) count (told.got x count .value)) e (got-out x count));
+      }
+
+  encoder-is : (a b : ℕ) (position : ℤ) (counts : List ℕ) → length counts ≡ 3
+      → Answered (MayEncoder numbers m a b position counts) (λ v. v) (told.turned (unless (firstOf (pairRow topLine a b ∷ [])) (encoder (at run) (length run) a b)) position counts)
+  encoder-is a b position counts size =
+      let e = asked-is (below .encoder-is a b) in
+      let x = unless (firstOf (pairRow topLine a b ∷ [])) (encoder (at run) (length run) a b) in
+      record {
+        is = λ v may. turned-only position counts size x v (subst (λ (y : Answer Turns). TurnsOut y (v .code) position (v .position) counts (v .counts)) e (may .5));
+        answer = told.turned x position counts;
+        allowed = (
+          ([], ([], ([], ([], ([], tt))))),
+          anywhere,
+          somewhere,
+          afar,
+          anywhere,
+          subst⁻¹ (λ (y : Answer Turns). TurnsOut y (told.turned x position counts .code) position (told.turned x position counts .position) counts (told.turned x position counts .counts)) e (turned-out position counts size x),
+        );
       }
 
   next-is : (mask from place read : ℕ)
@@ -283,4 +321,4 @@ module _ {run : List ℕ} {mark : Option ℕ} (numbers : List ℕ) (m : Memory) 
     }
 
   pub exports-answer : Answers run numbers m
-  exports-answer = record { get-is = get-is; samples-are = samples-are; summary-is = summary-is; density-is = density-is; next-is = next-is; previous-is = previous-is; burst-is = burst-is; render-is = render-is }
+  exports-answer = record { get-is = get-is; samples-are = samples-are; summary-is = summary-is; density-is = density-is; next-is = next-is; previous-is = previous-is; burst-is = burst-is; encoder-is = encoder-is; render-is = render-is }

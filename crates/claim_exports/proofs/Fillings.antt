@@ -24,11 +24,13 @@ use Rattle.claim_appends.specs.Claim as calls
 use Rattle.claim_appends.specs.Claim.Appending.{stop as called-stop, step as called-step}
 use Rattle.claim_appends.proofs.Stored.{appends-stored}
 use Rattle.claim_appends.proofs.Existence.{appended-for}
-use Rattle.claim_exports.specs.Questions.{markIn}
-use Rattle.claim_exports.specs.Filled.{MayStore, MayAppend, Appending, Filling, stored, Stores, Filled, DensitiesAdd}
+use Rattle.claim_captures.proofs.Turns.{replayed, reversed}
+use Rattle.claim_exports.specs.Questions.{markIn, SaysTurns}
+use Rattle.claim_exports.specs.Filled.{MayStore, MayAppend, Appending, Filling, stored, Stores, Filled, DensitiesAdd, EncodersReplay, EncodersReverse}
 use Rattle.claim_exports.specs.Filled.Appending.{stop, step}
 use Rattle.claim_exports.proofs.Answers.{mark-held, exports-answer}
 use Rattle.claim_exports.proofs.Alike.{exports-alike, additive}
+use Rattle.claim_exports.proofs.Turns.{exports-replay}
 
 -- ---- start
 -- code 0: no row refuses, and the numbers are the new store's
@@ -136,3 +138,10 @@ filled one two v = (
 
 pub densities-add : DensitiesAdd
 densities-add a = additive (a .numbers) (a .memory) (filling-held a)
+
+pub encoders-replay : EncodersReplay
+encoders-replay a = replayed (stored a) (SaysTurns (a .numbers) (a .memory)) (exports-replay (a .numbers) (a .memory) (filling-held a))
+
+pub encoders-reverse : EncodersReverse
+encoders-reverse one two =
+    reversed (stored one) (SaysTurns (one .numbers) (one .memory)) (stored two) (SaysTurns (two .numbers) (two .memory)) (exports-replay (one .numbers) (one .memory) (filling-held one)) (exports-replay (two .numbers) (two .memory) (filling-held two))

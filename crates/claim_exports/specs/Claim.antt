@@ -23,7 +23,8 @@ use Rattle.logic_core.proofs.recorder.lc_feeder_start.Reads as lc-feeder-start
 use Rattle.logic_core.proofs.recorder.lc_push.Reads as lc-push
 use Rattle.claim_captures.specs.Words.{levels, Ref, Places, lending, Same, AreBytes}
 use Rattle.claim_captures.specs.Words as words
-use Rattle.claim_exports.specs.Questions.{One, markIn, Answers, LookAlike, Additive}
+use Rattle.claim_captures.specs.Turns.{Replayed, Reversed}
+use Rattle.claim_exports.specs.Questions.{One, markIn, Answers, LookAlike, Additive, SaysTurns}
 
 -- ---- recordings
 -- "the memory lent to it, whatever that holds": a store's, and the ring
@@ -141,3 +142,10 @@ Demand3 =
 -- 02, CR 5: what lc_density gives after a recording adds up
 abbrev pub DensitiesAdd : Type 0
 DensitiesAdd = (r : Recording) → Additive (run r) (asked r) (r .memory .store)
+
+-- 02, CR 6: what lc_encoder gives after a recording, whatever pushes it came in; and after two of which one's run is the other's in reverse
+abbrev pub EncodersReplay : Type 0
+EncodersReplay = (r : Recording) → Replayed (run r) (SaysTurns (asked r) (r .memory .store))
+
+abbrev pub EncodersReverse : Type 0
+EncodersReverse = (one two : Recording) → Reversed (run one) (SaysTurns (asked one) (one .memory .store)) (run two) (SaysTurns (asked two) (two .memory .store))

@@ -16,7 +16,8 @@ use Rattle.logic_core.proofs.lc_start.Reads as lc-start
 use Rattle.logic_core.proofs.lc_append.Reads as lc-append
 use Rattle.claim_captures.specs.Words.{Memory, levels, Ref, Places, lending, Same, AreBytes}
 use Rattle.claim_appends.specs.Claim.{storedFrom, numbersFrom}
-use Rattle.claim_exports.specs.Questions.{markIn, Answers, LookAlike, Additive}
+use Rattle.claim_captures.specs.Turns.{Replayed, Reversed}
+use Rattle.claim_exports.specs.Questions.{markIn, Answers, LookAlike, Additive, SaysTurns}
 
 -- lc_start may give a code and leave these numbers
 abbrev pub MayStore : ℕ → ℕ → Memory → List ℕ → ℕ → List ℕ → Type 0
@@ -92,3 +93,10 @@ Filled =
 -- 02, CR 5: what lc_density gives of them adds up
 abbrev pub DensitiesAdd : Type 0
 DensitiesAdd = (a : Filling) → Additive (stored a) (a .numbers) (a .memory)
+
+-- 02, CR 6: what lc_encoder gives of them, and of two of which one's samples are the other's in reverse
+abbrev pub EncodersReplay : Type 0
+EncodersReplay = (a : Filling) → Replayed (stored a) (SaysTurns (a .numbers) (a .memory))
+
+abbrev pub EncodersReverse : Type 0
+EncodersReverse = (one two : Filling) → Reversed (stored one) (SaysTurns (one .numbers) (one .memory)) (stored two) (SaysTurns (two .numbers) (two .memory))

@@ -2,12 +2,13 @@
 -- when two captures look alike to a viewer of chosen lines. A capture is its record's five numbers and its memory.
 -- `Post` of an export's generated `Reads` is what its `ensures` says of the arguments, the code, and what stands behind its pointers afterwards.
 use mathlib.Core.Path.{_≡_}
-use mathlib.Core.Bool.{cond}
+use mathlib.Core.Bool.{false, cond}
 use mathlib.Core.List.{List, [], _∷_, _++_}
 use mathlib.Core.Option.{Option, none, some}
 use Prim.Native.Nat.{ℕ, _*_, _≤_, _<_}
 use lib.Dec.{eqb}
 use lib.Ieee.{Float}
+use lib.IntN.{ℤ}
 use lib.ListN.{length, drop}
 use contract.Lifetimes.{Lfts}
 use denote.Ref.{RefT, at-last}
@@ -17,7 +18,8 @@ use Rattle.rules.specs.Search.{summary, density}
 use Rattle.rules.specs.Walk.{Walked, Counted, nextSearch, previousSearch}
 use Rattle.rules.specs.Burst.{Burst, burstSearch}
 use Rattle.rules.specs.Pixel.{View, render, cutPixels}
-use Rattle.rules.specs.Refusal.{firstOf, getRow, copied, copyRow, viewRows}
+use Rattle.rules.specs.Encoder.{Turns, encoder, pairMask, pairWrong, pairRow}
+use Rattle.rules.specs.Refusal.{firstOf, getRow, copied, copyRow, viewRows, topLine}
 use Rattle.rules.specs.Answer.{Answer, refused, given, unless}
 use Rattle.capture.specs.Numbers.{lenIn, markedIn, markPlaceIn}
 use Rattle.logic_core.proofs.lc_get.Reads as lc-get
@@ -27,7 +29,9 @@ use Rattle.logic_core.proofs.lc_density.Reads as lc-density
 use Rattle.logic_core.proofs.lc_next_change.Reads as lc-next-change
 use Rattle.logic_core.proofs.lc_prev_change.Reads as lc-prev-change
 use Rattle.logic_core.proofs.lc_burst_at.Reads as lc-burst-at
+use Rattle.logic_core.proofs.lc_encoder.Reads as lc-encoder
 use Rattle.logic_core.proofs.lc_render.Reads as lc-render
+use Rattle.codes.specs.Turned.{turnsIn}
 use Rattle.claim_captures.specs.Words.{Memory, Ref, Places, lending, at, AddUp, Answered, Agree, Usize, F64}
 
 -- ---- the record's numbers: which is which, capture.specs.Numbers says
@@ -37,6 +41,10 @@ markIn numbers = cond (eqb (markedIn numbers) 0) none (some (markPlaceIn numbers
 -- a number behind a pointer
 abbrev pub One : Type 0
 One = RefT ℕ
+
+-- and a signed one
+abbrev pub Signed : Type 0
+Signed = RefT ℤ
 
 -- ---- lc_get: the code, and the number behind `value`
 pub record Got : Type 0 where
@@ -138,6 +146,22 @@ abbrev pub bursted : Option Burst → ℕ → List ℕ → Bursted
 bursted none steps old = record { code = 100; ends = old; read = steps }
 bursted (some b) steps old = record { code = 0; ends = b .first ∷ b .last ∷ b .jumps-end ∷ b .jumps-start ∷ []; read = steps }
 
+-- ---- lc_encoder: the code, the number behind `position`, and the three behind `counts`
+pub record Turned : Type 0 where
+  pub code : ℕ
+  pub position : ℤ
+  pub counts : List ℕ
+
+abbrev pub MayEncoder : List ℕ → Memory → ℕ → ℕ → ℤ → List ℕ → Turned → Type 0
+MayEncoder numbers m a b position counts v =
+    (κs : Lfts 5) × (n : Ref) × (p : Places) × (o : Signed) × (k : Ref)
+    × lc-encoder.Post κs (lending (at-last n numbers) p m (a, (b, (at-last o position, (at-last k counts, tt))))) (v .code) (lending (at-last n numbers) p m (a, (b, (at-last o (v .position), (at-last k (v .counts), tt)))))
+
+-- 0 with the position, and forward, backward and skipped; a refusal's number, and what stood there
+abbrev pub turned : Answer Turns → ℤ → List ℕ → Turned
+turned (refused n) position counts = record { code = n; position = position; counts = counts }
+turned (given t) position counts = record { code = 0; position = t .position; counts = t .forward ∷ t .backward ∷ t .skipped ∷ [] }
+
 -- ---- lc_render: the code, and output
 pub record Drawn : Type 0 where
   pub code : ℕ
@@ -172,6 +196,9 @@ pub record Answers (run : List ℕ) (numbers : List ℕ) (m : Memory) : Type 0 w
   pub burst-is : (mask sample gap tolerance budget : ℕ) (ends : List ℕ) → length ends ≡ 4 → (read : ℕ)
       → Answered (MayBurst numbers m mask sample gap tolerance budget ends read) (λ v. v)
       (bursted (burstSearch (at run) (length run) mask sample gap tolerance budget .found) (burstSearch (at run) (length run) mask sample gap tolerance budget .steps) ends)
+  -- 02, CR 6; 14 refuses it
+  pub encoder-is : (a b : ℕ) (position : ℤ) (counts : List ℕ) → length counts ≡ 3
+      → Answered (MayEncoder numbers m a b position counts) (λ v. v) (turned (unless (firstOf (pairRow topLine a b ∷ [])) (encoder (at run) (length run) a b)) position counts)
   pub render-is : (start spp : Float) (width : ℕ) (output : List ℕ)
       → Answered (MayRender numbers m start spp width output) (λ v. v)
       (drawn (unless (firstOf (viewRows (viewOf start spp) width (length output))) (render (at run) (length run) (viewOf start spp) width)) width output)
@@ -200,6 +227,9 @@ pub record LookAlike (v : ℕ) (n₁ : List ℕ) (m₁ : Memory) (n₂ : List �
   pub bursts : (mask sample gap tolerance budget : ℕ) → Word mask → Within mask v → Usize sample → Usize gap → Usize tolerance → Usize budget
       → (ends : List ℕ) → length ends ≡ 4 → (read : ℕ)
       → Agree (MayBurst n₁ m₁ mask sample gap tolerance budget ends read) (MayBurst n₂ m₂ mask sample gap tolerance budget ends read) (λ x. x)
+  -- 02, CR 6: an encoder on two of those lines; what 14 refuses is refused by both
+  pub encoders : (a b : ℕ) → Usize a → Usize b → (pairWrong topLine a b ≡ false → Within (pairMask a b) v) → (position : ℤ) (counts : List ℕ) → length counts ≡ 3
+      → Agree (MayEncoder n₁ m₁ a b position counts) (MayEncoder n₂ m₂ a b position counts) (λ x. x)
   -- 02, CR 5: "Since it tells of every line, .. alikeness covers it only for a viewer who chose all lines": densities, and summaries with their counts
   pub densities : v ≡ allLines → (a b : ℕ) → Usize a → Usize b → (count : ℕ) → Agree (MayDensity n₁ m₁ a b count) (MayDensity n₂ m₂ a b count) (λ x. x)
   pub counts : v ≡ allLines → (a b : ℕ) → Usize a → Usize b → (node : List ℕ) → length node ≡ 3 → (count : ℕ) → Agree (MaySummary n₁ m₁ a b node count) (MaySummary n₂ m₂ a b node count) (λ x. x)
@@ -209,3 +239,17 @@ pub record LookAlike (v : ℕ) (n₁ : List ℕ) (m₁ : Memory) (n₂ : List �
 abbrev pub Additive : List ℕ → List ℕ → Memory → Type 0
 Additive run numbers m =
     (part : ℕ → ℕ → ℕ) (count : ℕ) → ((x y : ℕ) → x < y → y ≤ length run → MayDensity numbers m x y count (record { code = 0; value = part x y })) → AddUp run part
+
+-- ---- 02, CR 6: encoders
+-- an export that may answer so gives code 0, and what stands behind its pointers then reads back as t
+pub record ReadsAs (may : ℤ → List ℕ → Turned → Type 0) (t : Turns) : Type 0 where
+  pub position : ℤ
+  pub counts : List ℕ
+  pub size : length counts ≡ 3
+  pub answer : Turned
+  pub allowed : may position counts answer
+  pub yes : answer .code ≡ 0
+  pub reads : turnsIn (answer .position) (answer .counts) ≡ t
+
+abbrev pub SaysTurns : List ℕ → Memory → ℕ → ℕ → Turns → Type 0
+SaysTurns numbers m a b t = ReadsAs (MayEncoder numbers m a b) t

@@ -1,6 +1,6 @@
 -- Two captures that hold a run each tell a mill the same where the runs are the same in length, mark and granted lines; so do two recordings.
 use mathlib.Core.Path.{_≡_, refl, sym, ap, ap₂, _∙_}
-use mathlib.Core.Bool.{Bool, true, false, not}
+use mathlib.Core.Bool.{Bool, true, false, cond, not}
 use mathlib.Core.List.{List, []}
 use mathlib.Core.Option.{Option}
 use Prim.Native.Nat.{ℕ, _+_}
@@ -16,8 +16,9 @@ use Rattle.rules.specs.Search.{summary, cutSummary}
 use Rattle.rules.specs.Walk.{through, nextSearch, previousSearch}
 use Rattle.rules.specs.Burst.{burstSearch}
 use Rattle.rules.specs.Pixel.{rowBy, rangeFrom, cutPixels}
-use Rattle.rules.specs.Refusal.{Row, firstOf, viewRows, copied}
-use Rattle.rules.specs.Mill.{originOf, placeAt, beyond, shownPlace, shownBurst, millGetRows, millSamplesRows, millSummaryRows, millSearchRows}
+use Rattle.rules.specs.Encoder.{encoder, pairMask, pairWrong}
+use Rattle.rules.specs.Refusal.{Row, firstOf, viewRows, copied, topLine}
+use Rattle.rules.specs.Mill.{originOf, placeAt, beyond, shownPlace, shownBurst, millGetRows, millSamplesRows, millSummaryRows, millSearchRows, millEncoderRows}
 use Rattle.rules.specs.Answer.{unless}
 use Rattle.rules.proofs.Sample.{list-same}
 use Rattle.rules.proofs.Refusal.{row-passed}
@@ -41,8 +42,15 @@ not-false : (b : Bool) → not b ≡ false → b ≡ true
 not-false true e = refl
 not-false false e = sym e
 
+granted : (grant mask rest : ℕ) → cond (beyond grant mask) 12 rest ≡ 0 → Within mask grant
+granted grant mask rest z = eqb-true (bitAnd mask grant) mask (not-false (eqb (bitAnd mask grant) mask) (row-passed 12 rest (beyond grant mask) (zero-lt-suc 11) .0 z .0))
+
 within : (grant mask : ℕ) (x : Option ℕ) (p : ℤ) → firstOf (millSearchRows grant mask x p) ≡ 0 → Within mask grant
-within grant mask x p z = eqb-true (bitAnd mask grant) mask (not-false (eqb (bitAnd mask grant) mask) (row-passed 12 _ (beyond grant mask) (zero-lt-suc 11) .0 z .0))
+within grant mask x p z = granted grant mask _ z
+
+-- behind 14
+pair-within : (grant a b : ℕ) → firstOf (millEncoderRows grant a b) ≡ 0 → Within (pairMask a b) grant
+pair-within grant a b z = granted grant (pairMask a b) 0 (row-passed 14 _ (pairWrong topLine a b) (zero-lt-suc 13) .0 z .1)
 
 module _ (grant : ℕ) {run₁ : List ℕ} {mark₁ : Option ℕ} (c₁ : Capture) (m₁ : Memory) {run₂ : List ℕ} {mark₂ : Option ℕ} (c₂ : Capture) (m₂ : Memory)
     (one : Held run₁ mark₁ c₁ m₁) (two : Held run₂ mark₂ c₂ m₂) (same : Same grant run₁ mark₁ run₂ mark₂) where
@@ -92,6 +100,9 @@ module _ (grant : ℕ) {run₁ : List ℕ} {mark₁ : Option ℕ} (c₁ : Captur
         agreed (λ x. x) (a₁ .burst-is mask p gap tolerance budget) (a₂ .burst-is mask p gap tolerance budget)
         (both (λ x n. millSearchRows grant mask x p) (λ f x n. through (shownBurst (originOf x)) (burstSearch f n mask (placeAt (originOf x) p) gap tolerance budget))
         (λ z. ap (through (shownBurst (originOf mark₁))) (rules .bursts mask (within grant mask mark₁ p z) (spot p) gap tolerance budget)));
+    encoders = λ a b.
+        agreed (λ x. x) (a₁ .encoder-is a b) (a₂ .encoder-is a b)
+        (both (λ x n. millEncoderRows grant a b) (λ f x n. encoder f n a b) (λ z. rules .encoders a b (pair-within grant a b z)));
     pixels = λ view width output₁ output₂ e.
         agreed (λ x. x) (a₁ .render-is view width output₁) (a₂ .render-is view width output₂)
         (both (λ x n. viewRows (viewAs view) width (length output₁)) (λ f x n. cutPixels grant (rowBy (nodeOf f) (rangeFrom (originOf x) (viewAs view) n) 0 width))

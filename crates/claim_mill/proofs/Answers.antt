@@ -21,12 +21,13 @@ use Rattle.rules.specs.Walk.{Counted, through, nextSearch, previousSearch}
 use Rattle.rules.specs.Burst.{burstSearch}
 use Rattle.rules.specs.Pixel.{rowBy, rangeFrom, cutPixels}
 use Rattle.rules.specs.Refusal.{Row, Lent, firstOf, storeRows, viewRows, renderRefusal, copied}
-use Rattle.rules.specs.Mill.{MillBurst, originOf, placeAt, beforeFirst, shownPlace, shownBurst, millGetRows, millSamplesRows, millSummaryRows, millSearchRows, millSamplesRefusal}
+use Rattle.rules.specs.Mill.{MillBurst, originOf, placeAt, beforeFirst, shownPlace, shownBurst, millGetRows, millSamplesRows, millSummaryRows, millSearchRows, millEncoderRows, millSamplesRefusal}
+use Rattle.rules.specs.Encoder.{encoder}
 use Rattle.rules.specs.Answer.{Answer, refused, given, unless, unrefused}
 use Rattle.rules.proofs.Sample.{list-length, list-same}
 use Rattle.rules.proofs.Refusal.{row-passed, rows-left}
 use Rattle.rules.proofs.Row.{row-length, from-stored}
-use Rattle.claim_alike.proofs.Below.{summary-below, next-below, previous-below, burst-below, row-below}
+use Rattle.claim_alike.proofs.Below.{summary-below, encoder-below, next-below, previous-below, burst-below, row-below}
 use Rattle.capture.specs.declared.Capture.{Capture}
 use Rattle.capture.specs.declared.Got.{Got}
 use Rattle.capture.specs.declared.Got.the-variants as got
@@ -49,12 +50,14 @@ use Rattle.mill_search.specs.declared.Bursts.{Bursts}
 use Rattle.mill_search.specs.declared.Bursts.the-variants as bursts
 use Rattle.mill_search.specs.Answer.{foundOf, burstAs}
 use Rattle.mill_search.proofs.Answers.{next-right, previous-right, burst-right}
+use Rattle.encoder.specs.Answer.{encodedOf}
+use Rattle.mill_encoder.proofs.Answers.{encoder-right}
 use Rattle.mill_render.specs.Render.{millDrawn}
 use Rattle.mill_render.proofs.Answers.{render-row}
 use Rattle.claim_captures.specs.Words.{Memory, levels, Ref, at, Answered}
 use Rattle.claim_captures.specs.Claim.{samplesIn, pixelsIn, Held}
-use Rattle.claim_captures.proofs.Answers.{got-for, copied-for, counted-for, drawn-for, seen-as, copy-seen, copied-list, copied-inside, anywhere, somewhere, allowing, agree, right, asked-run}
-use Rattle.claim_mill.specs.Claim.{MayExtent, MayGet, MaySamples, MaySummary, MayNext, MayPrevious, MayBurst, MayRender, place, MillAnswers}
+use Rattle.claim_captures.proofs.Answers.{got-for, copied-for, encoded-for, counted-for, drawn-for, seen-as, copy-seen, copied-list, copied-inside, anywhere, somewhere, allowing, agree, right, asked-run}
+use Rattle.claim_mill.specs.Claim.{MayExtent, MayGet, MaySamples, MaySummary, MayNext, MayPrevious, MayBurst, MayEncoder, MayRender, place, MillAnswers}
 
 -- ---- an answer for each value
 bounded-for : (x : Answer Extent) → (v : Bounded) × (boundedOf v ≡ x)
@@ -148,6 +151,12 @@ module _ {run : List ℕ} {mark : Option ℕ} (c : Capture) (m : Memory) (h : He
         ∙ asked-run c m h (λ x n. millSearchRows grant mask x p) (λ f x n. through (shownBurst (originOf x)) (burstSearch f n mask (placeAt (originOf x) p) gap tolerance budget))
         (λ z. ap (through (shownBurst (originOf k))) (burst-below t (at run) (c .len) (agree c m h) mask (placeAt (originOf k) p) gap tolerance budget)))
 
+    encoder-is : (a b : ℕ) → Answered (MayEncoder c m grant a b) encodedOf (unless (firstOf (millEncoderRows grant a b)) (encoder (at run) (length run) a b))
+    encoder-is a b =
+        allowing encodedOf encoded-for
+        (λ v e. encoder-right ([], ([], tt)) c ms m1 m2 m3 m4 grant a b v e (right c m h)
+        ∙ asked-run c m h (λ x n. millEncoderRows grant a b) (λ f x n. encoder f n a b) (λ z. encoder-below t (at run) (c .len) (agree c m h) a b))
+
     -- ---- samples
     module _ (p : ℤ) (n : ℕ) (output : List ℕ) where
       abbrev copies-number : ℕ
@@ -209,5 +218,6 @@ module _ {run : List ℕ} {mark : Option ℕ} (c : Capture) (m : Memory) (h : He
       next-is = next-is;
       previous-is = previous-is;
       burst-is = burst-is;
+      encoder-is = encoder-is;
       render-is = render-is;
     }

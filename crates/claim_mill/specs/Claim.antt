@@ -17,7 +17,8 @@ use Rattle.rules.specs.Walk.{through, nextSearch, previousSearch}
 use Rattle.rules.specs.Burst.{burstSearch}
 use Rattle.rules.specs.Pixel.{rowBy, rangeFrom, cutPixels}
 use Rattle.rules.specs.Refusal.{firstOf, viewRows, copied}
-use Rattle.rules.specs.Mill.{originOf, placeAt, shownPlace, shownBurst, millGetRows, millSamplesRows, millSummaryRows, millSearchRows}
+use Rattle.rules.specs.Encoder.{Turns, encoder}
+use Rattle.rules.specs.Mill.{originOf, placeAt, shownPlace, shownBurst, millGetRows, millSamplesRows, millSummaryRows, millSearchRows, millEncoderRows}
 use Rattle.rules.specs.Answer.{given, unless}
 use Rattle.capture.specs.declared.Capture.{Capture}
 use Rattle.capture.specs.declared.Got.{Got}
@@ -37,8 +38,12 @@ use Rattle.mill_search.specs.Answer.{foundOf, burstAs}
 use Rattle.mill_search.proofs.next_change.Reads as next-change
 use Rattle.mill_search.proofs.prev_change.Reads as prev-change
 use Rattle.mill_search.proofs.burst_at.Reads as burst-at
+use Rattle.encoder.specs.declared.Encoded.{Encoded}
+use Rattle.encoder.specs.Answer.{encodedOf}
+use Rattle.mill_encoder.proofs.encoder.Reads as encoder-call
 use Rattle.mill_render.proofs.render.Reads as render-call
 use Rattle.claim_captures.specs.Words.{Memory, Ref, Places, lending, at, Same, Answered, Agree}
+use Rattle.claim_captures.specs.Turns.{Replayed, Reversed}
 use Rattle.claim_captures.specs.Claim.{Copying, samplesIn, Drawing, pixelsIn, Held}
 use Rattle.claim_recording.specs.Claim.{Recording, store, run, mark}
 
@@ -62,6 +67,9 @@ abbrev pub MayBurst : Capture → Memory → ℕ → ℕ → ℤ → ℕ → ℕ
 MayBurst c m grant mask sample gap tolerance budget v =
     (κs : Lfts 2) × (p : Places)
     × burst-at.Post κs (lending c p m (grant, (mask, (sample, (gap, (tolerance, (budget, tt))))))) v (lending c p m (grant, (mask, (sample, (gap, (tolerance, (budget, tt)))))))
+
+abbrev pub MayEncoder : Capture → Memory → ℕ → ℕ → ℕ → Encoded → Type 0
+MayEncoder c m grant a b v = (κs : Lfts 2) × (p : Places) × encoder-call.Post κs (lending c p m (grant, (a, (b, tt)))) v (lending c p m (grant, (a, (b, tt))))
 
 abbrev pub MaySamples : Capture → Memory → ℕ → ℤ → ℕ → List ℕ → Copying → Type 0
 MaySamples c m grant start count output v =
@@ -91,6 +99,8 @@ pub record MillAnswers (grant : ℕ) (run : List ℕ) (mark : Option ℕ) (c : C
   pub burst-is : (mask : ℕ) (p : ℤ) (gap tolerance budget : ℕ)
       → Answered (MayBurst c m grant mask p gap tolerance budget) burstAs
       (unless (firstOf (millSearchRows grant mask mark p)) (through (shownBurst (originOf mark)) (burstSearch (at run) (length run) mask (place mark p) gap tolerance budget)))
+  -- 02, CR 6: on two granted lines; 14 and 12 refuse it
+  pub encoder-is : (a b : ℕ) → Answered (MayEncoder c m grant a b) encodedOf (unless (firstOf (millEncoderRows grant a b)) (encoder (at run) (length run) a b))
   pub render-is : (view : View) (width : ℕ) (output : List ℕ)
       → Answered (MayRender c m grant view width output) (pixelsIn width)
       (unless (firstOf (viewRows (viewAs view) width (length output))) (cutPixels grant (rowBy (nodeOf (at run)) (rangeFrom (originOf mark) (viewAs view) (length run)) 0 width)))
@@ -105,6 +115,7 @@ pub record MillAlike (grant : ℕ) (c₁ : Capture) (m₁ : Memory) (c₂ : Capt
   pub nexts : (mask : ℕ) (p : ℤ) → Agree (MayNext c₁ m₁ grant mask p) (MayNext c₂ m₂ grant mask p) foundOf
   pub previouses : (mask : ℕ) (p : ℤ) → Agree (MayPrevious c₁ m₁ grant mask p) (MayPrevious c₂ m₂ grant mask p) foundOf
   pub bursts : (mask : ℕ) (p : ℤ) (gap tolerance budget : ℕ) → Agree (MayBurst c₁ m₁ grant mask p gap tolerance budget) (MayBurst c₂ m₂ grant mask p gap tolerance budget) burstAs
+  pub encoders : (a b : ℕ) → Agree (MayEncoder c₁ m₁ grant a b) (MayEncoder c₂ m₂ grant a b) encodedOf
   pub pixels : (view : View) (width : ℕ) (output₁ output₂ : List ℕ) → length output₁ ≡ length output₂ → Agree (MayRender c₁ m₁ grant view width output₁) (MayRender c₂ m₂ grant view width output₂) (pixelsIn width)
 
 -- ---- the claim
@@ -126,3 +137,16 @@ MillLearns =
     → MillAnswers grant (run one) (mark one) (store one) (one .memory .store)
     × MillAnswers grant (run two) (mark two) (store two) (two .memory .store)
     × (Same grant (run one) (mark one) (run two) (mark two) → MillAlike grant (store one) (one .memory .store) (store two) (two .memory .store))
+
+-- ---- 02, CR 6: what a mill is told of an encoder is what 02 says of one
+abbrev pub SaysTurns : ℕ → Capture → Memory → ℕ → ℕ → Turns → Type 0
+SaysTurns grant c m a b t = (v : Encoded) × MayEncoder c m grant a b v × (encodedOf v ≡ given t)
+
+abbrev pub EncodersReplay : Type 0
+EncodersReplay = (grant : ℕ) (r : Recording) → Replayed (run r) (SaysTurns grant (store r) (r .memory .store))
+
+-- each mill with a grant of its own
+abbrev pub EncodersReverse : Type 0
+EncodersReverse =
+    (grant₁ grant₂ : ℕ) (one two : Recording)
+    → Reversed (run one) (SaysTurns grant₁ (store one) (one .memory .store)) (run two) (SaysTurns grant₂ (store two) (two .memory .store))

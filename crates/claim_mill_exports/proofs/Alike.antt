@@ -7,6 +7,7 @@ use lib.IntN.{ℤ}
 use lib.ListN.{length}
 use Rattle.rules.specs.Node.{Lines}
 use Rattle.rules.specs.Walk.{Counted}
+use Rattle.rules.specs.Encoder.{Turns}
 use Rattle.rules.specs.Mill.{MillBurst}
 use Rattle.rules.specs.Answer.{Answer, given}
 use Rattle.mill_read.specs.Read.{Extent}
@@ -17,7 +18,7 @@ use Rattle.claim_captures.specs.Claim.{Held}
 use Rattle.claim_captures.proofs.Alike.{agreed, same-seen, given-same}
 use Rattle.claim_mill.specs.Claim as calls
 use Rattle.claim_mill.proofs.Alike.{captures-show}
-use Rattle.claim_exports.specs.Questions.{got, copies, drawn}
+use Rattle.claim_exports.specs.Questions.{got, copies, turned, drawn}
 use Rattle.claim_exports.specs.Claim.{run, mark, asked}
 use Rattle.claim_exports.proofs.Recordings.{recording-held}
 use Rattle.claim_mill_exports.specs.Claim.{bounded, summedBy, found, bursted, MillAnswers, MillAlike, MillLearns}
@@ -60,6 +61,9 @@ module _ (grant : ℕ) {run₁ : List ℕ} {mark₁ : Option ℕ} (n₁ : List �
     bursts = λ mask p gap tolerance budget first last jumps size read.
         agreed (λ x. x) (a₁ .burst-is mask p gap tolerance budget first last jumps size read) (a₂ .burst-is mask p gap tolerance budget first last jumps size read)
         (ap (λ (x : Answer (Counted MillBurst)). bursted x first last jumps read) (same-seen (λ x. x) (c₁ .burst-is mask p gap tolerance budget) (c₂ .burst-is mask p gap tolerance budget) (look .bursts mask p gap tolerance budget)));
+    encoders = λ a b position counts size.
+        agreed (λ x. x) (a₁ .encoder-is a b position counts size) (a₂ .encoder-is a b position counts size)
+        (ap (λ (x : Answer Turns). turned x position counts) (same-seen (λ x. x) (c₁ .encoder-is a b) (c₂ .encoder-is a b) (look .encoders a b)));
     pixels = λ start spp width output.
         let view : View = record { start = start; spp = spp } in
         agreed (λ x. x) (a₁ .render-is start spp width output) (a₂ .render-is start spp width output)

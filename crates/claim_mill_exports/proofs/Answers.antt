@@ -6,7 +6,7 @@ use Prim.Native.Nat.{ℕ, zero, suc, _+_, _*_}
 use native.Mathlib.Nat.{suc-ne-zero}
 use lib.Bits.{bitAnd}
 use lib.Ieee.{Float}
-use lib.IntN.{ℤ, pos}
+use lib.IntN.{ℤ}
 use lib.ListN.{length, drop}
 use denote.Ref.{at-last}
 use Rattle.rules.specs.Sample.{sampleOf, listFrom}
@@ -17,7 +17,9 @@ use Rattle.rules.specs.Burst.{burstSearch}
 use Rattle.rules.specs.Pixel.{rowBy, rangeFrom, cutPixels}
 use Rattle.rules.specs.Refusal.{Lent, firstOf, viewRows, renderRefusal}
 use Rattle.rules.specs.Refusal as refusal
-use Rattle.rules.specs.Mill.{MillBurst, originOf, placeAt, shownPlace, shownBurst, millGetRows, millSamplesRows, millSummaryRows, millSearchRows, millSamplesRefusal}
+use Rattle.rules.specs.Encoder.{Turns, encoder}
+use Rattle.codes.specs.Turned.{TurnsOut}
+use Rattle.rules.specs.Mill.{MillBurst, originOf, placeAt, shownPlace, shownBurst, millGetRows, millSamplesRows, millSummaryRows, millSearchRows, millEncoderRows, millSamplesRefusal}
 use Rattle.rules.specs.Answer.{Answer, refused, given, unless, unrefused}
 use Rattle.rules.proofs.Sample.{list-same}
 use Rattle.rules.proofs.SampleBytes.{list-whole}
@@ -46,13 +48,9 @@ use Rattle.claim_captures.specs.Claim.{Held}
 use Rattle.claim_captures.proofs.Answers.{agree, right, drawn-for, anywhere, somewhere, asked-run, copied-inside}
 use Rattle.claim_mill.specs.Claim as calls
 use Rattle.claim_mill.proofs.Answers.{mill-answers}
-use Rattle.claim_exports.specs.Questions.{Got, got, Copied, copies, CutSummed, Drawn, drawn, viewOf}
-use Rattle.claim_exports.proofs.Answers.{asked-is, three, got-only, got-out, copies-only, nowhere}
-use Rattle.claim_mill_exports.specs.Claim.{Place, MayExtent, MayGet, MaySamples, MaySummary, MayNext, MayPrevious, MayBurst, MayRender, Bounded, bounded, summedBy, Found, foundAt, found, Bursted, burstedAt, bursted, place, MillAnswers}
-
--- some reference to a place
-afar : Place
-afar = record { ptr = (0, 0); name = 0; now = pos 0 }
+use Rattle.claim_exports.specs.Questions.{Got, got, turned, Copied, copies, CutSummed, Drawn, drawn, viewOf}
+use Rattle.claim_exports.proofs.Answers.{asked-is, three, got-only, got-out, copies-only, turned-only, turned-out, nowhere, afar}
+use Rattle.claim_mill_exports.specs.Claim.{MayExtent, MayGet, MaySamples, MaySummary, MayNext, MayPrevious, MayBurst, MayEncoder, MayRender, Bounded, bounded, summedBy, Found, foundAt, found, Bursted, burstedAt, bursted, place, MillAnswers}
 
 -- ---- a code and numbers for each answer, and no others
 module _ (old : List ℕ) (size : length old ≡ 3) where
@@ -196,6 +194,24 @@ module _ {run : List ℕ} {mark : Option ℕ} (numbers : List ℕ) (m : Memory) 
         allowed = (([], ([], ([], ([], ([], tt))))), anywhere, somewhere, afar, nowhere, subst⁻¹ (λ (y : Answer (Counted ℤ)). Sought written.place y (found x old read .code) old (found x old read .place) read (found x old read .read)) e (found-out old read x));
       }
 
+  encoder-is : (a b : ℕ) (position : ℤ) (counts : List ℕ) → length counts ≡ 3
+      → Answered (MayEncoder numbers m grant a b position counts) (λ v. v) (turned (unless (firstOf (millEncoderRows grant a b)) (encoder (at run) (length run) a b)) position counts)
+  encoder-is a b position counts size =
+      let e = asked-is (below .encoder-is a b) in
+      let x = unless (firstOf (millEncoderRows grant a b)) (encoder (at run) (length run) a b) in
+      record {
+        is = λ v may. turned-only position counts size x v (subst (λ (y : Answer Turns). TurnsOut y (v .code) position (v .position) counts (v .counts)) e (may .5));
+        answer = turned x position counts;
+        allowed = (
+          ([], ([], ([], ([], ([], tt))))),
+          anywhere,
+          somewhere,
+          afar,
+          anywhere,
+          subst⁻¹ (λ (y : Answer Turns). TurnsOut y (turned x position counts .code) position (turned x position counts .position) counts (turned x position counts .counts)) e (turned-out position counts size x),
+        );
+      }
+
   burst-is : (mask : ℕ) (p : ℤ) (gap tolerance budget : ℕ) (first last : ℤ) (jumps : List ℕ) → length jumps ≡ 2 → (read : ℕ)
       → Answered (MayBurst numbers m grant mask p gap tolerance budget first last jumps read) (λ v. v)
       (bursted (unless (firstOf (millSearchRows grant mask mark p)) (through (shownBurst (originOf mark)) (burstSearch (at run) (length run) mask (place mark p) gap tolerance budget))) first last jumps read)
@@ -298,5 +314,6 @@ module _ {run : List ℕ} {mark : Option ℕ} (numbers : List ℕ) (m : Memory) 
     next-is = next-is;
     previous-is = previous-is;
     burst-is = burst-is;
+    encoder-is = encoder-is;
     render-is = render-is;
   }

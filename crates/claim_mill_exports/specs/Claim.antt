@@ -11,7 +11,7 @@ use lib.Ieee.{Float}
 use lib.IntN.{ℤ}
 use lib.ListN.{length}
 use contract.Lifetimes.{Lfts}
-use denote.Ref.{RefT, at-last}
+use denote.Ref.{at-last}
 use Rattle.rules.specs.Sample.{listFrom}
 use Rattle.rules.specs.Node.{Lines, nodeOf}
 use Rattle.rules.specs.Search.{summary, cutSummary}
@@ -19,7 +19,8 @@ use Rattle.rules.specs.Walk.{Counted, through, nextSearch, previousSearch}
 use Rattle.rules.specs.Burst.{burstSearch}
 use Rattle.rules.specs.Pixel.{rowBy, rangeFrom, cutPixels}
 use Rattle.rules.specs.Refusal.{firstOf, viewRows, copied}
-use Rattle.rules.specs.Mill.{MillBurst, originOf, placeAt, shownPlace, shownBurst, millGetRows, millSamplesRows, millSummaryRows, millSearchRows}
+use Rattle.rules.specs.Encoder.{Turns, encoder}
+use Rattle.rules.specs.Mill.{MillBurst, originOf, placeAt, shownPlace, shownBurst, millGetRows, millSamplesRows, millSummaryRows, millSearchRows, millEncoderRows}
 use Rattle.rules.specs.Answer.{Answer, refused, given, unless}
 use Rattle.mill_read.specs.Read.{Extent, extentFor}
 use Rattle.logic_core.proofs.mill_reader.lc_mill_extent.Reads as lc-mill-extent
@@ -29,14 +30,12 @@ use Rattle.logic_core.proofs.mill_reader.lc_mill_summary.Reads as lc-mill-summa
 use Rattle.logic_core.proofs.mill_reader.lc_mill_next_change.Reads as lc-mill-next-change
 use Rattle.logic_core.proofs.mill_reader.lc_mill_prev_change.Reads as lc-mill-prev-change
 use Rattle.logic_core.proofs.mill_reader.lc_mill_burst_at.Reads as lc-mill-burst-at
+use Rattle.logic_core.proofs.mill_reader.lc_mill_encoder.Reads as lc-mill-encoder
 use Rattle.logic_core.proofs.mill_reader.lc_mill_render.Reads as lc-mill-render
 use Rattle.claim_captures.specs.Words.{Memory, Ref, Places, lending, at, Same, Answered, Agree}
-use Rattle.claim_exports.specs.Questions.{One, Got, got, Copied, copies, CutSummed, cutSummed, Drawn, drawn, viewOf}
+use Rattle.claim_captures.specs.Turns.{Replayed, Reversed}
+use Rattle.claim_exports.specs.Questions.{One, Signed, Got, got, Copied, copies, CutSummed, cutSummed, Turned, turned, ReadsAs, Drawn, drawn, viewOf}
 use Rattle.claim_exports.specs.Claim.{Recording, run, mark, asked}
-
--- a place behind a pointer
-abbrev pub Place : Type 0
-Place = RefT ℤ
 
 -- ---- lc_mill_extent: the code, the places behind `first` and `end`, and the flag behind `marked`
 pub record Bounded : Type 0 where
@@ -47,7 +46,7 @@ pub record Bounded : Type 0 where
 
 abbrev pub MayExtent : List ℕ → Memory → ℤ → ℤ → ℕ → Bounded → Type 0
 MayExtent numbers m first end marked v =
-    (κs : Lfts 6) × (n : Ref) × (p : Places) × (f e : Place) × (o : One)
+    (κs : Lfts 6) × (n : Ref) × (p : Places) × (f e : Signed) × (o : One)
     × lc-mill-extent.Post κs (lending (at-last n numbers) p m (at-last f first, (at-last e end, (at-last o marked, tt)))) (v .code) (lending (at-last n numbers) p m (at-last f (v .first), (at-last e (v .end), (at-last o (v .marked), tt))))
 
 abbrev pub bounded : Extent → Bounded
@@ -83,12 +82,12 @@ pub record Found : Type 0 where
 
 abbrev pub MayNext : List ℕ → Memory → ℕ → ℕ → ℤ → ℤ → ℕ → Found → Type 0
 MayNext numbers m grant mask from place read v =
-    (κs : Lfts 5) × (n : Ref) × (p : Places) × (o : Place) × (r : One)
+    (κs : Lfts 5) × (n : Ref) × (p : Places) × (o : Signed) × (r : One)
     × lc-mill-next-change.Post κs (lending (at-last n numbers) p m (grant, (mask, (from, (at-last o place, (at-last r read, tt)))))) (v .code) (lending (at-last n numbers) p m (grant, (mask, (from, (at-last o (v .place), (at-last r (v .read), tt))))))
 
 abbrev pub MayPrevious : List ℕ → Memory → ℕ → ℕ → ℤ → ℤ → ℕ → Found → Type 0
 MayPrevious numbers m grant mask from place read v =
-    (κs : Lfts 5) × (n : Ref) × (p : Places) × (o : Place) × (r : One)
+    (κs : Lfts 5) × (n : Ref) × (p : Places) × (o : Signed) × (r : One)
     × lc-mill-prev-change.Post κs (lending (at-last n numbers) p m (grant, (mask, (from, (at-last o place, (at-last r read, tt)))))) (v .code) (lending (at-last n numbers) p m (grant, (mask, (from, (at-last o (v .place), (at-last r (v .read), tt))))))
 
 -- 0 with the place; 100 where there is none; the nodes read either way
@@ -110,7 +109,7 @@ pub record Bursted : Type 0 where
 
 abbrev pub MayBurst : List ℕ → Memory → ℕ → ℕ → ℤ → ℕ → ℕ → ℕ → ℤ → ℤ → List ℕ → ℕ → Bursted → Type 0
 MayBurst numbers m grant mask sample gap tolerance budget first last jumps read v =
-    (κs : Lfts 7) × (n : Ref) × (p : Places) × (f l : Place) × (j : Ref) × (r : One)
+    (κs : Lfts 7) × (n : Ref) × (p : Places) × (f l : Signed) × (j : Ref) × (r : One)
     × lc-mill-burst-at.Post κs
     (lending (at-last n numbers) p m (grant, (mask, (sample, (gap, (tolerance, (budget, (at-last f first, (at-last l last, (at-last j jumps, (at-last r read, tt)))))))))))
     (v .code)
@@ -124,6 +123,12 @@ burstedAt (some b) steps first last jumps = record { code = 0; first = b .first;
 abbrev pub bursted : Answer (Counted MillBurst) → ℤ → ℤ → List ℕ → ℕ → Bursted
 bursted (refused n) first last jumps read = record { code = n; first = first; last = last; jumps = jumps; read = read }
 bursted (given w) first last jumps read = burstedAt (w .found) (w .steps) first last jumps
+
+-- ---- lc_mill_encoder: as lc_encoder
+abbrev pub MayEncoder : List ℕ → Memory → ℕ → ℕ → ℕ → ℤ → List ℕ → Turned → Type 0
+MayEncoder numbers m grant a b position counts v =
+    (κs : Lfts 5) × (n : Ref) × (p : Places) × (o : Signed) × (k : Ref)
+    × lc-mill-encoder.Post κs (lending (at-last n numbers) p m (grant, (a, (b, (at-last o position, (at-last k counts, tt)))))) (v .code) (lending (at-last n numbers) p m (grant, (a, (b, (at-last o (v .position), (at-last k (v .counts), tt))))))
 
 -- ---- lc_mill_render: as lc_render
 abbrev pub MayRender : List ℕ → Memory → ℕ → Float → Float → ℕ → List ℕ → Drawn → Type 0
@@ -152,6 +157,9 @@ pub record MillAnswers (grant : ℕ) (run : List ℕ) (mark : Option ℕ) (numbe
   pub burst-is : (mask : ℕ) (p : ℤ) (gap tolerance budget : ℕ) (first last : ℤ) (jumps : List ℕ) → length jumps ≡ 2 → (read : ℕ)
       → Answered (MayBurst numbers m grant mask p gap tolerance budget first last jumps read) (λ v. v)
       (bursted (unless (firstOf (millSearchRows grant mask mark p)) (through (shownBurst (originOf mark)) (burstSearch (at run) (length run) mask (place mark p) gap tolerance budget))) first last jumps read)
+  -- 02, CR 6: on two granted lines; 14 and 12 refuse it
+  pub encoder-is : (a b : ℕ) (position : ℤ) (counts : List ℕ) → length counts ≡ 3
+      → Answered (MayEncoder numbers m grant a b position counts) (λ v. v) (turned (unless (firstOf (millEncoderRows grant a b)) (encoder (at run) (length run) a b)) position counts)
   pub render-is : (start spp : Float) (width : ℕ) (output : List ℕ)
       → Answered (MayRender numbers m grant start spp width output) (λ v. v)
       (drawn (unless (firstOf (viewRows (viewOf start spp) width (length output))) (cutPixels grant (rowBy (nodeOf (at run)) (rangeFrom (originOf mark) (viewOf start spp) (length run)) 0 width))) width output)
@@ -167,6 +175,7 @@ pub record MillAlike (grant : ℕ) (n₁ : List ℕ) (m₁ : Memory) (n₂ : Lis
   pub previouses : (mask : ℕ) (p old : ℤ) (read : ℕ) → Agree (MayPrevious n₁ m₁ grant mask p old read) (MayPrevious n₂ m₂ grant mask p old read) (λ x. x)
   pub bursts : (mask : ℕ) (p : ℤ) (gap tolerance budget : ℕ) (first last : ℤ) (jumps : List ℕ) → length jumps ≡ 2 → (read : ℕ)
       → Agree (MayBurst n₁ m₁ grant mask p gap tolerance budget first last jumps read) (MayBurst n₂ m₂ grant mask p gap tolerance budget first last jumps read) (λ x. x)
+  pub encoders : (a b : ℕ) (position : ℤ) (counts : List ℕ) → length counts ≡ 3 → Agree (MayEncoder n₁ m₁ grant a b position counts) (MayEncoder n₂ m₂ grant a b position counts) (λ x. x)
   pub pixels : (start spp : Float) (width : ℕ) (output : List ℕ) → Agree (MayRender n₁ m₁ grant start spp width output) (MayRender n₂ m₂ grant start spp width output) (λ x. x)
 
 -- ---- the claim
@@ -178,3 +187,16 @@ MillLearns =
     → MillAnswers grant (run one) (mark one) (asked one) (one .memory .store)
     × MillAnswers grant (run two) (mark two) (asked two) (two .memory .store)
     × (Same grant (run one) (mark one) (run two) (mark two) → MillAlike grant (asked one) (one .memory .store) (asked two) (two .memory .store))
+
+-- ---- 02, CR 6: what a mill is told of an encoder is what 02 says of one
+abbrev pub SaysTurns : ℕ → List ℕ → Memory → ℕ → ℕ → Turns → Type 0
+SaysTurns grant numbers m a b t = ReadsAs (MayEncoder numbers m grant a b) t
+
+abbrev pub EncodersReplay : Type 0
+EncodersReplay = (grant : ℕ) (r : Recording) → Replayed (run r) (SaysTurns grant (asked r) (r .memory .store))
+
+-- each mill with a grant of its own
+abbrev pub EncodersReverse : Type 0
+EncodersReverse =
+    (grant₁ grant₂ : ℕ) (one two : Recording)
+    → Reversed (run one) (SaysTurns grant₁ (asked one) (one .memory .store)) (run two) (SaysTurns grant₂ (asked two) (two .memory .store))

@@ -31,7 +31,8 @@ use Rattle.feeder_push.specs.declared.Pushed.{Pushed}
 use Rattle.feeder_push.specs.Push.{replyAs, feederIn}
 use Rattle.feeder_push.proofs.push.Reads as push
 use Rattle.claim_captures.specs.Words.{levels, Ref, Places, lending, Same, AreBytes}
-use Rattle.claim_captures.specs.Claim.{Held, Answers, LookAlike, Additive}
+use Rattle.claim_captures.specs.Turns.{Replayed, Reversed}
+use Rattle.claim_captures.specs.Claim.{Held, Answers, LookAlike, Additive, SaysTurns}
 use Rattle.claim_captures.specs.Words as captures
 
 -- ---- memory
@@ -146,3 +147,10 @@ Demand3 =
 -- 02, CR 5: what density answers after a recording adds up
 abbrev pub DensitiesAdd : Type 0
 DensitiesAdd = (r : Recording) → Additive (run r) (store r) (r .memory .store)
+
+-- 02, CR 6: what encoder answers after a recording, whatever pushes it came in; and after two of which one's run is the other's in reverse
+abbrev pub EncodersReplay : Type 0
+EncodersReplay = (r : Recording) → Replayed (run r) (SaysTurns (store r) (r .memory .store))
+
+abbrev pub EncodersReverse : Type 0
+EncodersReverse = (one two : Recording) → Reversed (run one) (SaysTurns (store one) (one .memory .store)) (run two) (SaysTurns (store two) (two .memory .store))

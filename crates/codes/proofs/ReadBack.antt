@@ -1,15 +1,18 @@
--- A store that is written as five numbers reads back as that store, whatever they held before: what start writes, and the len that append writes.
+-- What is written behind pointers reads back, whatever stood there before: a store as five numbers, which start writes, the len that append writes, and an encoder's numbers.
 use mathlib.Core.Path.{_≡_, refl, subst⁻¹}
 use mathlib.Core.List.{List, [], _∷_}
 use mathlib.Core.Option.{Option, none, some}
 use Prim.Native.Nat.{ℕ}
+use lib.IntN.{ℤ}
 use lib.ListN.{length}
 use lib.Seq.{sets}
 use Rattle.rules.specs.Sample.{listFrom}
 use Rattle.rules.specs.Refusal.{Store}
+use Rattle.rules.specs.Encoder.{Turns}
 use Rattle.rules.proofs.SampleBytes.{list-whole}
 use Rattle.capture.specs.Record.{storeOf}
 use Rattle.capture.specs.Numbers.{markedAt, markedIn, markPlaceIn}
+use Rattle.codes.specs.Turned.{positionNumber, stepNumbers, turnsIn}
 use Rattle.codes.specs.Record.{captureIn, markNumbers, storeNumbers, lenNumber}
 
 -- the mark, and whether there is one; where there is none, its number means nothing
@@ -26,3 +29,8 @@ module _ (old : List ℕ) (size : length old ≡ 5) where
   pub len-back : (n : ℕ) → captureIn (lenNumber n old) ≡ record { unitsize = captureIn old .unitsize; capacity = captureIn old .capacity; len = n; trigger = captureIn old .trigger }
   unfolding listFrom
   len-back n = subst⁻¹ (λ (l : List ℕ). captureIn (lenNumber n l) ≡ record { unitsize = captureIn l .unitsize; capacity = captureIn l .capacity; len = n; trigger = captureIn l .trigger }) (list-whole 5 old size) refl
+
+-- ---- an encoder's position and counts
+pub turns-back : (t : Turns) (place : ℤ) (old : List ℕ) → length old ≡ 3 → turnsIn (positionNumber t place) (stepNumbers t old) ≡ t
+unfolding listFrom
+turns-back t place old size = subst⁻¹ (λ (l : List ℕ). turnsIn (positionNumber t place) (stepNumbers t l) ≡ t) (list-whole 3 old size) refl

@@ -12,6 +12,7 @@ use capture::Needed;
 use capture::Started;
 use capture::record;
 use density::Changes;
+use encoder::Encoded;
 use lines::Mask;
 use render::Drawn;
 use search::Found;
@@ -19,11 +20,13 @@ use summary::Summed;
 use whole::Checked;
 ghost use mathlib.Core.Path.{_≡_};
 ghost use mathlib.Core.Bool.{Bool};
+ghost use lib.IntN.{ℤ};
 ghost use Rattle.capture.specs.Record.{storeOf};
 ghost use Rattle.capture.specs.Calls.{neededOf, startedOf, gotOf, copiedOf};
 ghost use Rattle.append.specs.Append.{appendedOf};
 ghost use Rattle.summary.specs.Summary.{summedOf};
 ghost use Rattle.density.specs.Density.{changesOf};
+ghost use Rattle.encoder.specs.Answer.{encodedOf};
 ghost use Rattle.whole.specs.Wrong.{checkedOf};
 ghost use Rattle.search.specs.Answer.{foundOf};
 ghost use Rattle.burst.specs.Answer.{burstAs};
@@ -31,6 +34,7 @@ ghost use Rattle.render.specs.Render.{drawnOf};
 ghost use Rattle.codes.specs.Record.{captureIn, storeNumbers, lenNumber, grownLen, lentNumbers, nodeNumbers, countNumber, burstNumbers, number, flagNumber, placeLevel, placeNumber};
 ghost use Rattle.codes.specs.Code.{plain, perhaps, fault, Out};
 ghost use Rattle.codes.specs.Sought.{Sought};
+ghost use Rattle.codes.specs.Turned.{TurnsOut};
 
 pub const NONE: u32 = 100;
 
@@ -191,6 +195,22 @@ pub fn changes_code(answer: Changes, count: &mut u32) -> u32
         Changes::Refused(n) => code(n),
         Changes::Count(k) => {
             *count = k;
+            0
+        }
+    }
+}
+
+pub fn turns_code(answer: Encoded, position: &mut i64, counts: &mut [usize; 3]) -> u32
+    ensures { λ r. ⌜ TurnsOut (encodedOf answer) r (now (position .entry)) (now (position .exit)) (now (counts .entry)) (now (counts .exit)) ⌝ }
+{
+    match answer {
+        Encoded::Refused(n) => code(n),
+        Encoded::Turns(t) => {
+            let place = t.position;
+            *position = place;
+            counts[out::ENCODER_FORWARD] = t.forward;
+            counts[out::ENCODER_BACKWARD] = t.backward;
+            counts[out::ENCODER_SKIPPED] = t.skipped;
             0
         }
     }

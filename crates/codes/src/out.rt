@@ -23,6 +23,12 @@ pub const BURST_LAST: usize = 1;
 pub const BURST_JUMPS_END: usize = 2;
 
 pub const BURST_JUMPS_START: usize = 3;
+// an encoder's steps; its position has a pointer of its own
+pub const ENCODER_FORWARD: usize = 0;
+
+pub const ENCODER_BACKWARD: usize = 1;
+
+pub const ENCODER_SKIPPED: usize = 2;
 // the jumps of a mill's burst; its ends have pointers of their own
 pub const MILL_JUMPS_END: usize = 0;
 

@@ -1,12 +1,24 @@
 // Samples in lent bytes: one bit a line, `unitsize` bytes a sample, low byte first.
 ghost use mathlib.Core.Path.{_≡_};
-ghost use Prim.Native.Nat.{_+_, _*_, _≤_, _<_};
+ghost use Prim.Native.Nat.{_+_, _*_, _^_, _≤_, _<_};
 ghost use lib.ListN.{length};
 ghost use Rattle.rules.specs.Sample.{little, sampleOf};
+ghost use Rattle.rules.specs.Refusal.{topLine};
 ghost use Rattle.lines.specs.Held.{Held};
 
 // The word that holds a mask or a sample, a bit for each line.
 pub type Mask = u16;
+
+// The highest line of a sample.
+pub const TOP_LINE: u8 = 15;
+
+// The mask of one line.
+pub fn line_bit(line: u8) -> Mask
+    requires { ⌜ line ≤ topLine ⌝ }
+    ensures { λ r. ⌜ r ≡ 2 ^ line ⌝ }
+{
+    1u16 << line
+}
 
 // Sample i (01's s[i]).
 pub fn get(bytes: &[u8], unitsize: usize, i: usize) -> Mask

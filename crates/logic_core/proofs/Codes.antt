@@ -6,11 +6,13 @@ use Prim.Native.Nat.{ℕ, zero, suc, _+_}
 use native.Mathlib.Nat.{add-zero, suc-ne-zero}
 use borrow.Author.Tests.{ne-eqb}
 use lib.Ieee.{Float}
+use lib.IntN.{ℤ}
 use lib.ListN.{length, set}
 use lib.Seq.{set-getD}
 use Rattle.rules.specs.Reading.{copiedTo}
 use Rattle.rules.specs.Answer.{Answer, unless, unrefused}
 use Rattle.rules.specs.Walk.{Counted}
+use Rattle.rules.specs.Encoder.{Turns}
 use Rattle.rules.specs.Sample.{sampleOf, sampleCount}
 use Rattle.rules.specs.Refusal.{copied, renderRefusal}
 use Rattle.capture.specs.declared.Capture.{Capture}
@@ -21,12 +23,15 @@ use Rattle.capture.specs.Calls.{Copies, copiedOf}
 use Rattle.summary.specs.Summary.{summed}
 use Rattle.render.specs.declared.Drawn.{Drawn}
 use Rattle.render.specs.Render.{drawnOf, drawn, Draws}
+use Rattle.encoder.specs.declared.Encoded.{Encoded}
+use Rattle.encoder.specs.Answer.{encodedOf}
 use Rattle.append.specs.declared.Appended.{Appended}
 use Rattle.append.specs.Append.{appendedOf, refusalOf, takenOf, Appends}
 use Rattle.append.specs.Append as append
 use Rattle.append.proofs.Answer.{taken-none}
 use Rattle.codes.specs.Code.{Reply, plain, behind, Out}
 use Rattle.codes.specs.Sought.{Sought}
+use Rattle.codes.specs.Turned.{TurnsOut}
 use Rattle.codes.specs.Record.{captureIn, lenNumber, grownLen, number}
 use Rattle.logic_core.specs.Asked.{viewOf, copyRefusal, copiedFor, drawRefusal, CopiesOut, AppendsOut, DrawsOut}
 
@@ -48,6 +53,12 @@ pub sought-by : {A B R : Type 0} (write : A → B → B) (answerOf : R → Answe
     → c ≡ c′ → answerOf r ≡ asks c → Sought write (answerOf r) code old new read read′
     → Sought write (asks c′) code old new read read′
 sought-by {A} write answerOf asks r {code} {old} {new} {read} {read′} d e o = subst (λ (x : Answer (Counted A)). Sought write x code old new read read′) (e ∙ ap asks d) o
+
+-- And of an encoder, which has two pointers.
+pub turns-by : (asks : Capture → Answer Turns) {c c′ : Capture} (r : Encoded) {code : ℕ} {position position′ : ℤ} {counts counts′ : List ℕ}
+    → c ≡ c′ → encodedOf r ≡ asks c → TurnsOut (encodedOf r) code position position′ counts counts′
+    → TurnsOut (asks c′) code position position′ counts counts′
+turns-by asks r {code} {position} {position′} {counts} {counts′} d e o = subst (λ (x : Answer Turns). TurnsOut x code position position′ counts counts′) (e ∙ ap asks d) o
 
 module _ (bytes : List ℕ) (levels : ℕ → List ℕ) (start count : ℕ) (output output′ : List ℕ) where
   pub copies-told : {c c′ : Capture} (r : Copied) (code old new : ℕ)

@@ -8,14 +8,17 @@ use codes::capture_in;
 use lines::Mask;
 use pixel::View;
 ghost use mathlib.Core.Path.{_≡_};
+ghost use lib.IntN.{ℤ};
 ghost use Rattle.node.specs.Memory.{levelOf};
 ghost use Rattle.capture.specs.Record.{storeOf};
 ghost use Rattle.capture.specs.Calls.{RawLies};
 ghost use Rattle.search.specs.Answer.{nextOf, previousOf};
 ghost use Rattle.burst.specs.Answer.{burstOf};
+ghost use Rattle.encoder.specs.Answer.{encoderOf};
 ghost use Rattle.codes.specs.Record.{captureIn, storeNumbers, lentNumbers, nodeNumbers, countNumber, burstNumbers, number, placeLevel, placeNumber};
 ghost use Rattle.codes.specs.Code.{plain, perhaps, fault, Out};
 ghost use Rattle.codes.specs.Sought.{Sought};
+ghost use Rattle.codes.specs.Turned.{TurnsOut};
 ghost use Rattle.logic_core.specs.Asked.{neededFor, startedFor, gotFor, summedFor, changesFor, wrongFor, CopiesOut, AppendsOut, DrawsOut};
 
 // How much memory a store needs: bytes of samples, and numbers of the levels 1 to 4. Refuses with 1.
@@ -186,6 +189,26 @@ pub extern "C" fn lc_density<'a>(
 {
     let answer = density::density(capture_in(numbers), samples, l1, l2, l3, l4, a, b);
     codes::changes_code(answer, count)
+}
+
+// An encoder replayed from lines a and b: its position, and its steps forward, backward and skipped (02: CR 6). Refuses with 1, 2 and 14.
+#[no_mangle]
+pub extern "C" fn lc_encoder<'a>(
+    numbers: &[usize; 5],
+    samples: &[u8],
+    l1: &'a [Mask],
+    l2: &'a [Mask],
+    l3: &'a [Mask],
+    l4: &'a [Mask],
+    a: usize,
+    b: usize,
+    position: &mut i64,
+    counts: &mut [usize; 3],
+) -> u32
+    ensures { λ r. ⌜ TurnsOut (encoderOf (captureIn (now (numbers .entry))) (now (samples .entry)) (levelOf (now (l1 .entry)) (now (l2 .entry)) (now (l3 .entry)) (now (l4 .entry))) a b) r (now (position .entry)) (now (position .exit)) (now (counts .entry)) (now (counts .exit)) ⌝ }
+{
+    let answer = encoder::encoder(capture_in(numbers), samples, l1, l2, l3, l4, a, b);
+    codes::turns_code(answer, position, counts)
 }
 
 // 01's Next: the place, or 100 where there is none, and the nodes read. Refuses with 1 and 2.

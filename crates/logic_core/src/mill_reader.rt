@@ -6,9 +6,11 @@ ghost use mathlib.Core.Path.{_≡_};
 ghost use lib.IntN.{ℤ};
 ghost use Rattle.node.specs.Memory.{levelOf};
 ghost use Rattle.mill_search.specs.Answer.{nextOf, previousOf, burstOf};
+ghost use Rattle.mill_encoder.specs.Answer.{encoderOf};
 ghost use Rattle.codes.specs.Record.{captureIn, linesNumbers, number};
 ghost use Rattle.codes.specs.Code.{plain, perhaps, Out};
 ghost use Rattle.codes.specs.Sought.{Sought};
+ghost use Rattle.codes.specs.Turned.{TurnsOut};
 ghost use Rattle.mill_codes.specs.Written.{firstPlace, endPlace, markedNumber, place, BurstOut};
 ghost use Rattle.logic_core.specs.Mill.{boundedFor, gotFor, shownFor, CopiesOut, DrawsOut};
 
@@ -201,6 +203,27 @@ pub extern "C" fn lc_mill_burst_at<'a>(
         budget,
     );
     mill_codes::burst_code(answer, first, last, jumps, read)
+}
+
+// An encoder replayed from lines a and b, as the service's (02: CR 6). Refuses with 1, 2, 14 and 12.
+#[no_mangle]
+pub extern "C" fn lc_mill_encoder<'a>(
+    numbers: &[usize; 5],
+    samples: &[u8],
+    l1: &'a [Mask],
+    l2: &'a [Mask],
+    l3: &'a [Mask],
+    l4: &'a [Mask],
+    grant: Mask,
+    a: usize,
+    b: usize,
+    position: &mut i64,
+    counts: &mut [usize; 3],
+) -> u32
+    ensures { λ r. ⌜ TurnsOut (encoderOf (captureIn (now (numbers .entry))) (now (samples .entry)) (levelOf (now (l1 .entry)) (now (l2 .entry)) (now (l3 .entry)) (now (l4 .entry))) grant a b) r (now (position .entry)) (now (position .exit)) (now (counts .entry)) (now (counts .exit)) ⌝ }
+{
+    let answer = mill_encoder::encoder(capture_in(numbers), samples, l1, l2, l3, l4, grant, a, b);
+    codes::turns_code(answer, position, counts)
 }
 
 // 01's render; start is a place as the mill counts. Refuses with 1, 2, 10 and 11.

@@ -1,12 +1,13 @@
-// A mill's reader in front of the service's calls: its places, its grant and its two refusals. 02: CR 1. All signed arithmetic is here.
+// A mill's reader in front of the service's calls: its places, its grant and its two refusals. 02: CR 1.
 use capture::Capture;
 use capture::Mark;
 use lines::Mask;
+use number::difference;
+use number::magnitude;
 ghost use mathlib.Core.Path.{_≡_};
 ghost use mathlib.Core.Bool.{false};
 ghost use Prim.Native.Nat.{_≤_};
 ghost use lib.ListN.{length};
-ghost use lib.Signed.{mag};
 ghost use Rattle.rules.specs.Refusal.{mostSamples, firstOf, storeRows};
 ghost use Rattle.rules.specs.Mill.{millPlace, placeAt, beforeFirst, beyond};
 ghost use Rattle.node.specs.Memory.{levelOf};
@@ -22,16 +23,6 @@ pub fn origin(c: Capture) -> usize
         Mark::Absent => 0,
         Mark::At(k) => k,
     }
-}
-
-// How far p is from 0 or, where it is negative, from −1: the smallest number has no opposite.
-fn magnitude(p: i64) -> usize
-    ensures { λ r. ⌜ r ≡ mag p ⌝ }
-{
-    if p < 0 {
-        return (-1 - p) as usize;
-    }
-    p as usize
 }
 
 // Row 13: p lies before the first sample.
@@ -62,7 +53,7 @@ pub fn counted_from(origin: usize, i: usize) -> i64
     requires { ⌜ (origin ≤ mostSamples) × (i ≤ mostSamples) ⌝ }
     ensures { λ r. ⌜ r ≡ millPlace origin i ⌝ }
 {
-    i as i64 - origin as i64
+    difference(i, origin)
 }
 
 // Row 12: the mask has a line beyond the grant.

@@ -24,7 +24,7 @@ use Rattle.burst.specs.Answer as bursts
 use Rattle.burst.specs.Answer.{back, fore}
 use Rattle.burst.proofs.Ends.{burst-ends}
 use Rattle.mill.specs.Reader.{originIn, millRows}
-use Rattle.mill.proofs.Places.{read-is}
+use Rattle.number.proofs.Signed.{read-is}
 use Rattle.mill.proofs.Under.{Passed, passed, first-placed, under-refused, under-given, given-under}
 use Rattle.mill_search.specs.Answer.{asked, sought, Counts, SmallPlace, SmallBurst}
 

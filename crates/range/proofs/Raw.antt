@@ -1,12 +1,10 @@
--- Laws of runs of changes: two in a row, one more place, two that overlap in one place, and the node of a run. And samples of unit 1.
+-- Laws of runs of changes: two in a row, one more place, two that overlap in one place, and the node of a run.
 use Prim.Native.Nat.{ℕ, zero, suc, _+_, _-_, _*_, _≤_}
 use mathlib.Core.Path.{_≡_, refl, sym, ap, ap₂, _∙_, subst}
 use mathlib.Core.List.{List}
-use native.Mathlib.Nat.{zero-add, add-zero, add-suc, mul-one}
+use native.Mathlib.Nat.{zero-add, add-zero, add-suc}
 use native.Mathlib.Omega.{arith}
 use lib.Bits.{bitOr, bitXor, or-zero-r, or-self}
-use lib.ListN.{getD}
-use Rattle.rules.specs.Sample.{sampleOf}
 use Rattle.rules.specs.Node.{Node, changes, togglesOf, differs, countOf, capCount, nodeOf}
 use Rattle.rules.proofs.Bits.{or-assoc, or-sort}
 use Rattle.range.specs.Run.{Run, Both}
@@ -130,8 +128,3 @@ module _ (s : ℕ → ℕ) where
     toggles = (em ∙ p .lines ∙ ap (togglesOf s a) ek) i;
     count = (ec ∙ ap capCount (p .many ∙ ap (countOf s a) ek)) i;
   }
-
--- ---- samples of unit 1
-pub byte-sample : (l : List ℕ) (i : ℕ) → getD l i 0 ≡ sampleOf 1 l i
-unfolding sampleOf
-byte-sample l i = ap (λ (x : ℕ). getD l x 0) (sym (mul-one i)) ∙ sym (add-zero (getD l (i * 1) 0))

@@ -5,6 +5,7 @@ use capture::Copied;
 use capture::Got;
 use capture::Mark;
 use density::Changes;
+use encoder::Encoded;
 use feeder::Armed;
 use feeder::Feeder;
 use lines::Mask;
@@ -18,6 +19,7 @@ use replay_text::answers::one;
 use replay_text::answers::refused;
 use replay_text::digests::digest_of_bytes;
 use replay_text::digests::digest_of_samples;
+use replay_text::numbers::bits_of;
 use replay_text::numbers::flag;
 use replay_text::numbers::float_of;
 use replay_text::numbers::mask_of;
@@ -84,6 +86,16 @@ fn burst(r: Bursts) -> Answer {
         Bursts::Refused(n) => refused(n),
         Bursts::Nothing(_) => one(0),
         Bursts::At(b, _) => given(5, [1, b.first, b.last, b.jumps_end, b.jumps_start]),
+    }
+}
+
+fn turned(r: Encoded) -> Answer {
+    match r {
+        Encoded::Refused(n) => refused(n),
+        Encoded::Turns(t) => given(
+            4,
+            [bits_of(t.position), t.forward, t.backward, t.skipped, 0],
+        ),
     }
 }
 
@@ -209,6 +221,7 @@ pub fn ask<'a>(
         21 => found(search::prev_change(c, samples, l1, l2, l3, l4, mask_of(a[0]), a[1])),
         22 => summed(summary::summary(c, samples, l1, l2, l3, l4, a[0], a[1])),
         23 => counted(density::density(c, samples, l1, l2, l3, l4, a[0], a[1])),
+        24 => turned(encoder::encoder(c, samples, l1, l2, l3, l4, a[0], a[1])),
         30 => burst(burst::burst_at(
             c,
             samples,

@@ -4,6 +4,7 @@ use mathlib.Core.Bool.{Bool, cond, _&&_}
 use mathlib.Core.List.{List, [], _∷_}
 use Prim.Native.Nat.{ℕ, suc, _+_, _-_, _*_, min}
 use lib.Dec.{leb, ltb, eqb}
+use lib.IntN.{ℤ, pos, negsuc}
 use lib.ListN.{getD, drop}
 use Rattle.replay_text.specs.declared.numbers.Parsed.{Parsed}
 
@@ -34,3 +35,8 @@ pub record NumberAt (line : List ℕ) (at : ℕ) (r : Parsed) : Type 0 where
   pub value-is : r .value ≡ decimal 0 (drop (pastSpace line at) line)
   pub next-is : r .next ≡ pastSpace line at + digits (drop (pastSpace line at) line)
   pub found-is : r .found ≡ ltb (pastSpace line at) (r .next)
+
+-- a position as the number that its 64 bits make: 2^64 more where it is below 0
+unfoldable pub bitsOf : ℤ → ℕ
+bitsOf (pos n) = n
+bitsOf (negsuc n) = 18446744073709551615 - n

@@ -1,12 +1,13 @@
 // The numbers of a line: in decimal, with a space between two of them. Any bytes may be read.
 use lines::Mask;
+use number::magnitude;
 ghost use mathlib.Core.Path.{_≡_};
 ghost use mathlib.Core.Bool.{cond};
 ghost use Prim.Native.Nat.{min, _+_, _%_, _≤_};
 ghost use lib.Dec.{ltb};
 ghost use lib.Ieee.{binary64, ofBits};
 ghost use lib.ListN.{drop};
-ghost use Rattle.replay_text.specs.Numbers.{isDigit, withDigit, pastSpace, NumberAt};
+ghost use Rattle.replay_text.specs.Numbers.{isDigit, withDigit, pastSpace, NumberAt, bitsOf};
 
 // A number, where the bytes after it start, and whether there is one.
 pub struct Parsed {
@@ -104,6 +105,16 @@ pub fn value_of(m: Mask) -> usize
     ensures { λ r. ⌜ r ≡ m ⌝ }
 {
     m as usize
+}
+
+// The number that a position's bits make.
+pub fn bits_of(p: i64) -> usize
+    ensures { λ r. ⌜ r ≡ bitsOf p ⌝ }
+{
+    if p < 0 {
+        return MOST - magnitude(p);
+    }
+    magnitude(p)
 }
 
 // The float that a number's bits make.

@@ -13,7 +13,7 @@ pub struct Operation {
 fn arguments_of(code: usize) -> usize {
     match code {
         11 | 12 | 15 | 17 | 52 | 53 => 1,
-        10 | 20 | 21 | 22 | 23 => 2,
+        10 | 20 | 21 | 22 | 23 | 24 => 2,
         4 | 13 | 16 | 50 | 54 => 3,
         3 | 40 | 41 => 4,
         2 | 30 => 5,

@@ -1,10 +1,11 @@
 -- Laws of the bit operations, for numbers of any width, each from the lines: two numbers with equal lines are equal.
-use Prim.Native.Nat.{ℕ, zero, suc, _+_, _*_, _/_, _%_, _^_, _≤_, _<_, min, max}
+use Prim.Native.Nat.{ℕ, zero, suc, _+_, _-_, _*_, _/_, _%_, _^_, _≤_, _<_, min, max}
 use mathlib.Core.Path.{_≡_, refl, sym, ap, ap₂, _∙_}
-use native.Mathlib.Nat.{le-refl, le-of-suc-le-suc, not-suc-le-zero, div-add-mod', mod-lt, le-trans, zero-lt-suc}
+use native.Mathlib.Nat.{le-refl, le-of-suc-le-suc, not-suc-le-zero, div-add-mod', mod-lt, le-trans, zero-lt-suc, zero-div, div-self, div-eq-of-lt, mul-mod-left, mul-div-cancel, pow-suc}
+use native.Mathlib.Decide.{decLt}
 use native.Mathlib.Omega.{arith}
 use lib.Arith.{half-le, le-zero, digits-mod}
-use lib.Pow.{shr-shr}
+use lib.Pow.{shr-shr, pow-pos, pow-lt, pow-add}
 use Rattle.rules.specs.Sample.{line}
 use lib.Bits.{bitAnd, bitOr, bitXor, differ, and-step, or-step, xor-step, and-shr, or-shr, xor-shr, or-add-and, or-comm, and-le-l, and-le-r}
 
@@ -12,11 +13,59 @@ pub line-lt : (x k : ℕ) → line x k < 2
 unfolding line
 line-lt x k = mod-lt (x / 2 ^ k) (zero-lt-suc 1)
 
+pub line-zero : (k : ℕ) → line 0 k ≡ 0
+unfolding line
+line-zero k = ap (λ (z : ℕ). z % 2) (zero-div (2 ^ k))
+
+-- 2 ^ k has line k, and no other
+pub power-has : (k : ℕ) → line (2 ^ k) k ≡ 1
+unfolding line
+power-has k = ap (λ (z : ℕ). z % 2) (div-self (pow-pos k))
+
+pub power-only : (j k : ℕ) → line (2 ^ j) k ≡ 1 → k ≡ j
+unfolding line
+power-only j k e = go (decLt j k) (decLt k j)
+  where
+    below : j < k → 2 ^ j / 2 ^ k % 2 ≡ 0
+    below h = ap (λ (z : ℕ). z % 2) (div-eq-of-lt (pow-lt h))
+
+    above : k < j → 2 ^ j / 2 ^ k % 2 ≡ 0
+    above h =
+        ap (λ (n : ℕ). 2 ^ n / 2 ^ k % 2) split
+        ∙ ap (λ (n : ℕ). n / 2 ^ k % 2) (pow-add 2 (suc d) k)
+        ∙ ap (λ (n : ℕ). n % 2) (mul-div-cancel (2 ^ suc d) (pow-pos k) ∙ pow-suc 2 d)
+        ∙ mul-mod-left (2 ^ d) 2
+      where
+        d : ℕ
+        d = j - suc k
+
+        split : j ≡ suc d + k
+        split = omega arith
+
+    go : Dec (j < k) → Dec (k < j) → k ≡ j
+    go (yes h) d = absurd (omega (arith, below h))
+    go (no h) (yes l) = absurd (omega (arith, above l))
+    go (no h) (no l) = omega arith
+
 -- a fact of 0 and 1 holds of each number below 2
 pub two-cases : (P : ℕ → Type 0) → P 0 → P 1 → (x : ℕ) → x < 2 → P x
 two-cases P p q zero h = p
 two-cases P p q (suc zero) h = q
 two-cases P p q (suc (suc x)) h = absurd (not-suc-le-zero (le-of-suc-le-suc (le-of-suc-le-suc h)))
+
+-- and one of four such numbers, of the sixteen ways that there are
+pub sixteen : (P : ℕ → ℕ → ℕ → ℕ → Type 0)
+    → P 0 0 0 0 → P 0 0 0 1 → P 0 0 1 0 → P 0 0 1 1 → P 0 1 0 0 → P 0 1 0 1 → P 0 1 1 0 → P 0 1 1 1
+    → P 1 0 0 0 → P 1 0 0 1 → P 1 0 1 0 → P 1 0 1 1 → P 1 1 0 0 → P 1 1 0 1 → P 1 1 1 0 → P 1 1 1 1
+    → (a b c d : ℕ) → a < 2 → b < 2 → c < 2 → d < 2 → P a b c d
+sixteen P p0 p1 p2 p3 p4 p5 p6 p7 q0 q1 q2 q3 q4 q5 q6 q7 a b c d ha hb hc hd =
+    two-cases (λ (a : ℕ). P a b c d)
+    (two-cases (λ (b : ℕ). P 0 b c d) (four 0 0 p0 p1 p2 p3) (four 0 1 p4 p5 p6 p7) b hb)
+    (two-cases (λ (b : ℕ). P 1 b c d) (four 1 0 q0 q1 q2 q3) (four 1 1 q4 q5 q6 q7) b hb) a ha
+  where
+    four : (a b : ℕ) → P a b 0 0 → P a b 0 1 → P a b 1 0 → P a b 1 1 → P a b c d
+    four a b x y z w =
+        two-cases (λ (c : ℕ). P a b c d) (two-cases (λ (d : ℕ). P a b 0 d) x y d hd) (two-cases (λ (d : ℕ). P a b 1 d) z w d hd) c hc
 
 module _ (x y : ℕ) (h : (k : ℕ) → line x k ≡ line y k) where
   low-line : x % 2 ≡ y % 2

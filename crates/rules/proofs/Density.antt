@@ -14,7 +14,7 @@ use Rattle.rules.specs.Cutting.{Rising, cutEnd, partsSum, bordersSum}
 use Rattle.rules.proofs.Node.{changes-add, changes-none, changes-cap}
 
 -- ---- cuttings
-rises : (c : ℕ) (cs : List ℕ) → Rising c cs → c ≤ cutEnd c cs
+pub rises : (c : ℕ) (cs : List ℕ) → Rising c cs → c ≤ cutEnd c cs
 rises c [] r = omega arith
 rises c (d ∷ cs) r = omega (arith, r .0, rises d cs (r .1))
 

@@ -7,6 +7,8 @@ pub mod Selection
 pub mod Node
 pub mod Search
 pub mod Density
+pub mod Encoder
+pub mod Home
 pub mod Walk
 pub mod Touched
 pub mod Found
@@ -27,6 +29,7 @@ pub mod Examples
 pub mod BorderRows
 pub mod BorderStart
 pub mod BorderMill
+pub mod BorderEncoder
 pub mod BorderNode
 pub mod BorderWalk
 pub mod BorderBurst

@@ -3,7 +3,7 @@ use mathlib.Core.Path.{_≡_, refl, sym, ap, ap₂, _∙_}
 use mathlib.Core.List.{List, [], _∷_, _++_, append-nil}
 use mathlib.Core.Logic.{_⊎_, inl, inr}
 use Prim.Native.Nat.{ℕ, zero, suc, _+_, _*_, _-_, _/_, _^_, _≤_, _<_}
-use native.Mathlib.Nat.{add-zero, zero-add, add-mul, mul-le-mul-right, mul-div-cancel, mul-add-div-right, div-eq-of-lt, div-mul-le-self, pow-succ'}
+use native.Mathlib.Nat.{add-zero, zero-add, mul-one, add-mul, mul-le-mul-right, mul-div-cancel, mul-add-div-right, div-eq-of-lt, div-mul-le-self, pow-succ'}
 use native.Mathlib.Decide.{decLt}
 use native.Mathlib.Omega.{arith}
 use lib.ListN.{length, take, drop, getD, length-append, List·getD-append}
@@ -104,6 +104,11 @@ within u p n k i l h = omega (arith, mul-le-mul-right u less)
   where
     less : suc (p + i) ≤ p + n
     less = omega arith
+
+-- a sample of unit 1 is its byte
+pub byte-sample : (l : List ℕ) (i : ℕ) → getD l i 0 ≡ sampleOf 1 l i
+unfolding sampleOf
+byte-sample l i = ap (λ (x : ℕ). getD l x 0) (sym (mul-one i)) ∙ sym (add-zero (getD l (i * 1) 0))
 
 pub sample-take : (u : ℕ) (b : List ℕ) (k i : ℕ) → suc i * u ≤ k → sampleOf u (take k b) i ≡ sampleOf u b i
 unfolding sampleOf

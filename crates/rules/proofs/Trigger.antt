@@ -17,13 +17,9 @@ use lib.Seq.{drop-cons}
 use borrow.Author.Tests.{eqb-true, eq-eqb}
 use Rattle.rules.specs.Sample.{line}
 use Rattle.rules.specs.Trigger.{Condition, rising, falling, edge, high, low, Term, Masks, noMasks, withLine, withTerm, withTerms, namedBy, bothAsEdge, masksOf, matches, fires, firstFire, lastOf}
-use Rattle.rules.proofs.Bits.{line-lt, two-cases, lines-ext, line-and, line-or, line-xor, or-zero, or-zero-left, or-zero-right}
+use Rattle.rules.proofs.Bits.{line-lt, line-zero, two-cases, lines-ext, power-has, power-only, line-and, line-or, line-xor, or-zero, or-zero-left, or-zero-right}
 
 -- ---- lines of masks
-line-zero : (k : ℕ) → line 0 k ≡ 0
-unfolding line
-line-zero k = ap (λ (z : ℕ). z % 2) (zero-div (2 ^ k))
-
 -- a mask with no line
 no-lines : (x : ℕ) → ((k : ℕ) → line x k ≡ 1 → ⊥) → x ≡ 0
 no-lines x h = lines-ext x 0 (λ k. clear k (decLt 0 (line x k)) ∙ sym (line-zero k))
@@ -31,36 +27,6 @@ no-lines x h = lines-ext x 0 (λ k. clear k (decLt 0 (line x k)) ∙ sym (line-z
     clear : (k : ℕ) → Dec (0 < line x k) → line x k ≡ 0
     clear k (yes d) = absurd (h k (omega (arith, line-lt x k)))
     clear k (no d) = omega arith
-
--- 2 ^ k has line k, and no other
-power-has : (k : ℕ) → line (2 ^ k) k ≡ 1
-unfolding line
-power-has k = ap (λ (z : ℕ). z % 2) (div-self (pow-pos k))
-
-power-only : (j k : ℕ) → line (2 ^ j) k ≡ 1 → k ≡ j
-unfolding line
-power-only j k e = go (decLt j k) (decLt k j)
-  where
-    below : j < k → 2 ^ j / 2 ^ k % 2 ≡ 0
-    below h = ap (λ (z : ℕ). z % 2) (div-eq-of-lt (pow-lt h))
-
-    above : k < j → 2 ^ j / 2 ^ k % 2 ≡ 0
-    above h =
-        ap (λ (n : ℕ). 2 ^ n / 2 ^ k % 2) split
-        ∙ ap (λ (n : ℕ). n / 2 ^ k % 2) (pow-add 2 (suc d) k)
-        ∙ ap (λ (n : ℕ). n % 2) (mul-div-cancel (2 ^ suc d) (pow-pos k) ∙ pow-suc 2 d)
-        ∙ mul-mod-left (2 ^ d) 2
-      where
-        d : ℕ
-        d = j - suc k
-
-        split : j ≡ suc d + k
-        split = omega arith
-
-    go : Dec (j < k) → Dec (k < j) → k ≡ j
-    go (yes h) d = absurd (omega (arith, below h))
-    go (no h) (yes l) = absurd (omega (arith, above l))
-    go (no h) (no l) = omega arith
 
 -- ---- what a condition asks of line k of v, which comes after p
 abbrev pub LineHolds : Condition → ℕ → ℕ → ℕ → Type 0

@@ -1,4 +1,4 @@
--- A range cut into parts of at least one sample. 02: CR 5.
+-- A range cut into parts of at least one sample. 02: CR 5, CR 6.
 -- A cutting a = c0 < c1 < … < cn = b, n ≥ 1, is a and the list of c1 to cn.
 use mathlib.Core.List.{List, [], _∷_}
 use Prim.Native.Nat.{ℕ, _+_, _-_, _<_}
@@ -14,10 +14,13 @@ abbrev pub cutEnd : ℕ → List ℕ → ℕ
 cutEnd a [] = a
 cutEnd a (c ∷ cs) = cutEnd c cs
 
--- what the parts have, added up: `part a b` is that of [a, b)
+-- what the parts have, added up by `plus` from `none` on: `part a b` is that of [a, b)
+abbrev pub partsBy : {A : Type 0} → A → (A → A → A) → (ℕ → ℕ → A) → ℕ → List ℕ → A
+partsBy none plus part a [] = none
+partsBy none plus part a (c ∷ cs) = plus (part a c) (partsBy none plus part c cs)
+
 abbrev pub partsSum : (ℕ → ℕ → ℕ) → ℕ → List ℕ → ℕ
-partsSum part a [] = 0
-partsSum part a (c ∷ cs) = part a c + partsSum part c cs
+partsSum part a cs = partsBy 0 (λ x y. x + y) part a cs
 
 -- "their borders": at how many of the places between two parts the sample differs from the one before it
 abbrev pub bordersSum : (ℕ → ℕ) → List ℕ → ℕ

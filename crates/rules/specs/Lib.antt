@@ -18,4 +18,5 @@ pub mod Wrong
 pub mod Start
 pub mod Ring
 pub mod Push
+pub mod Encoder
 pub mod Mill

@@ -7,7 +7,8 @@ use lib.Bits.{bitAnd}
 use lib.Dec.{ltb, eqb}
 use lib.IntN.{ℤ, pos, negsuc, subℕ}
 use Rattle.rules.specs.Burst.{Burst}
-use Rattle.rules.specs.Refusal.{Store, Lent, Row, firstOf, storeRows, getRow, copyRow}
+use Rattle.rules.specs.Refusal.{Store, Lent, Row, firstOf, storeRows, getRow, copyRow, topLine}
+use Rattle.rules.specs.Encoder.{pairMask, pairRow}
 
 -- ---- places
 -- "places count from the mark, negative before it (from the first sample if there is no mark)": the place that counts as 0
@@ -80,3 +81,10 @@ millSummaryRows mark a b = beforeRow mark a ∷ beforeRow mark b ∷ []
 
 abbrev pub millSummaryRefusal : Store → Lent → ℤ → ℤ → ℕ
 millSummaryRefusal st lent a b = firstOf (storeRows st lent (millSummaryRows (st .mark) a b))
+
+-- 02, CR 6: "It refuses with 14 ..; to a mill, a line beyond its grant is then 12."
+abbrev pub millEncoderRows : ℕ → ℕ → ℕ → List Row
+millEncoderRows grant a b = pairRow topLine a b ∷ beyondRow (beyond grant (pairMask a b)) ∷ []
+
+abbrev pub millEncoderRefusal : Store → Lent → ℕ → ℕ → ℕ → ℕ
+millEncoderRefusal st lent grant a b = firstOf (storeRows st lent (millEncoderRows grant a b))

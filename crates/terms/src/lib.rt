@@ -1,5 +1,7 @@
 // Trigger terms, the masks that they make, and when a sample fires.
 use lines::Mask;
+use lines::TOP_LINE;
+use lines::line_bit;
 ghost use mathlib.Core.Path.{_≡_};
 ghost use mathlib.Core.Bool.{Bool};
 ghost use Prim.Native.Nat.{_^_, _≤_};
@@ -42,9 +44,6 @@ pub enum Previous {
     Sample(Mask),
 }
 
-// The highest line of a sample.
-const TOP_LINE: u8 = 15;
-
 impl Terms {
     // No term yet.
     pub fn none() -> Terms
@@ -84,14 +83,6 @@ impl Terms {
             masks: added,
         }
     }
-}
-
-// The mask of one line.
-fn line_bit(line: u8) -> Mask
-    requires { ⌜ line ≤ 15 ⌝ }
-    ensures { λ r. ⌜ r ≡ 2 ^ line ⌝ }
-{
-    1u16 << line
 }
 
 impl Masks {

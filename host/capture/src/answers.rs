@@ -80,6 +80,33 @@ pub struct Burst<Place = usize> {
     pub jumps_at_start: usize,
 }
 
+/// How an encoder has turned from the first sample of a capture to the last.
+///
+/// Its lines A and B go round (A, B) = 00, 10, 11, 01, 00 forward, and the other way round backward. The three counts add up
+/// to the places at which a line of the two changes.
+///
+/// ```
+/// use capture::{Capture, Encoder};
+///
+/// let mut capture = Capture::start(8, 1000)?;
+/// // Line 0 is A and line 1 is B: a round forward, and two steps back.
+/// capture.append(&[0b00, 0b01, 0b11, 0b10, 0b00, 0b10, 0b11])?;
+/// let turned = Encoder { position: 2, forward: 4, backward: 2, skipped: 0 };
+/// assert_eq!(capture.encoder(0, 1)?, turned);
+/// # Ok::<(), capture::Refusal>(())
+/// ```
+#[derive(Clone, Copy, Debug, Default, PartialEq, Eq, Hash)]
+pub struct Encoder {
+    /// Where it is at the end, from 0 at the first sample: `forward` less `backward`.
+    pub position: i64,
+    /// Its steps forward.
+    pub forward: usize,
+    /// Its steps backward.
+    pub backward: usize,
+    /// How often both lines changed in one sample. It may have gone either way then, so it counts as not moved.
+    pub skipped: usize,
+}
+
 /// The stretch of a capture that is drawn.
 #[derive(Clone, Copy, Debug, PartialEq)]
 pub struct View {

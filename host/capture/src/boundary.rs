@@ -7,7 +7,7 @@
 
 use crate::memory::Memory;
 use crate::mode::DefaultMode;
-use crate::{Burst, Counted, Extent, Lines, MillNode, Node, Refusal};
+use crate::{Burst, Counted, Encoder, Extent, Lines, MillNode, Node, Refusal};
 
 /// The record of a capture; [`record`] says which number is which.
 pub type Record = [usize; 5];
@@ -189,6 +189,22 @@ pub fn burst_at(
     counted(code, burst, read)
 }
 
+/// What an encoder's call says, with what it wrote.
+fn turned(code: u32, position: i64, counts: [usize; 3]) -> Result<Encoder, Refusal> {
+    answered(code).map(|_| Encoder {
+        position,
+        forward: counts[out::ENCODER_FORWARD],
+        backward: counts[out::ENCODER_BACKWARD],
+        skipped: counts[out::ENCODER_SKIPPED],
+    })
+}
+
+pub fn encoder(record: &Record, memory: &Memory, a: usize, b: usize) -> Result<Encoder, Refusal> {
+    let (mut position, mut counts) = (0, [0; 3]);
+    let code = call!(lc_encoder, (record), memory.as_ptr, (a, b, &mut position, &mut counts));
+    turned(code, position, counts)
+}
+
 /// Two numbers of the output for each pixel.
 pub fn render(
     record: &Record,
@@ -277,6 +293,19 @@ pub fn mill_burst_at(
     );
     let (jumps_at_end, jumps_at_start) = (jumps[out::MILL_JUMPS_END], jumps[out::MILL_JUMPS_START]);
     counted(code, Burst { first, last, jumps_at_end, jumps_at_start }, read)
+}
+
+pub fn mill_encoder(
+    record: &Record,
+    memory: &Memory,
+    grant: Lines,
+    a: usize,
+    b: usize,
+) -> Result<Encoder, Refusal> {
+    let (mut position, mut counts) = (0, [0; 3]);
+    let code =
+        call!(lc_mill_encoder, (record), memory.as_ptr, (grant, a, b, &mut position, &mut counts));
+    turned(code, position, counts)
 }
 
 /// Two numbers of the output for each pixel.

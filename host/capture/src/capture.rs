@@ -2,7 +2,9 @@
 
 use crate::boundary::{self, record, Record};
 use crate::memory::{Memory, Needs};
-use crate::{Burst, Changes, Counted, Lines, Node, Pixel, Refusal, View, WrongNode, MOST_PIXELS};
+use crate::{
+    Burst, Changes, Counted, Encoder, Lines, Node, Pixel, Refusal, View, WrongNode, MOST_PIXELS,
+};
 use std::fmt;
 
 /// Samples of up to sixteen lines in order, with the tree of summaries over them by which questions hop.
@@ -262,6 +264,34 @@ impl Capture {
     ) -> Counted<Burst> {
         let bounds = [max_gap, tolerance, budget];
         answer(boundary::burst_at(&self.record, &self.memory, mask, sample, bounds))
+    }
+
+    /// How an encoder with the lines `a` and `b` has turned, over the whole capture: its position from 0, and its steps
+    /// forward, backward and skipped, as [`Encoder`] says.
+    ///
+    /// The samples in reverse order give the opposite position, so that what turned forward and back in the same way has come
+    /// home, to 0. Where both lines change in one sample it does not move, and the next step is one from there:
+    ///
+    /// ```
+    /// use capture::{Capture, Encoder, Refusal};
+    ///
+    /// let mut capture = Capture::start(8, 1000)?;
+    /// capture.append(&[0b00, 0b11, 0b01])?;
+    /// let turned = Encoder { position: -1, forward: 0, backward: 1, skipped: 1 };
+    /// assert_eq!(capture.encoder(0, 1)?, turned);
+    /// // The way back.
+    /// capture.append(&[0b11, 0b00])?;
+    /// let home = Encoder { position: 0, forward: 1, backward: 1, skipped: 2 };
+    /// assert_eq!(capture.encoder(0, 1)?, home);
+    ///
+    /// assert_eq!(capture.encoder(1, 1), Err(Refusal::EncoderLines));
+    /// # Ok::<(), Refusal>(())
+    /// ```
+    ///
+    /// Refuses with [`Refusal::EncoderLines`] where the lines are equal or one is above 15. One that the samples lack, 8 to
+    /// 15 where they have one byte, is low throughout.
+    pub fn encoder(&self, a: usize, b: usize) -> Result<Encoder, Refusal> {
+        boundary::encoder(&self.record, &self.memory, a, b)
     }
 
     /// Draws `width` pixels of a view, all lines at once. A pixel without samples is 0, 0.

@@ -28,7 +28,8 @@
 //! ```
 //!
 //! Places count samples from 0. A mask has bit k for line k. Searches say beside what they found how many nodes they read
-//! ([`Counted`]). [`Capture::density`] says how many changes a stretch has.
+//! ([`Counted`]). [`Capture::density`] says how many changes a stretch has, and [`Capture::encoder`] how far an encoder has
+//! turned.
 //!
 //! [`Capture::mill`] gives a [`Mill`], a reader that sees some lines only and counts places from the mark.
 //!
@@ -50,7 +51,7 @@ mod recorder;
 mod refusal;
 mod settings;
 
-pub use answers::{Burst, Counted, Extent, MillNode, Node, Pixel, View, WrongNode};
+pub use answers::{Burst, Counted, Encoder, Extent, MillNode, Node, Pixel, View, WrongNode};
 pub use capture::Capture;
 pub use changes::Changes;
 pub use memory::Needs;

@@ -2,7 +2,9 @@
 
 use crate::boundary::{self, record, Record};
 use crate::memory::Memory;
-use crate::{Burst, Capture, Counted, Extent, Lines, MillNode, Pixel, Refusal, View, MOST_PIXELS};
+use crate::{
+    Burst, Capture, Counted, Encoder, Extent, Lines, MillNode, Pixel, Refusal, View, MOST_PIXELS,
+};
 use std::fmt;
 
 /// A reader of a capture that sees some of its lines, its grant, and nothing of the others.
@@ -244,6 +246,25 @@ impl Mill<'_> {
     ) -> Result<Counted<Burst<i64>>, Refusal> {
         let bounds = [max_gap, tolerance, budget];
         boundary::mill_burst_at(&self.record, self.memory, self.grant, mask, sample, bounds)
+    }
+
+    /// How an encoder with the lines `a` and `b` has turned, from the first sample on, as [`Capture::encoder`] says. Refuses
+    /// with [`Refusal::EncoderLines`] as that does, and then with [`Refusal::Grant`] a line beyond the grant.
+    ///
+    /// ```
+    /// use capture::{Capture, Encoder, Refusal};
+    ///
+    /// let mut capture = Capture::start(8, 1000)?;
+    /// capture.append(&[0b000, 0b101, 0b111, 0b011])?;
+    /// let mill = capture.mill_with_mark(0b011, 2).unwrap();
+    /// let turned = Encoder { position: 2, forward: 2, backward: 0, skipped: 0 };
+    /// assert_eq!(mill.encoder(0, 1)?, turned);
+    /// assert_eq!(mill.encoder(2, 2), Err(Refusal::EncoderLines));
+    /// assert_eq!(mill.encoder(0, 2), Err(Refusal::Grant));
+    /// # Ok::<(), Refusal>(())
+    /// ```
+    pub fn encoder(&self, a: usize, b: usize) -> Result<Encoder, Refusal> {
+        boundary::mill_encoder(&self.record, self.memory, self.grant, a, b)
     }
 
     /// Draws `width` pixels of a view, all granted lines at once. A pixel without samples is 0, 0, and the view may

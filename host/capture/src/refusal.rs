@@ -43,14 +43,16 @@ pub enum Refusal {
     View,
     /// 11: more than [`MOST_PIXELS`](crate::MOST_PIXELS) pixels.
     Width,
-    /// 12: a [`Mill`](crate::Mill)'s search or burst has a line beyond its grant in its mask.
+    /// 12: a [`Mill`](crate::Mill)'s search or burst has a line beyond its grant in its mask, or its encoder has one.
     Grant,
     /// 13: a [`Mill`](crate::Mill)'s place is before the first sample.
     Before,
+    /// 14: an encoder's two lines are equal, or one is above 15.
+    EncoderLines,
 }
 
 /// Each refusal at its number less 1, with its words.
-const WORDS: [(Refusal, &str); 13] = [
+const WORDS: [(Refusal, &str); 14] = [
     (Refusal::Capacity, "a capacity is 1 to 67108864 samples"),
     (Refusal::Memory, "lent memory is too short"),
     (Refusal::Line, "a trigger's lines are 0 to 15"),
@@ -65,12 +67,13 @@ const WORDS: [(Refusal, &str); 13] = [
     (Refusal::Place, "there is no sample at that place"),
     (Refusal::View, "a view's start and samples per pixel are finite numbers"),
     (Refusal::Width, "at most 65536 pixels are drawn at once"),
-    (Refusal::Grant, "the mask has a line beyond the grant"),
+    (Refusal::Grant, "a line is beyond the grant"),
     (Refusal::Before, "the place is before the first sample"),
+    (Refusal::EncoderLines, "an encoder's two lines are 0 to 15, and not the same"),
 ];
 
 impl Refusal {
-    /// The refusal's number in the library's header, 1 to 13.
+    /// The refusal's number in the library's header, 1 to 14.
     pub fn number(self) -> u32 {
         self as u32 + 1
     }
@@ -100,7 +103,7 @@ mod tests {
             assert_eq!(refusal as usize, index);
             assert_eq!(Refusal::of_number(refusal.number()), Some(refusal));
         }
-        for number in [0, 14, 100, u32::MAX] {
+        for number in [0, 15, 100, u32::MAX] {
             assert_eq!(Refusal::of_number(number), None);
         }
     }

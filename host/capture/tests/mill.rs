@@ -4,8 +4,8 @@
 mod plain;
 
 use capture::{
-    Burst, Capture, Condition, Counted, Extent, Lines, Mill, MillNode, Pixel, Recorder, Refusal,
-    Settings, View, Wish, MOST_PIXELS,
+    Burst, Capture, Condition, Counted, Encoder, Extent, Lines, Mill, MillNode, Pixel, Recorder,
+    Refusal, Settings, View, Wish, MOST_PIXELS,
 };
 use plain::walk::Walk;
 use plain::Rng;
@@ -42,6 +42,16 @@ fn mask(rng: &mut Rng, grant: Lines) -> Lines {
         2 => 1 << rng.below(16),
         _ => grant & rng.number() as Lines,
     }
+}
+
+/// Two lines of an encoder, of which one may be none, or both the same.
+fn encoder_lines(rng: &mut Rng) -> (usize, usize) {
+    let mut line = || match rng.below(8) {
+        0 => rng.pick(&[16, 64, usize::MAX]),
+        1 => rng.below(16),
+        _ => rng.below(3),
+    };
+    (line(), line())
 }
 
 fn view(rng: &mut Rng, len: usize) -> View {
@@ -102,6 +112,16 @@ fn ask(rng: &mut Rng, s: &[Lines], mill: Mill, mark: Option<usize>, times: usize
         let asked = mill.burst_at(mask, a, gap, tolerance, budget);
         assert_eq!(asked, burst, "burst {mask} {a} {gap} {tolerance} {budget}");
 
+        let (line_a, line_b) = encoder_lines(rng);
+        let turned = if line_a == line_b || line_a > 15 || line_b > 15 {
+            Err(Refusal::EncoderLines)
+        } else if (1 << line_a | 1 << line_b) & !grant != 0 {
+            Err(Refusal::Grant)
+        } else {
+            Ok(plain::encoder(s, line_a, line_b))
+        };
+        assert_eq!(mill.encoder(line_a, line_b), turned, "encoder {line_a} {line_b}");
+
         let (view, width) = (view(rng, len), rng.below(20));
         let pixels = plain::render_from(s, origin, view, width);
         let cut = |p: &Pixel| Pixel { first: p.first & grant, toggles: p.toggles & grant };
@@ -160,7 +180,9 @@ fn told(mill: Mill, seed: u64) -> String {
         write!(told, "{:?} {:?}", mill.get(a), mill.samples(a, count)).unwrap();
         write!(told, "{:?} {:?}", mill.summary(a, b), mill.render(view, width)).unwrap();
         write!(told, "{:?} {:?}", mill.next_change(mask, a), mill.prev_change(mask, a)).unwrap();
-        write!(told, "{:?}", mill.burst_at(mask, a, count, 9, 3)).unwrap();
+        let (line_a, line_b) = encoder_lines(&mut rng);
+        let (burst, turned) = (mill.burst_at(mask, a, count, 9, 3), mill.encoder(line_a, line_b));
+        write!(told, "{burst:?} {turned:?}").unwrap();
     }
     told
 }
@@ -214,6 +236,17 @@ fn refusals_and_their_order() {
     let view = View { start: -9.0, spp: 1.0 };
     assert_eq!(mill.render(view, MOST_PIXELS + 1), Err(Refusal::Width));
     assert_eq!(mill.render(view, 1), Ok(vec![Pixel::default()]));
+    // Lines that are no encoder's are refused ahead of the grant, and no place is.
+    for (a, b) in [(0, 0), (1, 1), (9, 9), (0, 16), (16, 0), (1, 16), (usize::MAX, 0)] {
+        assert_eq!(mill.encoder(a, b), Err(Refusal::EncoderLines));
+    }
+    for (a, b) in [(0, 1), (1, 0), (2, 3), (0, 15)] {
+        assert_eq!(mill.encoder(a, b), Err(Refusal::Grant));
+    }
+    // A step forward, a skip and a step backward, wherever the mark is.
+    let turned = Encoder { position: 0, forward: 1, backward: 1, skipped: 1 };
+    assert_eq!(capture.mill(0b11).encoder(0, 1), Ok(turned));
+    assert_eq!(capture.mill_with_mark(0b11, 2).unwrap().encoder(0, 1), Ok(turned));
     let mut output = [9; 3];
     assert_eq!(mill.samples_to(1, &mut output), Ok(1));
     assert_eq!(output, [1, 9, 9]);

@@ -4,7 +4,7 @@ use crate::args::Args;
 use crate::failure::{bad, Failure};
 use crate::lines;
 use crate::recording::Recording;
-use capture::{Burst, Counted, Lines, Mill, MillNode, Node, Pixel, Refusal, View};
+use capture::{Burst, Counted, Encoder, Lines, Mill, MillNode, Node, Pixel, Refusal, View};
 
 /// A place as its reader counts. It holds those of both readers, and sums of them.
 pub type Place = i128;
@@ -52,7 +52,7 @@ impl<'a> Reader<'a> {
         }
     }
 
-    /// Refuses lines beyond the grant. The library does so of searches alone; elsewhere it would show them as 0.
+    /// Refuses lines beyond the grant. The library does so of searches and encoders alone; elsewhere it would show them as 0.
     pub fn may_see(&self, mask: Lines) -> Result<(), Refusal> {
         match self {
             Reader::Mill(mill) if mask & !mill.grant() != 0 => Err(Refusal::Grant),
@@ -154,6 +154,13 @@ impl<'a> Reader<'a> {
                 .burst_at(mask, from_mark(sample), max_gap, tolerance, budget)?
                 .map(|burst| placed(burst, Place::from)),
         })
+    }
+
+    pub fn encoder(&self, a: u8, b: u8) -> Result<Encoder, Refusal> {
+        match self {
+            Reader::Service(recording) => recording.capture.encoder(a.into(), b.into()),
+            Reader::Mill(mill) => mill.encoder(a.into(), b.into()),
+        }
     }
 
     pub fn render(&self, view: View, width: usize) -> Result<Vec<Pixel>, Refusal> {

@@ -80,6 +80,35 @@ fn what_is_wrong_is_said() {
             "density a.cap --svg no/x.svg",
             " density: no/x.svg: No such file or directory (os error 2)",
         ),
+        ("encoder a.cap", " encoder: --a LINE is missing; see --help"),
+        ("encoder a.cap --a 0", " encoder: --b LINE is missing; see --help"),
+        ("encoder a.cap --b 0", " encoder: --a LINE is missing; see --help"),
+        ("encoder --a 0 --b 1", " encoder: which file? - is standard input"),
+        (
+            "encoder a.cap --a 1 --b 1",
+            " encoder: --a 1 --b 1: refused, 14: an encoder's two lines are 0 to 15, and not the same",
+        ),
+        ("encoder a.cap --a 8 --b 1", " encoder: --a 8: '8' is no line: lines are 0 to 7"),
+        ("encoder a.cap --a 0 --b 16", " encoder: --b 16: '16' is no line: lines are 0 to 7"),
+        (
+            "encoder empty --unit 2 --a 16 --b 1",
+            " encoder: --a 16: '16' is no line: lines are 0 to 15",
+        ),
+        ("encoder a.cap --a 0-1 --b 1", " encoder: --a 0-1: '0-1' is no line: lines are 0 to 7"),
+        ("encoder a.cap --a -1 --b 1", " encoder: --a -1: '-1' is no line: lines are 0 to 7"),
+        ("encoder a.cap --a 0 --a 1", " encoder: --a is given twice"),
+        (
+            "encoder a.cap --a 0 --b 1 --steps-per-turn 0",
+            " encoder: --steps-per-turn 0: a turn has 1 step or more",
+        ),
+        (
+            "encoder a.cap --a 0 --b 1 --steps-per-turn 0.5",
+            " encoder: --steps-per-turn 0.5: not a whole number",
+        ),
+        (
+            "encoder a.cap --a 0 --b 1 --from 1",
+            " encoder: there is no option '--from'; see --help",
+        ),
         ("render a.cap --width 0", " render: --width 0: a width is 1 to 65535"),
         ("render a.cap --width 65536", " render: --width 65536: a width is 1 to 65535"),
         ("render a.cap --spp 1", " render: --spp goes with --pixels"),
@@ -134,6 +163,7 @@ fn garbage_is_answered_or_refused() {
         "render",
         "check",
         "density",
+        "encoder",
         "help",
         "--help",
         "-h",
@@ -173,6 +203,11 @@ fn garbage_is_answered_or_refused() {
         "--read",
         "--width",
         "--parts",
+        "--a",
+        "--b",
+        "--a=0",
+        "--b=1",
+        "--steps-per-turn",
         "--spp",
         "--start",
         "-1e308",
@@ -206,7 +241,7 @@ fn garbage_is_answered_or_refused() {
     ];
     let mut rng = Rng(9);
     for _ in 0..600 {
-        let mut line = vec![words[rng.below(11)]];
+        let mut line = vec![words[rng.below(12)]];
         line.extend((0..rng.below(7)).map(|_| rng.pick(&words)));
         let run = folder.run_words(&line, &[0, 1, 0, 1]);
         assert!((0..=2).contains(&run.status), "{line:?} {}", run.err);

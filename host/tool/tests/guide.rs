@@ -1,4 +1,4 @@
-//! The commands of docs/GUIDE.md print what it says, and its tables hold.
+//! The commands of docs/GUIDE.md print what it says, its C stands in the example, and its tables hold.
 
 mod common;
 
@@ -45,6 +45,20 @@ fn each_command_prints_what_the_guide_says() {
     }
 }
 
+/// `examples/c/run` compiles and runs the example.
+#[test]
+fn the_c_of_the_guide_stands_in_the_example() {
+    let example = include_str!("../../../examples/c/turner.c");
+    let mut blocks = GUIDE.split("```c\n").skip(1).peekable();
+    assert!(blocks.peek().is_some());
+    for block in blocks {
+        let (block, _) = block.split_once("```").unwrap();
+        for line in block.lines() {
+            assert!(example.lines().any(|other| other.trim() == line.trim()), "{line}");
+        }
+    }
+}
+
 /// The rows of the table with this heading, as their cells.
 fn rows(heading: &str) -> Vec<Vec<&'static str>> {
     let mut lines = GUIDE.lines().skip_while(|line| !line.starts_with(heading));
@@ -85,6 +99,7 @@ fn refusals_say_what_the_guide_says() {
         Refusal::Width,
         Refusal::Grant,
         Refusal::Before,
+        Refusal::EncoderLines,
     ];
     let rows = rows("| No. |");
     assert_eq!(rows.len(), refusals.len());

@@ -5,9 +5,12 @@ mod common;
 mod plain;
 
 use capture::{Burst, View};
-use common::{Folder, Run};
+use common::{turned, Folder, Run};
 use plain::walk::Walk;
 use plain::Rng;
+
+/// What is said of a line beyond the grant.
+const BEYOND: &str = "refused, 12: a line is beyond the grant";
 
 /// A capture file with a mark.
 fn file(unit: usize, mark: Option<usize>, s: &[u16]) -> Vec<u8> {
@@ -75,6 +78,12 @@ fn answers_are_those_of_plain_scans_moved_and_cut() {
         let how = format!("--at {from} --gap {gap} --tolerance {tolerance} --budget {budget}");
         folder.search(&format!("burst {how} {asked}"), burst);
 
+        let (line_a, line_b) = if seen == 0x202 { (9, 1) } else { (4, 0) };
+        let still = walk.next_change(1 << line_a | 1 << line_b, 0).found.is_none();
+        let run = folder.run(&format!("encoder --a {line_a} --b {line_b} {asked}"));
+        let out = turned(plain::encoder(s, line_a, line_b));
+        assert_eq!(run, Run { status: still.into(), out, err: String::new() });
+
         let node = plain::summary(s, a, b);
         let node = node.map(|node| [node.first, node.last, node.toggles].map(number));
         ask(&folder, &format!("summary --from {from} --to {to} {asked}"), &text(node));
@@ -141,10 +150,16 @@ fn files_alike_in_granted_lines_give_the_same() {
         "check",
         "density",
         "density --parts 2",
+        "encoder --a 0 --b 2",
+        "encoder --a 2 --b 0 --steps-per-turn 3",
+        "encoder --a 0 --b 1",
+        "encoder --a 0 --b 9",
+        "encoder --a 9 --b 9",
+        "encoder --a 0 --b 16",
     ] {
         let [one, two] = ["one", "two"].map(|name| {
             let run = folder.run(&format!("{line} --grant 0,2 {name}.cap"));
-            Run { err: run.err.replace(name, ""), ..run }
+            Run { err: run.err.replace(&format!("{name}.cap"), ""), ..run }
         });
         assert_eq!(one, two, "{line}");
     }
@@ -177,7 +192,6 @@ fn a_mill_and_what_it_is_shown() {
 #[test]
 fn what_a_mill_may_not_ask_is_refused() {
     let folder = alike("mill-refused");
-    let beyond = "refused, 12: the mask has a line beyond the grant";
     let before = "refused, 13: the place is before the first sample";
     for (command, place) in [
         ("next", "--from"),
@@ -196,11 +210,21 @@ fn what_a_mill_may_not_ask_is_refused() {
         // 12 comes first.
         let line = format!("{command} --grant 0,2 --lines 1,2 {place} -4 one.cap");
         let said = folder.run(&line).bad();
-        assert_eq!(said, format!("logic-capture {name}: --lines 1,2: {beyond}"));
+        assert_eq!(said, format!("logic-capture {name}: --lines 1,2: {BEYOND}"));
         for place_text in ["-4", "mark-4", "end-9", "-9223372036854775809"] {
             let said = folder.run(&format!("{command} --grant 0 {place} {place_text} one.cap"));
             assert_eq!(said.bad(), format!("logic-capture {name}: {place} {place_text}: {before}"));
         }
+    }
+    for lines in ["--a 0 --b 1", "--a 1 --b 2", "--a 15 --b 0"] {
+        let said = folder.run(&format!("encoder --grant 0,2 {lines} one.cap")).bad();
+        assert_eq!(said, format!("logic-capture encoder: {lines}: {BEYOND}"));
+    }
+    // 14 comes ahead of 12.
+    let equal = "refused, 14: an encoder's two lines are 0 to 15, and not the same";
+    for lines in ["--a 0 --b 0", "--a 1 --b 1", "--a 15 --b 15"] {
+        let said = folder.run(&format!("encoder --grant 0,2 {lines} one.cap")).bad();
+        assert_eq!(said, format!("logic-capture encoder: {lines}: {equal}"));
     }
     for (line, what) in [
         (
@@ -216,6 +240,10 @@ fn what_a_mill_may_not_ask_is_refused() {
             " record: --grant: raw samples are not given to mills",
         ),
         ("demo --grant 0", " demo: there is no option '--grant'; see --help"),
+        (
+            "encoder --grant 0,2 --a 16 --b 0 one.cap",
+            " encoder: --a 16: '16' is no line: lines are 0 to 15",
+        ),
         ("next --grant 16 one.cap", " next: --grant 16: '16' is no line: lines are 0 to 15"),
         ("next --grant 0 --grant 1 one.cap", " next: --grant is given twice"),
         (

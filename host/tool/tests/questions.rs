@@ -5,7 +5,7 @@ mod common;
 mod plain;
 
 use capture::{Burst, Lines, View};
-use common::{Folder, Run};
+use common::{turned, Folder, Run};
 use plain::walk::Walk;
 use plain::Rng;
 use std::fmt::Write as _;
@@ -107,6 +107,12 @@ fn answers_are_those_of_plain_scans() {
         });
         let asked = format!("--at {a} --gap {gap} --tolerance {tolerance} --budget {budget}");
         folder.search(&format!("burst {lines} {asked} {file}"), burst);
+
+        let (line_a, line_b) = (rng.below(4), 4 + rng.below(8 * unit - 4));
+        let still = walk.next_change(1 << line_a | 1 << line_b, 0).found.is_none();
+        let run = folder.run(&format!("encoder --a {line_a} --b {line_b} {file}"));
+        let out = turned(plain::encoder(s, line_a, line_b));
+        assert_eq!(run, Run { status: still.into(), out, err: String::new() });
 
         let node = plain::summary(s, a, b);
         let node = node
@@ -291,6 +297,46 @@ fn a_long_capture_has_a_hundred_parts_in_its_picture() {
     let picture = folder.run("density --svg - --unit 1 a.bin").yes();
     assert_eq!(picture.matches("<title>").count(), 100);
     assert_eq!(folder.run("density --unit 1 a.bin").yes(), "14285\n");
+}
+
+#[test]
+fn how_far_an_encoder_has_turned() {
+    let folder = saved("questions-encoder");
+    let ask = |line: &str, samples: &[u8]| folder.run_on(&format!("encoder {line} -"), samples);
+    let raw = "--unit 1 --a 0 --b 1";
+    let forward = "position 4 forward 4 backward 0 skipped 0\n";
+    assert_eq!(ask(raw, &[0, 1, 3, 2, 0]).yes(), forward);
+    let backward = "position -4 forward 0 backward 4 skipped 0\n";
+    assert_eq!(ask(raw, &[0, 2, 3, 1, 0]).yes(), backward);
+    assert_eq!(ask("--unit 1 --a 1 --b 0", &[0, 1, 3, 2, 0]).yes(), backward);
+    // A skip, and a step backward from there.
+    let skip = "position -1 forward 0 backward 1 skipped 1\n";
+    assert_eq!(ask(raw, &[0, 3, 1]).yes(), skip);
+    // Where neither line changes it has not moved, which is a no.
+    for still in [&[][..], &[3], &[3, 7, 3]] {
+        let out = "position 0 forward 0 backward 0 skipped 0\n".into();
+        assert_eq!(ask(raw, still), Run { status: 1, out, err: String::new() });
+    }
+
+    // A capture file is read from its first sample on, and not from its mark.
+    let all = "position 2 forward 3 backward 1 skipped 0\n";
+    assert_eq!(folder.run("encoder --a 1 --b 0 a.cap").yes(), all);
+    assert_eq!(folder.run("encoder --grant 0,1 --a 1 --b 0 a.cap").yes(), all);
+    assert_eq!(folder.run_on("encoder --a 1 --b 0 -", SAVED).yes(), all);
+
+    // Turns stand behind, as a decimal.
+    let turns = |steps: &str, samples: &[u8]| {
+        let out = ask(&format!("{raw} --steps-per-turn {steps}"), samples).yes();
+        out.trim_end().rsplit_once(" turns ").unwrap().1.to_string()
+    };
+    assert_eq!(turns("4", &[0, 1, 3, 2, 0]), "1");
+    assert_eq!(turns("8", &[0, 1, 3, 2, 0]), "0.5");
+    assert_eq!(turns("400", &[0, 2, 3, 1, 0]), "-0.01");
+    assert_eq!(turns("3", &[0, 1]), "0.3333333333333333");
+    assert_eq!(turns("400", &[0, 1, 0]), "0");
+    let line = format!("{raw} --steps-per-turn 400");
+    let out = "position 0 forward 0 backward 0 skipped 0 turns 0\n".into();
+    assert_eq!(ask(&line, &[]), Run { status: 1, out, err: String::new() });
 }
 
 #[test]

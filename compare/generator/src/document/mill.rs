@@ -1,6 +1,6 @@
-//! A mill's reader by CR 1: the rules over the run cut down to granted lines, at places that count from the mark.
+//! A mill's reader by CR 1 and CR 6: the rules over the run cut down to granted lines, at places that count from the mark.
 
-use super::{listed, optional, refusals, rules};
+use super::{listed, optional, refusals, rules, turned};
 use crate::op::{Ask, Burst, Mill};
 use crate::side::Answer;
 
@@ -51,6 +51,10 @@ pub fn answer(s: &[u16], mark: Option<u64>, &Mill { grant, ask }: &Mill) -> Answ
         Ask::Render(view) => {
             refusals::render(&view)?;
             listed(&rules::render_from(&seen, origin, &view))
+        }
+        Ask::Encoder { a, b } => {
+            refusals::mill_encoder(grant, a, b)?;
+            turned(rules::encoder(&seen, a, b))
         }
     })
 }

@@ -9,6 +9,7 @@ use crate::feed::to_bytes;
 use crate::node::{joined, span, Node, NUMBERS};
 use crate::op::{Lent, Op, Recorder, Settings, Store, Wish};
 use crate::side::{Answer, Side};
+use rules::Turns;
 
 #[derive(Default)]
 pub struct Document {
@@ -131,6 +132,10 @@ impl Document {
             Op::RenderDigest(view) => {
                 refusals::render(view)?;
                 vec![digest(rules::render(s, view).into_iter().map(u64::from))]
+            }
+            Op::Encoder { a, b } => {
+                refusals::encoder(*a, *b)?;
+                turned(rules::encoder(s, *a, *b))
             }
             Op::Mill(mill) => return mill::answer(s, self.store.mark, mill),
             _ => unreachable!("no question: {op:?}"),
@@ -259,6 +264,12 @@ pub fn optional<const N: usize>(found: Option<[u64; N]>) -> Vec<u64> {
         None => vec![0],
         Some(values) => [1].into_iter().chain(values).collect(),
     }
+}
+
+/// A position below 0 stands as the number that its 64 bits make.
+pub fn turned(turns: Turns) -> Vec<u64> {
+    let Turns { position, forward, backward, skipped } = turns;
+    vec![position as u64, forward, backward, skipped]
 }
 
 pub fn listed(numbers: &[u16]) -> Vec<u64> {

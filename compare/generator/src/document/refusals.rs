@@ -68,6 +68,17 @@ pub fn push(s: &Store, r: &Recorder, lent: &Lent) -> Result<(), u64> {
     first(&[(1, &|| row_1(s) || row_1_of_recorder(s, r)), (2, &|| row_2(s, lent, r.pre * s.unit))])
 }
 
+/// An encoder's lines, after the rows of every call.
+pub fn encoder(a: u64, b: u64) -> Result<(), u64> {
+    first(&[(14, &|| a == b || a > 15 || b > 15)])
+}
+
+/// The same to a mill; a line beyond its grant is then 12.
+pub fn mill_encoder(grant: u16, a: u64, b: u64) -> Result<(), u64> {
+    encoder(a, b)?;
+    first(&[(12, &|| grant >> a & 1 == 0 || grant >> b & 1 == 0)])
+}
+
 /// A render, after the rows of every call.
 pub fn render(view: &View) -> Result<(), u64> {
     first(&[

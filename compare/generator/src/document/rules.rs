@@ -1,4 +1,4 @@
-//! Document 01's rules, and CR 4 and CR 5 of document 02, as plain scans over all samples: no levels, no ring, no cut into
+//! Document 01's rules, and CR 4 to CR 6 of document 02, as plain scans over all samples: no levels, no ring, no cut into
 //! pushes. Written from the documents and not from the Rust, which is compared with them.
 
 use crate::op::{Burst, Condition, Settings, Term, View, Wish};
@@ -46,6 +46,45 @@ pub fn summary(s: &[u16], a: u64, b: u64) -> Option<[u16; 3]> {
 pub fn density(s: &[u16], a: u64, b: u64) -> u64 {
     let places = a.saturating_add(1)..b.min(s.len() as u64);
     places.filter(|&i| changes(s, i, 0xFFFF)).count() as u64
+}
+
+/// What an encoder's two lines come to.
+#[derive(Clone, Copy, Debug, Default, PartialEq)]
+pub struct Turns {
+    pub position: i64,
+    pub forward: u64,
+    pub backward: u64,
+    pub skipped: u64,
+}
+
+/// Where lines A and B of a sample stand in the order 00, 10, 11, 01.
+fn quarter(sample: u16, a: u64, b: u64) -> u64 {
+    match (sample >> a & 1, sample >> b & 1) {
+        (0, 0) => 0,
+        (1, 0) => 1,
+        (1, 1) => 2,
+        _ => 3,
+    }
+}
+
+/// From sample to sample, one on in the order is forward and one back backward; two is both lines changing, a skip.
+pub fn encoder(s: &[u16], a: u64, b: u64) -> Turns {
+    let mut turns = Turns::default();
+    for pair in s.windows(2) {
+        match (quarter(pair[1], a, b) + 4 - quarter(pair[0], a, b)) % 4 {
+            0 => {}
+            1 => {
+                turns.forward += 1;
+                turns.position += 1;
+            }
+            2 => turns.skipped += 1,
+            _ => {
+                turns.backward += 1;
+                turns.position -= 1;
+            }
+        }
+    }
+    turns
 }
 
 /// First and last change, then the jumps made at the end and at the start.
@@ -211,4 +250,40 @@ pub fn select(settings: &Settings, pre: u64, all: &[u16]) -> Run {
     let longest = if settings.limit == 0 { u64::MAX } else { settings.limit };
     let len = ((all.len() - start) as u64).min(longest);
     Run { start, end: start + len as usize, mark, fired }
+}
+
+#[cfg(test)]
+mod tests {
+    use super::*;
+    use crate::shapes::each_short;
+
+    fn turns(s: &[u16]) -> [i64; 4] {
+        let Turns { position, forward, backward, skipped } = encoder(s, 0, 1);
+        [position, forward as i64, backward as i64, skipped as i64]
+    }
+
+    #[test]
+    fn an_encoder_turns_in_the_order_of_its_lines() {
+        assert_eq!(turns(&[0, 1, 3, 2, 0]), [4, 4, 0, 0]);
+        assert_eq!(turns(&[0, 2, 3, 1, 0]), [-4, 0, 4, 0]);
+        assert_eq!(turns(&[0, 3, 1]), [-1, 0, 1, 1]);
+        assert_eq!(turns(&[0, 3, 2, 1, 5]), [1, 1, 0, 2]);
+        assert_eq!(turns(&[2]), [0; 4]);
+        assert_eq!(turns(&[]), [0; 4]);
+    }
+
+    /// What CR 6 says of every run.
+    #[test]
+    fn an_encoder_keeps_to_its_laws() {
+        each_short(&[0, 1, 2, 3, 7], 5, |s| {
+            let [position, forward, backward, skipped] = turns(s);
+            assert_eq!(position, forward - backward);
+            let changes = (1..s.len() as u64).filter(|&i| changes(s, i, 3)).count() as i64;
+            assert_eq!(forward + backward + skipped, changes);
+            let reverse: Vec<u16> = s.iter().rev().copied().collect();
+            assert_eq!(turns(&reverse), [-position, backward, forward, skipped]);
+            let there_and_back = [s, &reverse].concat().repeat(3);
+            assert_eq!(turns(&there_and_back)[0], 0);
+        });
+    }
 }

@@ -1,6 +1,7 @@
 //! The groups of calls, one answer file each.
 
 mod burst;
+mod encoder;
 mod recorder;
 pub mod refused;
 pub mod render;
@@ -19,12 +20,13 @@ pub struct Group {
     pub random: fn(&mut List, &mut Rng, Size),
 }
 
-pub const GROUPS: [Group; 5] = [
+pub const GROUPS: [Group; 6] = [
     Group { name: "store", write: store::write, random: store::random },
     Group { name: "search", write: search::write, random: search::random },
     Group { name: "burst", write: burst::write, random: burst::random },
     Group { name: "render", write: render::write, random: render::random },
     Group { name: "recorder", write: recorder::write, random: recorder::random },
+    Group { name: "encoder", write: encoder::write, random: encoder::random },
 ];
 
 /// The captures of document 01's shelf examples.

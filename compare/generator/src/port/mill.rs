@@ -53,6 +53,9 @@ impl Port {
                 };
                 self.render(view, call, listed)
             }
+            Ask::Encoder { a, b } => self.encoder(|record, lent, position, counts| {
+                port::mill::encoder(record, lent, grant, a as usize, b as usize, position, counts)
+            }),
         }
     }
 

@@ -38,7 +38,7 @@ pub fn answer(snapshot: &Snapshot, &Mill { grant, ask }: &Mill) -> Option<Vec<u6
             let start = view.start + origin as f64;
             listed(&cut(snapshot.render(start, view.spp, view.width as usize)))
         }
-        Ask::Render(_) => return None,
+        Ask::Render(_) | Ask::Encoder { .. } => return None,
     })
 }
 

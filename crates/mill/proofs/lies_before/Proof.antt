@@ -5,7 +5,8 @@ use mathlib.Core.Bool.{true, false}
 use lib.Dec.{leb}
 use lib.Signed.{mag}
 use borrow.Author.Needs.{needs}
-use Rattle.mill.proofs.Places.{read-is, sign-is, before-is, not-before}
+use Rattle.number.proofs.Signed.{read-is, sign-is}
+use Rattle.mill.proofs.Places.{before-is, not-before}
 use Rattle.mill.proofs.lies_before.Statement.{statement}
 use Rattle.mill.proofs.lies_before.Tie as tie
 

@@ -5,7 +5,8 @@ use mathlib.Core.Bool.{true, false}
 use native.Mathlib.Omega.{arith}
 use lib.Signed.{mag}
 use borrow.Author.Needs.{needs}
-use Rattle.mill.proofs.Places.{read-is, sign-is, mag-small, room-below, place-below, place-from}
+use Rattle.number.proofs.Signed.{read-is, sign-is, mag-small}
+use Rattle.mill.proofs.Places.{room-below, place-below, place-from}
 use Rattle.mill.proofs.place_at.Statement.{statement}
 use Rattle.mill.proofs.place_at.Tie as tie
 

@@ -14,7 +14,7 @@ use Rattle.node.specs.Memory.{levelOf}
 use Rattle.capture.specs.Record.{storeOf, lentOf}
 use Rattle.capture.proofs.Answer.{rows-refuse, rows-decide}
 use Rattle.mill.specs.Reader.{originIn, millRows}
-use Rattle.mill.proofs.Places.{read-is}
+use Rattle.number.proofs.Signed.{read-is}
 use Rattle.mill.proofs.Under.{three}
 use Rattle.mill.proofs.refusal.Statement.{statement}
 use Rattle.mill.proofs.refusal.Tie as tie

@@ -16,7 +16,7 @@ use Rattle.rules.specs.Mill.{placeAt, millGetRefusal}
 use Rattle.node.specs.Memory.{levelOf}
 use Rattle.capture.specs.Record.{storeOf, lentOf}
 use Rattle.mill.specs.Reader.{originIn}
-use Rattle.mill.proofs.Places.{read-is}
+use Rattle.number.proofs.Signed.{read-is}
 use Rattle.mill.proofs.Under.{Passed, passed, under-refused, under-given, first-placed}
 use Rattle.mill_read.proofs.get.Statement.{statement}
 use Rattle.mill_read.proofs.get.Tie as tie

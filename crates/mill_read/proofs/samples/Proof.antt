@@ -16,7 +16,7 @@ use Rattle.capture.specs.declared.Copied.{Copied}
 use Rattle.capture.specs.Record.{storeOf, lentOf}
 use Rattle.capture.specs.Calls.{Copies}
 use Rattle.mill.specs.Reader.{originIn}
-use Rattle.mill.proofs.Places.{read-is}
+use Rattle.number.proofs.Signed.{read-is}
 use Rattle.mill.proofs.Under.{Passed, passed, first-placed}
 use Rattle.mill_read.specs.Read.{MillCopies}
 use Rattle.mill_read.proofs.Copy.{copies-refused, copies-none, copies-room, copies-count}

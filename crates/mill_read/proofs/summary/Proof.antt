@@ -19,7 +19,7 @@ use Rattle.node.specs.Memory.{levelOf}
 use Rattle.capture.specs.Record.{storeOf, lentOf}
 use Rattle.summary.specs.Summary.{summaryOf}
 use Rattle.mill.specs.Reader.{originIn}
-use Rattle.mill.proofs.Places.{read-is}
+use Rattle.number.proofs.Signed.{read-is}
 use Rattle.mill.proofs.Under.{Passed, passed, under-refused, under-given, given-under, first-placed, second-placed}
 use Rattle.mill_read.proofs.summary.Statement.{statement}
 use Rattle.mill_read.proofs.summary.Tie as tie

@@ -4,7 +4,7 @@ use lib.IntN.{ℤ}
 use denote.Ref.{now}
 use borrow.Author.Needs.{needs}
 use Rattle.node.specs.Memory.{levelOf}
-use Rattle.mill.proofs.Places.{read-is}
+use Rattle.number.proofs.Signed.{read-is}
 use Rattle.mill_search.specs.Answer.{previousOf}
 use Rattle.mill_search.proofs.prev_change.Statement.{statement}
 use Rattle.mill_search.proofs.prev_change.Tie as tie

@@ -6,7 +6,7 @@ use borrow.Author.Needs.{needs}
 use denote.Ref.{now}
 use Rattle.rules.specs.Sample.{sampleOf}
 use Rattle.range.proofs.Apart.{apart, apart-none, apart-turn, scanned}
-use Rattle.range.proofs.Raw.{byte-sample}
+use Rattle.rules.proofs.Sample.{byte-sample}
 use Rattle.range.proofs.raw_one.Statement.{statement}
 use Rattle.range.proofs.raw_one.Tie as tie
 

@@ -78,6 +78,11 @@ pub fn burst_at(l: &Lent) -> u32 {
     lent!(l, lc_burst_at, (l.store()), (mask, place, max_gap, 1, 1, l.numbers.cast(), l.read))
 }
 
+pub fn encoder(l: &Lent) -> u32 {
+    let [a, b] = l.given.lines;
+    lent!(l, lc_encoder, (l.store()), (a, b, l.mill_place(0), l.numbers.cast()))
+}
+
 pub fn render(l: &Lent) -> u32 {
     let Given { start, spp, width, output, .. } = l.given;
     lent!(l, lc_render, (l.store()), (start, spp, width, l.output, output))
@@ -135,6 +140,11 @@ pub fn mill_burst_at(l: &Lent) -> u32 {
             l.read
         )
     )
+}
+
+pub fn mill_encoder(l: &Lent) -> u32 {
+    let Given { grant, lines: [a, b], .. } = l.given;
+    lent!(l, lc_mill_encoder, (l.store()), (grant, a, b, l.mill_place(0), l.numbers.cast()))
 }
 
 pub fn mill_render(l: &Lent) -> u32 {

@@ -34,6 +34,8 @@ pub struct Given {
     pub start: f64,
     pub spp: f64,
     pub width: usize,
+    /// The lines of an encoder.
+    pub lines: [usize; 2],
     pub grant: u16,
     pub mill_place: i64,
     pub mill_end: i64,
@@ -96,6 +98,7 @@ impl Given {
             start: 3.5,
             spp: 2.25,
             width: 8,
+            lines: [0, 1],
             grant: 0b11,
             mill_place: 2,
             mill_end: 15,

@@ -65,6 +65,7 @@ fn exports() -> Vec<Tried> {
         question("lc_next_change", calls::next_change, &[]),
         question("lc_prev_change", calls::prev_change, &[]),
         question("lc_burst_at", calls::burst_at, &[]),
+        question("lc_encoder", calls::encoder, &[rows::ENCODER]),
         question("lc_render", calls::render, &[rows::VIEW]),
         question("lc_mill_extent", calls::mill_extent, &[]),
         question("lc_mill_get", calls::mill_get, &[rows::BEFORE, rows::MILL_PLACE]),
@@ -73,6 +74,7 @@ fn exports() -> Vec<Tried> {
         question("lc_mill_next_change", calls::mill_next_change, &[rows::GRANT, rows::BEFORE]),
         question("lc_mill_prev_change", calls::mill_prev_change, &[rows::GRANT, rows::BEFORE]),
         question("lc_mill_burst_at", calls::mill_burst_at, &[rows::GRANT, rows::BEFORE]),
+        question("lc_mill_encoder", calls::mill_encoder, &[rows::ENCODER, rows::ENCODER_GRANT]),
         question("lc_mill_render", calls::mill_render, &[rows::VIEW]),
         tried(
             "lc_feeder_start",
@@ -131,6 +133,25 @@ fn a_refused_call_stores_nothing() {
         for &(row, what, change) in tried.rows.iter().copied().flatten() {
             let ended = called(given.with(change), ReadOnly::All, tried.call);
             lines.extend(line(&tried.named(), &format!("{row}, {what}"), row, ended));
+        }
+    }
+    none(lines);
+}
+
+/// An encoder's rows stand in their order: where two hold, the call gives the number of the first.
+#[test]
+fn the_first_row_that_holds_refuses_an_encoder() {
+    let given = Given::new();
+    let mut lines = Vec::new();
+    for tried in exports().iter().filter(|tried| tried.name.ends_with("encoder")) {
+        for (at, &first) in tried.rows.iter().enumerate() {
+            for &(_, other, also) in tried.rows[at + 1..].iter().copied().flatten() {
+                for &(row, what, change) in first {
+                    let ended = called(given.with(also).with(change), ReadOnly::All, tried.call);
+                    let what = format!("{row}, {what}, and {other}");
+                    lines.extend(line(tried.name, &what, row, ended));
+                }
+            }
         }
     }
     none(lines);

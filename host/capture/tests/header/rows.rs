@@ -97,6 +97,23 @@ pub const VIEW: &[Row] = &[
 
 pub const GRANT: &[Row] = &[(12, "a mask beyond the grant", |g| g.mask = 0b100)];
 
+pub const ENCODER: &[Row] = &[
+    (14, "equal lines", |g| g.lines = [1, 1]),
+    (14, "equal lines beyond the grant", |g| g.lines = [2, 2]),
+    (14, "line 16 as A", |g| g.lines = [16, 1]),
+    (14, "line 16 as B", |g| g.lines = [0, 16]),
+    (14, "line 16 beside one beyond the grant", |g| g.lines = [16, 2]),
+    (14, "a line beyond all bits of a number", |g| g.lines = [64, 1]),
+    (14, "the greatest line", |g| g.lines = [0, usize::MAX]),
+];
+
+pub const ENCODER_GRANT: &[Row] = &[
+    (12, "line A beyond the grant", |g| g.lines = [2, 1]),
+    (12, "line B beyond the grant", |g| g.lines = [0, 2]),
+    (12, "line 15 beyond the grant", |g| g.lines = [15, 1]),
+    (12, "no line granted", |g| g.grant = 0),
+];
+
 pub const BEFORE: &[Row] = &[
     (13, "a place before the first sample", |g| g.mill_place = -1 - MARK as i64),
     (13, "the least place", |g| g.mill_place = i64::MIN),

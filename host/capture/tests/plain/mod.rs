@@ -4,7 +4,7 @@
 
 pub mod walk;
 
-use capture::{Burst, Condition, Lines, Node, Pixel, Term, View};
+use capture::{Burst, Condition, Encoder, Lines, Node, Pixel, Term, View};
 
 /// Whether a line of the mask differs at a place from the sample before.
 fn changed(s: &[Lines], mask: Lines, i: usize) -> bool {
@@ -31,6 +31,30 @@ pub fn summary(s: &[Lines], a: usize, b: usize) -> Option<Node> {
 pub fn density(s: &[Lines], a: usize, b: usize) -> u32 {
     let places = a.saturating_add(1)..b.min(s.len());
     places.filter(|&i| s[i] != s[i - 1]).count() as u32
+}
+
+/// An encoder, by where each sample stands in the order (A, B) = 00, 10, 11, 01.
+pub fn encoder(s: &[Lines], a: usize, b: usize) -> Encoder {
+    let stands = |sample: Lines| match (sample >> a & 1, sample >> b & 1) {
+        (0, 0) => 0,
+        (1, 0) => 1,
+        (1, 1) => 2,
+        _ => 3,
+    };
+    let mut encoder = Encoder::default();
+    for pair in s.windows(2) {
+        let (before, after) = (stands(pair[0]), stands(pair[1]));
+        if after == (before + 1) % 4 {
+            encoder.forward += 1;
+            encoder.position += 1;
+        } else if before == (after + 1) % 4 {
+            encoder.backward += 1;
+            encoder.position -= 1;
+        } else if before != after {
+            encoder.skipped += 1;
+        }
+    }
+    encoder
 }
 
 /// A burst over any two searches, of which none is made without need.

@@ -3,14 +3,14 @@
 use super::Command;
 use crate::args::{Args, Takes};
 use crate::failure::{bad, Failure, Outcome};
-use crate::frame::{self, DRIVE, DRIVE_STARTS, NAMES, RATE, SAMPLES, TURNER_ENCODER};
+use crate::frame::{self, DRIVE, DRIVE_STARTS, NAMES, RATE, SAMPLES, TURN, TURNER_ENCODER};
 use crate::output::Output;
 use crate::reader::{Place, Reader};
 use crate::recording::Recording;
 use crate::text::{self, Style};
 use crate::wave::Wave;
 use crate::{file, lines};
-use capture::{Capture, Condition, Lines, Pushed, Recorder, Settings, Wish};
+use capture::{Capture, Condition, Encoder, Lines, Pushed, Recorder, Settings, Wish};
 use std::io::Write;
 
 pub const COMMAND: Command = Command {
@@ -29,8 +29,8 @@ const LIMIT: usize = 1_000_000;
 const BEFORE: f64 = 0.25;
 
 /// The stretch that is drawn, from the mark, and its width.
-const BEFORE_MARK: Place = 4_000;
-const AFTER_MARK: Place = 14_000;
+const BEFORE_MARK: Place = 1_000;
+const AFTER_MARK: Place = 3_500;
 const WIDTH: usize = 72;
 
 /// The lines that are drawn.
@@ -62,15 +62,19 @@ fn run(args: &Args, out: &mut dyn Write) -> Result<Outcome, Failure> {
     draw(&recording, args.flag("--ascii"), out)?;
     writeln!(out)?;
     let found = search(&recording, out)?;
+    let turned = replay(&recording, out)?;
 
     // The same by hand: what the trigger has to keep of the frame, looked at sample by sample.
     let kept = &samples[DRIVE_STARTS - LIMIT / 4..][..LIMIT];
     let capture = &recording.capture;
-    let agrees =
-        capture.samples(0, capture.len()) == kept && found == scan(kept) && capture.whole().is_ok();
-    let verdict = if agrees { "finds the same" } else { "finds others" };
+    let agrees = capture.samples(0, capture.len()) == kept
+        && found == scan(kept)
+        && turned == count(kept)
+        && capture.whole().is_ok();
+    let verdict =
+        if agrees { "finds the same places and the same steps" } else { "does not agree" };
     writeln!(out, "A plain scan of all {LIMIT} samples {verdict}.")?;
-    Ok(Outcome::of(agrees))
+    Ok(Outcome::of(agrees && turned.position == 0))
 }
 
 /// The file to write that an option names.
@@ -126,6 +130,25 @@ fn search(recording: &Recording, out: &mut dyn Write) -> Result<Vec<usize>, Fail
     Ok(places)
 }
 
+/// Replays the turner's encoder, and says whether the log came home.
+fn replay(recording: &Recording, out: &mut dyn Write) -> Result<Encoder, Failure> {
+    let [a, b] = TURNER_ENCODER.map(usize::from);
+    let turned = recording.capture.encoder(a, b)?;
+    let Encoder { position, forward, backward, skipped } = turned;
+    let turns = |steps: usize| steps as f64 / TURN as f64;
+    writeln!(
+        out,
+        "{forward} of these are steps forward, {} turns, {backward} backward, {} turns, and {skipped} skips.",
+        turns(forward),
+        turns(backward)
+    )?;
+    match position {
+        0 => writeln!(out, "The log came home: its position is 0.")?,
+        _ => writeln!(out, "The log did not come home: its position is {position}.")?,
+    }
+    Ok(turned)
+}
+
 /// The gap that most neighbours have.
 fn usual_gap(places: &[usize]) -> usize {
     let mut gaps: Vec<usize> = places.windows(2).map(|pair| pair[1] - pair[0]).collect();
@@ -138,4 +161,23 @@ fn usual_gap(places: &[usize]) -> usize {
 fn scan(samples: &[Lines]) -> Vec<usize> {
     let mask = lines::mask(&TURNER_ENCODER);
     (1..samples.len()).filter(|&i| (samples[i] ^ samples[i - 1]) & mask != 0).collect()
+}
+
+/// The same steps, by looking at every sample: where it stands in the order 00, 10, 11, 01, and where the one before does.
+fn count(samples: &[Lines]) -> Encoder {
+    let stands = |sample: Lines| {
+        let [a, b] = TURNER_ENCODER.map(|line| sample >> line & 1);
+        [[0, 3], [1, 2]][usize::from(a)][usize::from(b)]
+    };
+    let mut turned = Encoder::default();
+    for pair in samples.windows(2) {
+        match (stands(pair[1]) + 4 - stands(pair[0])) % 4 {
+            0 => {}
+            1 => turned.forward += 1,
+            2 => turned.skipped += 1,
+            _ => turned.backward += 1,
+        }
+    }
+    turned.position = turned.forward as i64 - turned.backward as i64;
+    turned
 }

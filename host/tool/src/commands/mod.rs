@@ -5,6 +5,7 @@ mod changes;
 mod check;
 mod demo;
 mod density;
+mod encoder;
 mod info;
 mod next;
 mod prev;
@@ -32,7 +33,7 @@ pub struct Command {
     pub run: fn(&Args, &mut dyn Write) -> Result<Outcome, Failure>,
 }
 
-pub const COMMANDS: [Command; 12] = [
+pub const COMMANDS: [Command; 13] = [
     demo::COMMAND,
     record::COMMAND,
     info::COMMAND,
@@ -41,6 +42,7 @@ pub const COMMANDS: [Command; 12] = [
     changes::COMMAND,
     density::COMMAND,
     burst::COMMAND,
+    encoder::COMMAND,
     summary::COMMAND,
     samples::COMMAND,
     render::COMMAND,

@@ -1,7 +1,7 @@
 //! Runs the tool in a folder of its own. Each test file uses some.
 #![allow(dead_code)]
 
-use capture::Counted;
+use capture::{Counted, Encoder};
 use std::fs;
 use std::io::Write;
 use std::path::PathBuf;
@@ -18,6 +18,11 @@ pub struct Run {
     pub status: i32,
     pub out: String,
     pub err: String,
+}
+
+/// What the tool says of an encoder, without its turns.
+pub fn turned(Encoder { position, forward, backward, skipped }: Encoder) -> String {
+    format!("position {position} forward {forward} backward {backward} skipped {skipped}\n")
 }
 
 impl Folder {

@@ -96,4 +96,5 @@ fn questions(list: &mut List, len: u64, place: u64) {
     list.say(Op::Burst(burst));
     let spp = len as f64 / 4.0;
     list.say(Op::Render(View { start: -0.5, spp, width: 5, output: 10 }));
+    list.say(Op::Encoder { a: 0, b: 1 });
 }

@@ -141,6 +141,7 @@ fn rings(list: &mut List) {
             list.say(Op::Prev { mask: 8, from: u64::MAX });
             list.say(Op::Summary { a: 1, b: pre });
             list.say(Op::Density { a: 0, b: u64::MAX });
+            list.say(Op::Encoder { a: 0, b: 3 });
         }
     }
 }

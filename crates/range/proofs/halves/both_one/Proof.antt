@@ -5,7 +5,8 @@ use borrow.Author.Needs.{needs}
 use denote.Ref.{now}
 use Rattle.rules.specs.Sample.{sampleOf}
 use Rattle.range.specs.Run.{Both}
-use Rattle.range.proofs.Raw.{both-starts, both-on, both-ends, byte-sample}
+use Rattle.rules.proofs.Sample.{byte-sample}
+use Rattle.range.proofs.Raw.{both-starts, both-on, both-ends}
 use Rattle.range.proofs.halves.both_one.Statement.{statement}
 use Rattle.range.proofs.halves.both_one.Tie as tie
 

@@ -1,13 +1,13 @@
--- `mill::magnitude` meets its contract, by the sign. Assumes nothing.
+-- `number::magnitude` meets its contract, by the sign. Assumes nothing.
 use mathlib.Core.Path.{_≡_, ap, _∙_}
 use lib.IntN.{pos, negsuc, natAbs, _-ℤ_}
 use lib.Signed.{mag}
 use mir.Syntax.{w64}
 use mir.Val.{toZ, ofZ}
 use mir.ValLaws.{toZ-ofZ}
-use Rattle.mill.proofs.Places.{opposite, itself, mag-small, castable, whole-fits}
-use Rattle.mill.proofs.magnitude.Statement.{statement}
-use Rattle.mill.proofs.magnitude.Tie as tie
+use Rattle.number.proofs.Signed.{opposite, itself, mag-small, castable, whole-fits}
+use Rattle.number.proofs.magnitude.Statement.{statement}
+use Rattle.number.proofs.magnitude.Tie as tie
 
 sub-result : tie.Need-sub-result
 sub-result c = let s = c .before in whole-fits _ (mag (s .args .p)) (opposite (s .args .p) (s .fits .p) (c .if1 .taken)) (mag-small (s .args .p) (s .fits .p))
