@@ -10,8 +10,10 @@ mod work;
 use table::Table;
 use work::{Appends, Bursts, Encoder, Pushes, Ranges, Row, Samples, Wait, Walk};
 
+const CHUNK: u64 = 1_048_576;
+
 /// Four chunks.
-const LEN: u64 = 4_194_304;
+const LEN: u64 = 4 * CHUNK;
 
 /// Small pushes take long: fewer samples.
 const FEW: u64 = 393_216;
@@ -122,23 +124,31 @@ fn questions(table: &mut Table) {
     bursts(table, "burst, sparse", 2_000, 100);
 }
 
-/// An encoder on two lines beside each other, in the higher byte where there are two.
+/// An encoder on two lines beside each other, in the higher byte where there are two: of one chunk,
+/// which caches hold, and of four.
 fn encoders(table: &mut Table) {
-    let lines = if table.unit == 1 { [3, 4] } else { [11, 12] };
-    for (name, gap) in [
-        ("a step every 2 to 10", Some([2, 10])),
-        ("a step every 100", Some([50, 150])),
-        ("a step every 1000", Some([500, 1_500])),
-        ("no step", None),
-    ] {
-        let samples = Samples::turning(table.unit, LEN, lines, gap);
-        table.hold(&samples);
-        let work = Encoder { samples: &samples, lines };
-        table.line(&format!("encoder, {name}"), "sample", |side| side.encoder(&work));
-        if gap == Some([50, 150]) {
-            let name = format!("encoder, {name}, by a mill");
-            table.line(&name, "sample", |side| side.mill_encoder(&work));
+    for len in [CHUNK, LEN] {
+        for (name, gap) in [
+            ("a step every 2 to 10", Some([2, 10])),
+            ("a step every 100", Some([50, 150])),
+            ("a step every 1000", Some([500, 1_500])),
+            ("no step", None),
+        ] {
+            turning(table, len, name, gap);
         }
+    }
+}
+
+fn turning(table: &mut Table, len: u64, name: &str, gap: Option<[u64; 2]>) {
+    let lines = if table.unit == 1 { [3, 4] } else { [11, 12] };
+    let samples = Samples::turning(table.unit, len, lines, gap);
+    table.hold(&samples);
+    let work = Encoder { samples: &samples, lines };
+    let whole = format!("encoder of {}M", len / CHUNK);
+    table.line(&format!("{whole}, {name}"), "sample", |side| side.encoder(&work));
+    if (len, gap) == (CHUNK, Some([50, 150])) {
+        let name = format!("{whole} by a mill, {name}");
+        table.line(&name, "sample", |side| side.mill_encoder(&work));
     }
 }
 

@@ -1,34 +1,32 @@
 -- What `encoder` promises, on right levels: 02's replay of the run. Over the call's own contract, for any references that it was lent.
-use Prim.Native.Nat.{ℕ}
-use mathlib.Core.Path.{_≡_, ap, _∙_}
-use mathlib.Core.Bool.{true}
+use Prim.Native.Nat.{ℕ, suc, _+_, _-_, _/_, _≤_, _<_}
+use mathlib.Core.Path.{_≡_, refl, ap, _∙_}
 use mathlib.Core.List.{List}
-use mathlib.Core.Option.{Option}
+use native.Mathlib.Omega.{arith}
 use contract.Lifetimes.{Lfts}
 use denote.Ref.{RefT, now}
 use Rattle.rules.specs.Sample.{sampleOf}
-use Rattle.rules.specs.Search.{next}
-use Rattle.rules.specs.Walk.{Walked, allLevels}
+use Rattle.rules.specs.Node.{chunk, chunkEnd, topLevel}
 use Rattle.rules.specs.Answer.{unless}
-use Rattle.rules.specs.Encoder.{Turns, noTurns, encoder, pairMask, encoderRefusal}
-use Rattle.rules.proofs.Steps.{next-searched}
-use Rattle.node.specs.Memory.{levelOf, readerOf, Right}
-use Rattle.node.proofs.Memory.{right-true}
+use Rattle.rules.specs.Encoder.{Turns, encoder, pairMask, encoderRefusal}
+use Rattle.node.specs.Memory.{levelOf, Right}
+use Rattle.pass.proofs.Right.{Reached, pass-reaches}
 use Rattle.capture.specs.declared.Capture.{Capture}
 use Rattle.capture.specs.Record.{storeOf, lentOf}
 use Rattle.encoder.specs.declared.Encoded.{Encoded}
-use Rattle.encoder.specs.Hops.{nextIn, hopsFrom, hopsOf}
+use Rattle.encoder.specs.Hops.{onwardIn, hopsOf}
 use Rattle.encoder.specs.Answer.{encodedOf, encoderOf}
-use Rattle.encoder.proofs.Stretch.{hops-right}
+use Rattle.encoder.proofs.Stretch.{chunk-inside, hops-right}
 use Rattle.encoder.proofs.encoder.Reads as reads
 
 -- the hops over right levels
 pub turns-right : (unit len : ℕ) (samples : List ℕ) (levels : ℕ → List ℕ) (a b : ℕ) → Right (sampleOf unit samples) len levels → hopsOf unit len samples levels a b ≡ encoder (sampleOf unit samples) len a b
 unfolding hopsOf
 turns-right unit len samples levels a b right =
-    ap (λ (f : ℕ → Option ℕ). hopsFrom f (sampleOf unit samples) len a b len 1 true noTurns)
-    (λ i from. next-searched (readerOf unit samples levels) (sampleOf unit samples) len (pairMask a b) (right-true unit samples levels len right) from i .found)
-    ∙ hops-right (sampleOf unit samples) len a b
+    hops-right unit (sampleOf unit samples) len a b (onwardIn unit len samples levels (pairMask a b)) (record { least = λ p h l. reached p h l .least; most = λ p h l. omega (arith, reached p h l .most); still = λ p h l. reached p h l .quiet-at })
+  where
+    reached : (p : ℕ) → 1 ≤ p → p < len → Reached unit samples levels len right (chunkEnd len (p / chunk)) (pairMask a b) p (onwardIn unit len samples levels (pairMask a b) p)
+    reached p h l = pass-reaches unit samples levels len right (chunkEnd len (p / chunk)) (pairMask a b) (omega arith) (suc (chunkEnd len (p / chunk) - p + topLevel)) p topLevel (sampleOf unit samples (p - 1)) h (omega (arith, chunk-inside len p l)) (omega arith) refl
 
 module _ (κs : Lfts 2) (c : Capture) (samples l1 l2 l3 l4 : RefT (List ℕ)) (a b : ℕ) (r : Encoded) where
   abbrev levels : ℕ → List ℕ

@@ -1,15 +1,18 @@
-// An encoder replayed from two lines of a capture: searches hop from change to change, and the samples behind each are scanned. 02: CR 6.
+// An encoder replayed from two lines of a capture: quiet nodes are passed, and the samples of the others are scanned. 02: CR 6.
 use capture::Capture;
-use encoder_scan::STRETCH;
 use encoder_scan::Steps;
+use encoder_scan::WIDEST_ONE;
+use encoder_scan::WIDEST_TWO;
 use encoder_scan::scan;
-use find::Place;
+use level::CHUNK;
+use level::FAN;
 use lines::Mask;
 use lines::TOP_LINE;
 use lines::line_bit;
 use number::difference;
 use number::lesser;
-use search::next_in;
+use pass::pass;
+use search::chunk_end;
 ghost use mathlib.Core.Path.{_≡_};
 ghost use mathlib.Core.Bool.{Bool};
 ghost use Prim.Native.Nat.{_≤_, _<_};
@@ -20,7 +23,7 @@ ghost use Rattle.rules.specs.Encoder.{pairMask, pairWrong, encoderRefusal};
 ghost use Rattle.node.specs.Memory.{levelOf};
 ghost use Rattle.capture.specs.Record.{storeOf, lentOf};
 ghost use Rattle.search.specs.Part.{Stored};
-ghost use Rattle.encoder.specs.Hops.{stretchEnd, Resumed, nextIn, hopsOf, counted};
+ghost use Rattle.encoder.specs.Hops.{stretchEnd, quietBehind, Resumed, onwardIn, hopsOf, counted};
 ghost use Rattle.encoder.specs.Answer.{asTurns, encodedOf, encoderOf};
 
 // The signed position, and the steps that it comes from.
@@ -81,15 +84,36 @@ pub fn refusal<'a>(
     0
 }
 
-// Where the stretch that place p lies in ends, or the capture does. No stretch lies across a border of chunks.
-fn stretch_end(p: usize, len: usize) -> usize
-    requires { ⌜ (p ≤ len) × (len ≤ mostSamples) ⌝ }
-    ensures { λ r. ⌜ r ≡ stretchEnd len p ⌝ }
+// Where this many places were passed, changes are far apart.
+const FAR: usize = 256;
+
+// Where the stretch ends that is scanned from place i on, p being where quiet nodes began to be passed, or the capture does: with its node where changes are
+// far apart, so that no memory is read for nothing. No stretch lies across a border of chunks.
+fn stretch_end(unitsize: usize, p: usize, i: usize, len: usize) -> usize
+    requires { ⌜ (p ≤ i) × (i ≤ len) × (len ≤ mostSamples) ⌝ }
+    ensures { λ r. ⌜ r ≡ stretchEnd unitsize len p i ⌝ }
 {
-    lesser((p / STRETCH + 1) * STRETCH, len)
+    if p + FAR <= i {
+        return lesser((i / FAN + 1) * FAN, len);
+    }
+    if unitsize == 1 {
+        return lesser((i / WIDEST_ONE + 1) * WIDEST_ONE, len);
+    }
+    lesser((i / WIDEST_TWO + 1) * WIDEST_TWO, len)
 }
 
-// Where scanning goes on: at p or, behind a stretch in which nothing moved, at the next change, which is found by the levels; len where there is none.
+// Whether nodes are asked behind a stretch: where changes are far apart, or none of its samples moved.
+fn quiet_behind(p: usize, i: usize, moved: usize) -> bool
+    requires { ⌜ (p ≤ i) × (i ≤ mostSamples) ⌝ }
+    ensures { λ r. ⌜ r ≡ quietBehind p i moved ⌝ }
+{
+    if p + FAR <= i {
+        return true;
+    }
+    moved == 0
+}
+
+// Where scanning goes on: at p or, where nodes are asked, behind the quiet ones of its chunk.
 fn resume<'a>(
     samples: &[u8],
     l1: &'a [Mask],
@@ -103,14 +127,12 @@ fn resume<'a>(
     quiet: bool,
 ) -> usize
     requires { ⌜ Stored unitsize len (now samples) (levelOf (now l1) (now l2) (now l3) (now l4)) × (1 ≤ p) × (p < len) ⌝ }
-    ensures { λ r. ⌜ Resumed (nextIn unitsize len (now (samples .entry)) (levelOf (now (l1 .entry)) (now (l2 .entry)) (now (l3 .entry)) (now (l4 .entry))) mask) len quiet p r ⌝ }
+    ensures { λ r. ⌜ Resumed (onwardIn unitsize len (now (samples .entry)) (levelOf (now (l1 .entry)) (now (l2 .entry)) (now (l3 .entry)) (now (l4 .entry))) mask) len quiet p r ⌝ }
 {
     if quiet {
-        let found = next_in(samples, l1, l2, l3, l4, unitsize, len, mask, p - 1);
-        return match found {
-            Place::At(i, _) => i,
-            Place::Nothing(_) => len,
-        };
+        let hi = chunk_end(p / CHUNK, len);
+        let value = lines::get(samples, unitsize, p - 1);
+        return pass(samples, l1, l2, l3, l4, unitsize, 0, hi, mask, p, value);
     }
     p
 }
@@ -138,12 +160,12 @@ fn hops<'a>(
     let mut p = 1;
     while p < len {
         let i = resume(samples, l1, l2, l3, l4, unitsize, len, mask, p, quiet);
-        let end = stretch_end(i, len);
+        let end = stretch_end(unitsize, p, i, len);
         let t = scan(samples, unitsize, i - 1, end - i, a, b);
         forward += t.forward;
         backward += t.backward;
         skipped += t.skipped;
-        quiet = t.forward + t.backward + t.skipped == 0;
+        quiet = quiet_behind(p, i, t.forward + t.backward + t.skipped);
         p = end;
     }
     Steps {

@@ -6,7 +6,7 @@ use native.Mathlib.Nat.{one-mul, mod-eq-of-lt, div-eq-of-lt}
 use native.Mathlib.Numerals.{add-one}
 use native.Mathlib.Omega.{arith}
 use native.Mathlib.Decide.{ℕ-discrete}
-use lib.Bits.{bitAnd, bitXor, and-zero-r}
+use lib.Bits.{bitAnd, bitXor, and-zero-r, and-mask}
 use lib.Dec.{eqb}
 use lib.Pow.{pow-mono, pow-lt}
 use borrow.Author.Tests.{eq-eqb, ne-eqb}
@@ -67,6 +67,21 @@ bits-are a b a′ b′ h i j k = record {
   skipped-is = sixteen (λ (a b a′ b′ : ℕ). skipBit a b a′ b′ ≡ stepOf a b a′ b′ .skipped) refl refl refl refl refl refl refl refl refl refl refl refl refl refl refl refl a b a′ b′ h i j k;
 }
 
+-- and how many they are
+record Bits (a b a′ b′ : ℕ) : Type 0 where
+  is : Stepped (stepOf a b a′ b′) (moveBit a b a′ b′) (backBit a b a′ b′) (skipBit a b a′ b′)
+  few : moveBit a b a′ b′ + skipBit a b a′ b′ ≤ 1
+  less : backBit a b a′ b′ ≤ moveBit a b a′ b′
+
+bits : (a b a′ b′ : ℕ) → a < 2 → b < 2 → a′ < 2 → b′ < 2 → Bits a b a′ b′
+bits a b a′ b′ h i j k =
+    let t = bits-are a b a′ b′ h i j k in
+    record {
+      is = t;
+      few = omega (arith, t .moved-is, t .skipped-is, step-ind (λ u. steps u ≤ 1) (omega arith) (omega arith) (omega arith) (omega arith) a b a′ b′);
+      less = omega (arith, t .moved-is, t .back-is);
+    }
+
 set-lt : (v : ℕ) → isSet v < 2
 set-lt v = go (eqb v 0)
   where
@@ -77,18 +92,35 @@ set-lt v = go (eqb v 0)
 module _ (w x y before after : ℕ) {a b a′ b′ : ℕ} (hb : before < w) (ha : after < w)
     (p : a ≡ isSet (bitAnd before x)) (q : b ≡ isSet (bitAnd before y)) (r : a′ ≡ isSet (bitAnd after x)) (t : b′ ≡ isSet (bitAnd after y)) where
   -- as the bits of any step
-  known : Stepped (stepOf a b a′ b′) (moveBit a b a′ b′) (backBit a b a′ b′) (skipBit a b a′ b′)
-  known = bits-are a b a′ b′ (omega (arith, p, set-lt (bitAnd before x))) (omega (arith, q, set-lt (bitAnd before y))) (omega (arith, r, set-lt (bitAnd after x))) (omega (arith, t, set-lt (bitAnd after y)))
+  known : Bits a b a′ b′
+  known = bits a b a′ b′ (omega (arith, p, set-lt (bitAnd before x))) (omega (arith, q, set-lt (bitAnd before y))) (omega (arith, r, set-lt (bitAnd after x))) (omega (arith, t, set-lt (bitAnd after y)))
 
   pub step-by : StepBy w x y before after (moveBit a b a′ b′) (backBit a b a′ b′) (skipBit a b a′ b′)
   unfolding turnOf
   step-by = record {
     is = λ i j hx hy.
         subst (λ (u : Turns). Stepped u (moveBit a b a′ b′) (backBit a b a′ b′) (skipBit a b a′ b′))
-        (ap₂ (λ (c d : ℕ). stepOf c d a′ b′) (p ∙ hx .is before hb) (q ∙ hy .is before hb) ∙ ap₂ (λ (c d : ℕ). stepOf (line before i) (line before j) c d) (r ∙ hx .is after ha) (t ∙ hy .is after ha)) known;
-    few = omega (arith, known .moved-is, known .skipped-is, step-ind (λ u. steps u ≤ 1) (omega arith) (omega arith) (omega arith) (omega arith) a b a′ b′);
-    less = omega (arith, known .moved-is, known .back-is);
+        (ap₂ (λ (c d : ℕ). stepOf c d a′ b′) (p ∙ hx .is before hb) (q ∙ hy .is before hb) ∙ ap₂ (λ (c d : ℕ). stepOf (line before i) (line before j) c d) (r ∙ hx .is after ha) (t ∙ hy .is after ha)) (known .is);
+    few = known .few;
+    less = known .less;
   }
+
+-- the bits of two lines, by a shift
+bit-is : (v k : ℕ) → bitAnd (v / 2 ^ k) 1 ≡ line v k
+unfolding line
+bit-is v k = and-mask (v / 2 ^ k) 1
+
+pub step-shifted : (a b before after : ℕ) →
+    let x = bitAnd (before / 2 ^ a) 1 in
+    let y = bitAnd (before / 2 ^ b) 1 in
+    let x′ = bitAnd (after / 2 ^ a) 1 in
+    let y′ = bitAnd (after / 2 ^ b) 1 in
+    Stepped (turnOf a b before after) (moveBit x y x′ y′) (backBit x y x′ y′) (skipBit x y x′ y′) × (moveBit x y x′ y′ + skipBit x y x′ y′ ≤ 1) × (backBit x y x′ y′ ≤ moveBit x y x′ y′)
+unfolding turnOf
+step-shifted a b before after = rw (bit-is before a) (rw (bit-is before b) (rw (bit-is after a) (rw (bit-is after b) (known .is, known .few, known .less))))
+  where
+    known : Bits (line before a) (line before b) (line after a) (line after b)
+    known = bits (line before a) (line before b) (line after a) (line after b) (line-lt before a) (line-lt before b) (line-lt after a) (line-lt after b)
 
 -- ---- steps added up
 pub stepped-none : (s : ℕ → ℕ) (a b p : ℕ) → Stepped (turnsOf s a b p 0) 0 0 0

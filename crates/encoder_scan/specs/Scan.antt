@@ -7,6 +7,10 @@ use lib.Dec.{eqb}
 use Rattle.rules.specs.Sample.{line}
 use Rattle.rules.specs.Encoder.{Turns, turnOf}
 
+-- the most places of a stretch, by the unit size: a sample's width holds each of their counts
+abbrev pub widest : ℕ → ℕ
+widest unit = cond (eqb unit 1) 128 512
+
 -- 1 of a number with any line, else 0
 abbrev pub isSet : ℕ → ℕ
 isSet v = cond (eqb v 0) 0 1

@@ -1,17 +1,18 @@
 // What two lines do over a stretch of samples, counted place by place without a branch. 02: CR 6.
 use lines::Mask;
 use lines::get;
-use lines::line_bit;
 ghost use mathlib.Core.Path.{_≡_};
 ghost use Prim.Native.Nat.{_+_, _*_, _≤_, _<_};
 ghost use lib.ListN.{length};
 ghost use Rattle.rules.specs.Sample.{sampleOf, UnitSize};
 ghost use Rattle.rules.specs.Refusal.{topLine};
-ghost use Rattle.rules.specs.Encoder.{turnsOf};
-ghost use Rattle.encoder_scan.specs.Scan.{isSet, Asks, StepBy, Counts};
+ghost use Rattle.rules.specs.Encoder.{turnOf, turnsOf};
+ghost use Rattle.encoder_scan.specs.Scan.{widest, isSet, Asks, Stepped, StepBy, Counts};
 
-// The most places of a stretch: a byte holds each of their counts.
-pub const STRETCH: usize = 128;
+// The most places of a stretch: a sample's width holds each of their counts.
+pub const WIDEST_ONE: usize = 128;
+
+pub const WIDEST_TWO: usize = 512;
 
 // Steps forward and backward, and skips.
 pub struct Steps {
@@ -41,12 +42,6 @@ fn set_one(v: u8) -> u8
     if v == 0 { 0 } else { 1 }
 }
 
-fn set_two(v: Mask) -> Mask
-    ensures { λ r. ⌜ r ≡ isSet v ⌝ }
-{
-    if v == 0 { 0 } else { 1 }
-}
-
 // The mask of a line in samples of one byte; lines above 7 are 0 in all of them.
 fn bit_one(line: u8) -> u8
     ensures { λ r. ⌜ Asks 256 r line ⌝ }
@@ -70,13 +65,15 @@ fn step_one(before: u8, after: u8, x: u8, y: u8) -> StepOne
     }
 }
 
-fn step_two(before: Mask, after: Mask, x: Mask, y: Mask) -> StepTwo
-    ensures { λ r. ⌜ StepBy 65536 x y before after (r .moved) (r .back) (r .skipped) ⌝ }
+// The same of two bytes, by the lines' numbers: there a shift takes many samples at once, too.
+fn step_two(before: Mask, after: Mask, line_a: u8, line_b: u8) -> StepTwo
+    requires { ⌜ («line_a» ≤ topLine) × («line_b» ≤ topLine) ⌝ }
+    ensures { λ r. ⌜ Stepped (turnOf «line_a» «line_b» before after) (r .moved) (r .back) (r .skipped) × (r .moved + r .skipped ≤ 1) × (r .back ≤ r .moved) ⌝ }
 {
-    let a = set_two(before & x);
-    let b = set_two(before & y);
-    let a2 = set_two(after & x);
-    let b2 = set_two(after & y);
+    let a = (before >> line_a) & 1;
+    let b = (before >> line_b) & 1;
+    let a2 = (after >> line_a) & 1;
+    let b2 = (after >> line_b) & 1;
     let moved = (a ^ a2) ^ (b ^ b2);
     StepTwo {
         moved,
@@ -112,17 +109,15 @@ fn scan_one(samples: &[u8], p: usize, n: usize, a: u8, b: u8) -> Steps
 
 // Unit 2.
 fn scan_two(samples: &[u8], p: usize, n: usize, a: u8, b: u8) -> Steps
-    requires { ⌜ (n ≤ 128) × ((p + n + 1) * 2 ≤ length (now samples)) × (a ≤ topLine) × (b ≤ topLine) ⌝ }
+    requires { ⌜ (n ≤ 512) × ((p + n + 1) * 2 ≤ length (now samples)) × (a ≤ topLine) × (b ≤ topLine) ⌝ }
     ensures { λ r. ⌜ Counts (turnsOf (sampleOf 2 (now (samples .entry))) a b p n) (r .forward) (r .backward) (r .skipped) ⌝ }
 {
-    let x = line_bit(a);
-    let y = line_bit(b);
     let mut moved: Mask = 0;
     let mut back: Mask = 0;
     let mut skipped: Mask = 0;
     let mut k = 0;
     while k < n {
-        let t = step_two(get(samples, 2, p + k), get(samples, 2, p + k + 1), x, y);
+        let t = step_two(get(samples, 2, p + k), get(samples, 2, p + k + 1), a, b);
         moved = moved + t.moved;
         back = back + t.back;
         skipped = skipped + t.skipped;
@@ -137,7 +132,7 @@ fn scan_two(samples: &[u8], p: usize, n: usize, a: u8, b: u8) -> Steps
 
 // What lines a and b do at the n places behind place p.
 pub fn scan(samples: &[u8], unitsize: usize, p: usize, n: usize, a: u8, b: u8) -> Steps
-    requires { ⌜ UnitSize unitsize × (n ≤ 128) × ((p + n + 1) * unitsize ≤ length (now samples)) × (a ≤ topLine) × (b ≤ topLine) ⌝ }
+    requires { ⌜ UnitSize unitsize × (n ≤ widest unitsize) × ((p + n + 1) * unitsize ≤ length (now samples)) × (a ≤ topLine) × (b ≤ topLine) ⌝ }
     ensures { λ r. ⌜ Counts (turnsOf (sampleOf unitsize (now (samples .entry))) a b p n) (r .forward) (r .backward) (r .skipped) ⌝ }
 {
     if unitsize == 1 {

@@ -138,16 +138,16 @@ fn number(base: usize, l: usize, s: usize, pos: usize) -> usize
 }
 
 // A level taken: which, the samples of its nodes, how many nodes were asked, how many passed, and the value after these.
-struct Taken {
-    l: usize,
-    s: usize,
-    n: usize,
-    count: usize,
-    value: Mask,
+pub struct Taken {
+    pub l: usize,
+    pub s: usize,
+    pub n: usize,
+    pub count: usize,
+    pub value: Mask,
 }
 
 // At pos, takes the highest level up to maxl that fits, and passes what can be passed of a run of its nodes.
-fn take<'a>(
+pub fn take<'a>(
     part: &[u8],
     l1: &'a [Mask],
     l2: &'a [Mask],

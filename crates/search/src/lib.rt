@@ -31,7 +31,7 @@ pub enum Found {
 }
 
 // Where the stored part of chunk ci ends.
-fn chunk_end(ci: usize, len: usize) -> usize
+pub fn chunk_end(ci: usize, len: usize) -> usize
     requires { ⌜ (ci * chunk ≤ len) × (len ≤ mostSamples) ⌝ }
     ensures { λ r. ⌜ r ≡ min ((ci + 1) * chunk) len ⌝ }
 {

@@ -1,56 +1,70 @@
--- `encoder::resume` meets its contract: what the search finds lies ahead, whatever memory holds. Assumes nothing.
-use Prim.Native.Nat.{ℕ, _-_}
-use mathlib.Core.Path.{_≡_, sym, ap, _∙_}
+-- `encoder::resume` meets its contract: what is passed lies in the chunk, whatever memory holds. Assumes nothing.
+use Prim.Native.Nat.{ℕ, _+_, _-_, _*_, _/_, _≤_, _<_, min}
+use mathlib.Core.Path.{_≡_, ap, ap₂, _∙_}
 use mathlib.Core.List.{List}
-use mathlib.Core.Option.{Option, some, none}
+use native.Mathlib.Nat.{mul-le-mul-right, div-mul-le-self}
+use native.Mathlib.Omega.{arith}
 use denote.Ref.{now}
 use borrow.Author.Needs.{needs}
-use Rattle.rules.specs.Walk.{Walked, allLevels}
-use Rattle.node.specs.Memory.{levelOf, readerOf}
-use Rattle.find.specs.declared.Place.{Place}
-use Rattle.find.specs.Way.{placeOf}
-use Rattle.search.proofs.Within.{next-within}
-use Rattle.encoder.specs.Hops.{placeOr, Resumed, nextIn}
-use Rattle.encoder.proofs.Stretch.{resumed-found, resumed-here}
+use Rattle.rules.specs.Node.{chunk}
+use Rattle.node.specs.Memory.{levelOf}
+use Rattle.find.specs.Part.{Part}
+use Rattle.find.proofs.Part.{bytes-held}
+use Rattle.search.specs.Part.{Stored}
+use Rattle.pass.specs.Pass.{passFrom}
+use Rattle.encoder.specs.Hops.{onwardIn}
+use Rattle.encoder.proofs.Stretch.{chunk-inside, resumed-here, resumed-on}
 use Rattle.encoder.proofs.resume.Statement.{statement}
 use Rattle.encoder.proofs.resume.Tie as tie
 
 abbrev levels : tie.Start → ℕ → List ℕ
 levels s = levelOf (now (s .args .l1)) (now (s .args .l2)) (now (s .args .l3)) (now (s .args .l4))
 
-abbrev seek : tie.Start → ℕ → Option ℕ
-seek s = nextIn (s .args .unitsize) (s .args .len) (now (s .args .samples)) (levels s) (s .args .mask)
+-- the function's start
+abbrev start-at : tie.After-chunk-end → tie.Start
+start-at c = c .before .before .before .before .before .before .before
 
--- the search gave p
-found-at : (c : tie.After-next-in) (p : Place) → c .next-in .result ≡ p → let s = c .before .before .before .before .before .before .before in Resumed (seek s) (s .args .len) (s .args .quiet) (s .args .p) (placeOr (s .args .len) (placeOf p .found))
-found-at c p e =
-    let s = c .before .before .before .before .before .before .before in
-    let is : seek s (s .args .p - 1) ≡ placeOf p .found = sym (ap (λ (w : Walked). w .found) (c .next-in .ensures)) ∙ ap (λ (q : Place). placeOf q .found) e in
-    resumed-found (seek s) (s .args .len) (s .args .p) (placeOf p .found) (c .before .if1 .taken) (s .pre .2) is
-    (λ i h. next-within allLevels (readerOf (s .args .unitsize) (now (s .args .samples)) (levels s)) (s .args .len) (s .args .mask) (s .args .p - 1) i (is ∙ h))
+-- a capture's first samples, and the nodes below them, lie in memory
+part-of : (unit len hi : ℕ) (samples : List ℕ) (levels : ℕ → List ℕ) → Stored unit len samples levels → hi ≤ len → Part unit 0 hi samples levels
+part-of unit len hi samples levels s h = record {
+  bytes = record { unit-size = s .bytes .unit-size; room = omega (arith, s .bytes .room, mul-le-mul-right unit (first-le hi len h)) };
+  nodes = record { inside = λ l j a b k. s .nodes .inside l j a b (omega (arith, k, h)) };
+}
+  where
+    first-le : (hi len : ℕ) → hi ≤ len → hi - 0 ≤ len
+    first-le hi len h = omega (arith, h)
 
-sub-next-in : tie.Need-sub-next-in
-sub-next-in c = search needs
+chunk-end-requires : tie.Need-chunk-end-requires
+chunk-end-requires c κs =
+    let s = c .before .before .before .before .before .before in
+    (omega (arith, div-mul-le-self (s .args .p) chunk, s .pre .2), s .pre .0 .most)
 
-next-in-requires : tie.Need-next-in-requires
-next-in-requires c κs = search needs
+sub-get : tie.Need-sub-get
+sub-get c = search needs
 
-enum-known-found : tie.Need-enum-known-found
-enum-known-found c = search needs
+get-requires : tie.Need-get-requires
+get-requires c κs =
+    let s = start-at c in
+    bytes-held (s .args .unitsize) (s .args .len) (s .args .p - 1) (now (s .args .samples)) (s .pre .0 .bytes) (omega (arith, s .pre .1, s .pre .2))
 
-enum-told : tie.Need-enum-told
-enum-told c = search needs
+pass-requires : tie.Need-pass-requires
+pass-requires c κs =
+    let s = start-at (c .before) in
+    let e = c .before .chunk-end .ensures in
+    (part-of (s .args .unitsize) (s .args .len) (c .before .chunk-end .result) (now (s .args .samples)) (levels s) (s .pre .0) (omega (arith, e)), omega arith, omega (arith, e, chunk-inside (s .args .len) (s .args .p) (s .pre .2)))
 
 returns : tie.Need-returns
-returns c = found-at (c .before .before .before) _ (c .before .found .given .1)
+returns c =
+    let s = start-at (c .before .before) in
+    let e = c .before .before .chunk-end .ensures in
+    resumed-on (onwardIn (s .args .unitsize) (s .args .len) (now (s .args .samples)) (levels s) (s .args .mask)) (s .args .len) (s .args .p) _ (c .before .before .before .if1 .taken)
+    (c .pass .ensures .0 ∙ ap₂ (λ (h v : ℕ). passFrom (s .args .unitsize) 0 h (now (s .args .samples)) (levels s) (s .args .mask) (s .args .p) v) e (c .before .get .ensures))
+    (c .pass .ensures .1) (omega (arith, c .pass .ensures .2, e))
 
 returns-2 : tie.Need-returns-2
-returns-2 c = found-at (c .before .before) _ (c .enum-told .given .1)
-
-returns-3 : tie.Need-returns-3
-returns-3 c =
+returns-2 c =
     let s = c .before .before .before .before .before .before in
-    resumed-here (seek s) (s .args .len) (s .args .p) (c .if1 .left) (s .pre .2)
+    resumed-here (onwardIn (s .args .unitsize) (s .args .len) (now (s .args .samples)) (levels s) (s .args .mask)) (s .args .len) (s .args .p) (c .if1 .left) (s .pre .2)
 
 pub resume-spec : {M : Type 1} → statement M
-resume-spec = tie.close (tie.spec sub-next-in next-in-requires enum-known-found enum-told returns returns-2 returns-3)
+resume-spec = tie.close (tie.spec chunk-end-requires sub-get get-requires pass-requires returns returns-2)

@@ -7,7 +7,7 @@ use denote.Ref.{now}
 use Rattle.rules.specs.Sample.{sampleOf}
 use Rattle.rules.specs.Encoder.{turnsOf}
 use Rattle.rules.proofs.Sample.{unit-two}
-use Rattle.encoder_scan.specs.Scan.{Counts}
+use Rattle.encoder_scan.specs.Scan.{widest, Counts}
 use Rattle.encoder_scan.proofs.scan.Statement.{statement}
 use Rattle.encoder_scan.proofs.scan.Tie as tie
 
@@ -15,15 +15,20 @@ use Rattle.encoder_scan.proofs.scan.Tie as tie
 abbrev Room : tie.Start → ℕ → Type 0
 Room s u = (s .args .p + s .args .n + 1) * u ≤ length (now (s .args .samples))
 
+-- and are few enough
+abbrev Few : tie.Start → ℕ → Type 0
+Few s u = s .args .n ≤ widest u
+
 scan-one-requires : tie.Need-scan-one-requires
 scan-one-requires c κs =
     let s = c .before .before in
-    (s .pre .1, omega (arith, subst (Room s) (c .if1 .taken) (s .pre .2)))
+    (subst (Few s) (c .if1 .taken) (s .pre .1), omega (arith, subst (Room s) (c .if1 .taken) (s .pre .2)))
 
 scan-two-requires : tie.Need-scan-two-requires
 scan-two-requires c κs =
     let s = c .before .before in
-    (s .pre .1, subst (Room s) (unit-two (s .pre .0) (c .if1 .left)) (s .pre .2), s .pre .3, s .pre .4)
+    let two = unit-two (s .pre .0) (c .if1 .left) in
+    (subst (Few s) two (s .pre .1), subst (Room s) two (s .pre .2), s .pre .3, s .pre .4)
 
 returns : tie.Need-returns
 returns c =

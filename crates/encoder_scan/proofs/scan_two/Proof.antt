@@ -1,31 +1,21 @@
 -- `encoder_scan::scan_two` meets its contract: what is known of the first k places. Assumes nothing.
-use Prim.Native.Nat.{ℕ, _+_, _-_, _^_, _≤_}
-use mathlib.Core.Path.{_≡_, sym, subst}
+use Prim.Native.Nat.{ℕ, _+_, _-_, _≤_}
+use mathlib.Core.Path.{subst}
 use native.Mathlib.Nat.{le-antisymm}
 use borrow.Author.Needs.{needs}
 use denote.Ref.{now}
 use Rattle.rules.specs.Sample.{sampleOf}
 use Rattle.rules.specs.Encoder.{turnsOf}
-use Rattle.encoder_scan.specs.Scan.{Asks, Stepped, Counts}
-use Rattle.encoder_scan.proofs.Laws.{asks-line, stepped-none, stepped-on, counts-of}
+use Rattle.encoder_scan.specs.Scan.{Stepped, Counts}
+use Rattle.encoder_scan.proofs.Laws.{stepped-none, stepped-on, counts-of}
 use Rattle.encoder_scan.proofs.scan_two.Statement.{statement}
 use Rattle.encoder_scan.proofs.scan_two.Tie as tie
 
--- a mask that is a line's
-asks : {m k : ℕ} → m ≡ 2 ^ k → Asks 65536 m k
-asks {m} {k} e = subst (λ (x : ℕ). Asks 65536 x k) (sym e) (asks-line 65536 k)
-
 abbrev Inv-loop : tie.InvT-loop
-Inv-loop samples p n a b x y moved₀ back₀ skipped₀ k₀ moved back skipped k = (k ≤ n) × (moved + skipped ≤ k) × (back ≤ moved) × Stepped (turnsOf (sampleOf 2 samples) a b p k) moved back skipped
+Inv-loop samples p n a b moved₀ back₀ skipped₀ k₀ moved back skipped k = (k ≤ n) × (moved + skipped ≤ k) × (back ≤ moved) × Stepped (turnsOf (sampleOf 2 samples) a b p k) moved back skipped
 
 abbrev μ-loop : tie.MeasureT-loop
-μ-loop samples p n a b x y moved₀ back₀ skipped₀ k₀ moved back skipped k = n - k
-
-line-bit-requires : tie.Need-line-bit-requires Inv-loop μ-loop
-line-bit-requires c κs = search needs
-
-line-bit-requires-2 : tie.Need-line-bit-requires-2 Inv-loop μ-loop
-line-bit-requires-2 c κs = search needs
+μ-loop samples p n a b moved₀ back₀ skipped₀ k₀ moved back skipped k = n - k
 
 loop-holds : tie.Need-loop-holds Inv-loop μ-loop
 loop-holds c = (search needs, search needs, search needs, stepped-none _ _ _ _)
@@ -68,30 +58,29 @@ loop-again c =
     let q = c .before .before .before in
     let w = q .before .before .before .before in
     let p = w .loop in
-    let s = w .before .before .before .before in (
+    let s = w .before .before in (
       search needs,
       search needs,
       search needs,
-      stepped-on (sampleOf 2 (now (s .args .samples))) (s .args .a) (s .args .b) (s .args .p) (p .k) _ _ (p .moved) (p .back) (p .skipped) _ _ _ (p .inv .3) (q .before .before .get .ensures) (q .before .get2 .ensures)
-          (q .step-two .ensures .is (s .args .a) (s .args .b) (asks (w .before .before .line-bit .ensures)) (asks (w .before .line-bit2 .ensures))),
+      stepped-on (sampleOf 2 (now (s .args .samples))) (s .args .a) (s .args .b) (s .args .p) (p .k) _ _ (p .moved) (p .back) (p .skipped) _ _ _ (p .inv .3) (q .before .before .get .ensures) (q .before .get2 .ensures) (q .step-two .ensures .0),
     )
 
-sub-t19 : tie.Need-sub-t19 Inv-loop μ-loop
-sub-t19 c = search needs
+sub-t17 : tie.Need-sub-t17 Inv-loop μ-loop
+sub-t17 c = search needs
+
+cast-t18 : tie.Need-cast-t18 Inv-loop μ-loop
+cast-t18 c = search needs
+
+cast-t19 : tie.Need-cast-t19 Inv-loop μ-loop
+cast-t19 c = search needs
 
 cast-t20 : tie.Need-cast-t20 Inv-loop μ-loop
 cast-t20 c = search needs
 
-cast-t21 : tie.Need-cast-t21 Inv-loop μ-loop
-cast-t21 c = search needs
-
-cast-t22 : tie.Need-cast-t22 Inv-loop μ-loop
-cast-t22 c = search needs
-
 returns : tie.Need-returns Inv-loop μ-loop
 returns c =
     let p = c .before .loop in
-    let s = c .before .before .before .before .before in
+    let s = c .before .before .before in
     subst (λ (n : ℕ). Counts (turnsOf (sampleOf 2 (now (s .args .samples))) (s .args .a) (s .args .b) (s .args .p) n) (p .moved - p .back) (p .back) (p .skipped)) (le-antisymm (p .inv .0) (c .loop-test .left)) (counts-of (p .inv .3))
 
 pub scan-two-spec : {M : Type 1} → statement M
@@ -100,8 +89,6 @@ scan-two-spec =
     (tie.spec
     Inv-loop
     μ-loop
-    line-bit-requires
-    line-bit-requires-2
     loop-holds
     add-get
     get-requires
@@ -115,8 +102,8 @@ scan-two-spec =
     add-k
     loop-less
     loop-again
-    sub-t19
+    sub-t17
+    cast-t18
+    cast-t19
     cast-t20
-    cast-t21
-    cast-t22
     returns)
