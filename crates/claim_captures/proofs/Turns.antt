@@ -1,12 +1,11 @@
 -- Whatever the call answers is 02's replay of the run, so 02's claims of it hold.
 use mathlib.Core.Path.{_≡_, sym, ap, _∙_, subst}
-use mathlib.Core.List.{List, [], _∷_, reverse}
-use Prim.Native.Nat.{ℕ, _+_}
+use mathlib.Core.List.{List, [], _∷_}
+use Prim.Native.Nat.{ℕ}
 use mathlib.Core.Option.{Option}
 use lib.ListN.{length}
-use Rattle.rules.specs.Encoder.{Turns, encoder, opposite, trials, pairRow}
+use Rattle.rules.specs.Encoder.{Turns, encoder, opposite, pairRow}
 use Rattle.rules.specs.Refusal.{firstOf, topLine}
-use Rattle.rules.specs.Answer.{given}
 use Rattle.rules.proofs.Encoder.{Balanced, steps, position-is, counts-are, cut-turns}
 use Rattle.rules.proofs.Home.{Home, reverse-turns, trials-home}
 use Rattle.capture.specs.declared.Capture.{Capture}

@@ -1,6 +1,6 @@
 -- What 02 says of an encoder's answers, whatever asks for them: `says a b t` is that t may be answered for lines a and b. 02: CR 6.
 use mathlib.Core.Path.{_≡_}
-use mathlib.Core.List.{List, [], _∷_, reverse}
+use mathlib.Core.List.{List, _∷_, reverse}
 use Prim.Native.Nat.{ℕ, _+_}
 use lib.IntN.{pos, _-ℤ_}
 use lib.ListN.{length}

@@ -1,18 +1,18 @@
 -- Laws of the hops: where a stretch ends, what is left after one, and on right levels the whole.
-use Prim.Native.Nat.{ℕ, zero, suc, _+_, _-_, _*_, _/_, _≤_, _<_, min}
-use mathlib.Core.Path.{_≡_, refl, sym, ap, ap₂, _∙_, subst}
+use Prim.Native.Nat.{ℕ, zero, suc, _+_, _-_, _*_, _/_, _≤_, _<_}
+use mathlib.Core.Path.{_≡_, refl, sym, ap, ap₂, _∙_}
 use mathlib.Core.Bool.{Bool, true, false, cond}
 use native.Mathlib.Nat.{div-add-mod', mod-lt, suc-mul, zero-lt-suc}
 use native.Mathlib.Numerals.{add-one}
 use native.Mathlib.Decide.{decLt}
 use native.Mathlib.Omega.{arith}
-use lib.Dec.{ltb, leb, eqb}
+use lib.Dec.{ltb, eqb}
 use lib.IntN.{pos, _-ℤ_}
 use borrow.Author.Tests.{lt-ltb, le-ltb}
 use Rattle.rules.specs.Node.{chunk, chunkEnd}
 use Rattle.rules.specs.Search.{changed}
 use Rattle.rules.specs.Encoder.{Turns, noTurns, addTurns, turnsOf, encoder, pairMask}
-use Rattle.rules.proofs.Encoder.{turns-eq, add-none, none-add, add-assoc-turns, turns-add, turns-quiet, turns-balanced, balanced-add, turns-few, steps}
+use Rattle.rules.proofs.Encoder.{turns-eq, add-none, none-add, add-assoc-turns, turns-add, turns-quiet, turns-balanced, balanced-add, turns-few}
 use Rattle.encoder_scan.specs.Scan.{widest, Counts}
 use Rattle.encoder.specs.Hops.{isFar, border, stretchEnd, quietBehind, resumeAt, Resumed, countAll, stretch, hopsFrom, counted}
 

@@ -1,5 +1,5 @@
 -- An encoder's replay as the code takes it, over whatever memory holds: quiet nodes are passed, and from the first that is not samples are scanned, stretch by stretch,
--- as long as something moves.
+-- as long as something moves or, where changes are far apart, to the end of the node.
 use mathlib.Core.Path.{_≡_}
 use mathlib.Core.Bool.{Bool, true, cond, _||_}
 use mathlib.Core.List.{List}
@@ -12,7 +12,7 @@ use Rattle.rules.specs.Encoder.{Turns, noTurns, addTurns, turnsOf, pairMask}
 use Rattle.pass.specs.Pass.{passFrom}
 use Rattle.encoder_scan.specs.Scan.{widest}
 
--- nodes of 256 places or more were passed from p to i
+-- changes are far apart: 256 places or more were passed from p to i
 abbrev pub isFar : ℕ → ℕ → Bool
 isFar p i = leb (p + 256) i
 

@@ -17,7 +17,6 @@ ghost use mathlib.Core.Path.{_≡_};
 ghost use mathlib.Core.Bool.{Bool};
 ghost use Prim.Native.Nat.{_≤_, _<_};
 ghost use lib.IntN.{ℤ};
-ghost use Rattle.rules.specs.Sample.{sampleOf};
 ghost use Rattle.rules.specs.Refusal.{mostSamples, topLine};
 ghost use Rattle.rules.specs.Encoder.{pairMask, pairWrong, encoderRefusal};
 ghost use Rattle.node.specs.Memory.{levelOf};
@@ -87,8 +86,8 @@ pub fn refusal<'a>(
 // Where this many places were passed, changes are far apart.
 const FAR: usize = 256;
 
-// Where the stretch ends that is scanned from place i on, p being where quiet nodes began to be passed, or the capture does: with its node where changes are
-// far apart, so that no memory is read for nothing. No stretch lies across a border of chunks.
+// Where the stretch ends that is scanned from place i on, quiet nodes having been passed from p to i: with its node where changes are far apart, so that no memory is
+// read for nothing. No stretch lies across a border of chunks.
 fn stretch_end(unitsize: usize, p: usize, i: usize, len: usize) -> usize
     requires { ⌜ (p ≤ i) × (i ≤ len) × (len ≤ mostSamples) ⌝ }
     ensures { λ r. ⌜ r ≡ stretchEnd unitsize len p i ⌝ }

@@ -1,5 +1,5 @@
 -- Laws of a scan: what a mask asks, a step by its four bits, and steps added up.
-use Prim.Native.Nat.{ℕ, suc, _+_, _-_, _*_, _/_, _%_, _^_, _≤_, _<_, min}
+use Prim.Native.Nat.{ℕ, suc, _+_, _-_, _*_, _/_, _%_, _^_, _≤_, _<_}
 use mathlib.Core.Path.{_≡_, refl, sym, ap, ap₂, _∙_, subst}
 use mathlib.Core.Bool.{Bool, true, false, cond}
 use native.Mathlib.Nat.{one-mul, mod-eq-of-lt, div-eq-of-lt}
@@ -11,7 +11,7 @@ use lib.Dec.{eqb}
 use lib.Pow.{pow-mono, pow-lt}
 use borrow.Author.Tests.{eq-eqb, ne-eqb}
 use Rattle.rules.specs.Sample.{line}
-use Rattle.rules.specs.Encoder.{Turns, noTurns, addTurns, stepOf, turnOf, turnsOf}
+use Rattle.rules.specs.Encoder.{Turns, stepOf, turnOf, turnsOf}
 use Rattle.rules.proofs.Bits.{line-lt, line-zero, two-cases, sixteen, lines-ext, line-and, power-has, power-only}
 use Rattle.rules.proofs.Encoder.{steps, step-ind}
 use Rattle.encoder_scan.specs.Scan.{isSet, Asks, Stepped, StepBy, Counts}

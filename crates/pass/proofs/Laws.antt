@@ -1,17 +1,16 @@
 -- Laws of passing: a run that the code takes is the definition's, and what is left after it.
-use Prim.Native.Nat.{ℕ, zero, suc, _+_, _-_, _*_, _/_, _≤_, _<_, min}
+use Prim.Native.Nat.{ℕ, zero, suc, _+_, _-_, _*_, _/_, _≤_, _<_}
 use mathlib.Core.Path.{_≡_, refl, sym, ap, ap₂, _∙_, subst}
-use mathlib.Core.Bool.{Bool, true, false, cond}
+use mathlib.Core.Bool.{Bool, false, cond}
 use mathlib.Core.List.{List}
 use native.Mathlib.Nat.{le-antisymm, mul-le-mul-right, div-mul-le-self, one-mul}
 use native.Mathlib.Decide.{decLt}
 use native.Mathlib.Omega.{arith}
-use lib.Dec.{ltb, leb}
+use lib.Dec.{leb}
 use borrow.Author.Tests.{lt-ltb, le-ltb, le-leb, lt-leb}
 use Rattle.rules.specs.Node.{Node, quiet, span, topLevel}
 use Rattle.rules.proofs.Walk.{span-pos}
-use Rattle.find.specs.Run.{nodeAt, nthNode, carried, Run}
-use Rattle.find.specs.Way.{numberIn}
+use Rattle.find.specs.Run.{carried, Run}
 use Rattle.find.specs.Takes.{Takes}
 use Rattle.find.proofs.Way.{stretch-some}
 use Rattle.pass.specs.Pass.{quietUpTo, levelFor, nodesFrom, nodesAsked, nodesPassed, behindRun, passTo, passFrom}

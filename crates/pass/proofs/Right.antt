@@ -1,29 +1,28 @@
 -- On right levels no masked line changes at a place that is passed.
-use Prim.Native.Nat.{ℕ, zero, suc, _+_, _-_, _*_, _/_, _%_, _≤_, _<_, min}
+use Prim.Native.Nat.{ℕ, zero, suc, _+_, _-_, _*_, _/_, _%_, _≤_, _<_}
 use mathlib.Core.Path.{_≡_, refl, sym, ap, ap₂, _∙_, subst}
 use mathlib.Core.Bool.{Bool, true, false, cond, not}
 use mathlib.Core.List.{List}
 use mathlib.Core.Logic.{_⊎_, inl, inr}
-use native.Mathlib.Nat.{le-antisymm, mul-le-mul-right, div-mul-le-self, div-add-mod', mod-lt, add-mul-div-right, mul-one, suc-mul, one-mul, add-mod-mod, mul-mod-left, add-zero, lt-of-mul-lt-mul-right}
+use native.Mathlib.Nat.{mul-le-mul-right, div-mul-le-self, div-add-mod', mod-lt, add-mul-div-right, mul-one, suc-mul, add-mod-mod, mul-mod-left, add-zero, lt-of-mul-lt-mul-right}
 use native.Mathlib.Decide.{decLt, ℕ-discrete}
 use native.Mathlib.Omega.{arith}
-use lib.Bits.{bitAnd, bitXor}
+use lib.Bits.{bitAnd}
 use lib.Dec.{ltb, leb, eqb}
-use borrow.Author.Tests.{lt-ltb, le-ltb, le-leb, lt-leb, eq-eqb, ne-eqb}
+use borrow.Author.Tests.{lt-ltb, le-ltb, ne-eqb}
 use Rattle.rules.specs.Sample.{sampleOf}
 use Rattle.rules.specs.Node.{Node, nodeOf, leaf, changes, quiet, span, topLevel}
 use Rattle.rules.specs.Search.{changed}
-use Rattle.rules.specs.Walk.{best, allLevels}
+use Rattle.rules.specs.Walk.{best}
 use Rattle.rules.proofs.Node.{Quiet, quiet-true}
 use Rattle.rules.proofs.Walk.{span-pos, best-le, best-taken}
-use Rattle.rules.proofs.Found.{TrueNodes}
 use Rattle.node.specs.Memory.{nodeIn, readerOf, Right}
 use Rattle.node.proofs.Memory.{right-true}
 use Rattle.level.specs.Best.{fitsAt}
 use Rattle.level.proofs.Best.{Fits, fitting, fits-sample}
-use Rattle.find.specs.Run.{nodeAt, nthNode, carried}
+use Rattle.find.specs.Run.{nodeAt, carried}
 use Rattle.find.specs.Way.{numberIn}
-use Rattle.pass.specs.Pass.{quietUpTo, levelFor, nodesFrom, nodesAsked, nodesPassed, behindRun, passTo, passFrom}
+use Rattle.pass.specs.Pass.{quietUpTo, levelFor, nodesFrom, nodesAsked, nodesPassed, behindRun, passTo}
 
 -- ---- the first that is not quiet
 module _ (nodes : ℕ → Node) (mask v : ℕ) where

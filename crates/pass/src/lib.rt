@@ -5,7 +5,6 @@ use lines::Mask;
 ghost use mathlib.Core.Path.{_≡_};
 ghost use mathlib.Core.Bool.{false};
 ghost use Prim.Native.Nat.{_≤_, _<_};
-ghost use Rattle.rules.specs.Node.{chunk};
 ghost use Rattle.node.specs.Memory.{levelOf};
 ghost use Rattle.find.specs.Part.{Part};
 ghost use Rattle.pass.specs.Pass.{passFrom};

@@ -2,7 +2,7 @@
 use mathlib.Core.Path.{_≡_, refl}
 use mathlib.Core.Bool.{true, false}
 use mathlib.Core.List.{List, [], _∷_}
-use mathlib.Core.Option.{none, some}
+use mathlib.Core.Option.{none}
 use Prim.Native.Nat.{ℕ}
 use lib.IntN.{ℤ, pos, negsuc}
 use lib.ListN.{length, getD}
@@ -10,7 +10,7 @@ use Rattle.rules.specs.Sample.{line}
 use Rattle.rules.specs.Node.{countOf}
 use Rattle.rules.specs.Cutting.{partsBy}
 use Rattle.rules.specs.Refusal.{Store, levelShort}
-use Rattle.rules.specs.Encoder.{Turns, noTurns, turnForward, turnBackward, turnSkipped, addTurns, follows, stepOf, turnOf, turnsOf, encoder, encoderIn, pairMask, pairChanges, opposite, trials, pairWrong, encoderRefusal}
+use Rattle.rules.specs.Encoder.{Turns, noTurns, turnForward, turnBackward, turnSkipped, addTurns, stepOf, turnOf, turnsOf, encoder, encoderIn, pairMask, pairChanges, opposite, trials, pairWrong, encoderRefusal}
 use Rattle.rules.specs.Mill.{millEncoderRefusal}
 use Rattle.rules.proofs.BorderRows.{store, plenty, no-memory}
 

@@ -1,21 +1,21 @@
 -- An encoder's replay, added up: 02's claims of it, over any run. 02: CR 6.
-use Prim.Native.Nat.{ℕ, zero, suc, _+_, _-_, _*_, _/_, _^_, _≤_, _<_, min, max}
+use Prim.Native.Nat.{ℕ, zero, suc, _+_, _-_, _^_, _≤_, _<_, min, max}
 use mathlib.Core.Path.{_≡_, refl, sym, ap, ap₂, _∙_}
 use mathlib.Core.Bool.{Bool, true, false, cond, not, _&&_}
 use mathlib.Core.List.{List, [], _∷_}
-use native.Mathlib.Nat.{add-zero, add-suc, suc-add, zero-add, add-assoc, add-comm}
+use native.Mathlib.Nat.{add-zero, add-suc, zero-add, add-assoc, add-comm}
 use native.Mathlib.Omega.{arith}
 use native.Mathlib.Decide.{ℕ-discrete}
-use lib.Bits.{bitAnd, bitOr, bitXor, differ}
+use lib.Bits.{bitAnd, bitXor, differ}
 use lib.Dec.{eqb}
-use lib.IntN.{ℤ, pos, negsuc, negℤ, _+ℤ_, _-ℤ_, +ℤ-idl, +ℤ-idr, +ℤ-assoc, +ℤ-comm, negℤ-+ℤ, negℤ-negℤ}
-use borrow.Author.Tests.{eqb-true, eqb-false, eq-eqb, ne-eqb}
+use lib.IntN.{ℤ, pos, negℤ, _+ℤ_, _-ℤ_, +ℤ-idl, +ℤ-idr, +ℤ-assoc, +ℤ-comm, negℤ-+ℤ}
+use borrow.Author.Tests.{eqb-true, eq-eqb, ne-eqb}
 use Rattle.rules.specs.Sample.{line, cutTo, cutLines, Within}
-use Rattle.rules.specs.Node.{differs, countOf, changesIn, changes}
+use Rattle.rules.specs.Node.{differs, countOf, changes}
 use Rattle.rules.specs.Search.{changed}
 use Rattle.rules.specs.Cutting.{Rising, cutEnd, partsBy}
 use Rattle.rules.specs.Encoder.{Turns, noTurns, turnForward, turnBackward, turnSkipped, addTurns, follows, stepOf, turnOf, turnsOf, encoderIn, encoder, pairMask, pairChanges, opposite}
-use Rattle.rules.proofs.Bits.{line-lt, two-cases, sixteen, lines-ext, line-and, line-or, line-xor, line-zero, power-has, power-only, and-xor}
+use Rattle.rules.proofs.Bits.{line-lt, two-cases, sixteen, lines-ext, line-and, line-or, line-xor, line-zero, power-has, power-only}
 use Rattle.rules.proofs.Density.{rises}
 
 -- ---- a step is one of four

@@ -4,7 +4,7 @@ use lines::TOP_LINE;
 use lines::line_bit;
 ghost use mathlib.Core.Path.{_≡_};
 ghost use mathlib.Core.Bool.{Bool};
-ghost use Prim.Native.Nat.{_^_, _≤_};
+ghost use Prim.Native.Nat.{_^_};
 ghost use Rattle.rules.specs.Trigger.{bothAsEdge, matches, fires};
 ghost use Rattle.terms.specs.Terms.{asMasks, previousOf, noTerms, withLine, withTerm};
 

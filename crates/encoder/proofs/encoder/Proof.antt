@@ -1,5 +1,5 @@
 -- `encoder::encoder` meets its contract: rows 1, 2 and 14, or the hops. Assumes nothing.
-use mathlib.Core.Path.{refl, sym, ap, _∙_}
+use mathlib.Core.Path.{sym, _∙_}
 use borrow.Author.Needs.{needs}
 use denote.Ref.{now}
 use Rattle.node.specs.Memory.{levelOf}

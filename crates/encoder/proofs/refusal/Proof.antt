@@ -1,12 +1,11 @@
 -- `encoder::refusal` meets its contract: the first row that holds. Assumes nothing.
-use Prim.Native.Nat.{ℕ}
-use mathlib.Core.Path.{_≡_, refl, sym, ap, _∙_}
+use mathlib.Core.Path.{_≡_, sym, ap, _∙_}
 use mathlib.Core.Bool.{Bool, true, false, cond}
 use mathlib.Core.List.{List, [], _∷_}
 use denote.Ref.{now}
 use borrow.Author.Needs.{needs}
 use Rattle.rules.specs.Refusal.{Store, Lent, Row, firstOf, storeRows, topLine}
-use Rattle.rules.specs.Encoder.{pairWrong, pairRow}
+use Rattle.rules.specs.Encoder.{pairRow}
 use Rattle.node.specs.Memory.{levelOf}
 use Rattle.capture.specs.Record.{storeOf, lentOf}
 use Rattle.capture.proofs.Answer.{rows-refuse, rows-decide}

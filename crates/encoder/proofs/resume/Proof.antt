@@ -1,6 +1,6 @@
 -- `encoder::resume` meets its contract: what is passed lies in the chunk, whatever memory holds. Assumes nothing.
-use Prim.Native.Nat.{ℕ, _+_, _-_, _*_, _/_, _≤_, _<_, min}
-use mathlib.Core.Path.{_≡_, ap, ap₂, _∙_}
+use Prim.Native.Nat.{ℕ, _-_, _≤_}
+use mathlib.Core.Path.{ap₂, _∙_}
 use mathlib.Core.List.{List}
 use native.Mathlib.Nat.{mul-le-mul-right, div-mul-le-self}
 use native.Mathlib.Omega.{arith}
@@ -45,7 +45,7 @@ sub-get c = search needs
 get-requires : tie.Need-get-requires
 get-requires c κs =
     let s = start-at c in
-    bytes-held (s .args .unitsize) (s .args .len) (s .args .p - 1) (now (s .args .samples)) (s .pre .0 .bytes) (omega (arith, s .pre .1, s .pre .2))
+    bytes-held (s .args .unitsize) (s .args .len) _ (now (s .args .samples)) (s .pre .0 .bytes) (omega (arith, s .pre .1, s .pre .2))
 
 pass-requires : tie.Need-pass-requires
 pass-requires c κs =

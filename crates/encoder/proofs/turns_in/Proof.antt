@@ -1,5 +1,4 @@
 -- `encoder::turns_in` meets its contract: the position is forward minus backward. Assumes nothing.
-use Prim.Native.Nat.{_≤_, _<_, _^_}
 use mathlib.Core.Path.{refl, _∙_}
 use native.Mathlib.Omega.{arith}
 use borrow.Author.Needs.{needs}
