@@ -36,6 +36,14 @@ impl List {
         self.write(&line);
     }
 
+    /// Asks, and writes the line down if it is to be kept.
+    pub fn say_if(&mut self, op: Op, kept: bool) {
+        let line = self.asker.ask(&op);
+        if kept {
+            self.write(&line);
+        }
+    }
+
     /// Asks only. The line may be written down later.
     pub fn ask(&mut self, op: Op) -> String {
         self.asker.ask(&op)

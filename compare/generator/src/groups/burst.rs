@@ -1,11 +1,11 @@
 //! Bursts with their jumps.
 
-use super::refused::rows_1_and_2;
+use super::refused::refused_and_asked;
 use super::{A, B};
 use crate::document::refusals::need;
 use crate::feed::Feed;
 use crate::list::{append, List};
-use crate::op::{Burst, Op, Store};
+use crate::op::{Burst, Op};
 use crate::shapes::{each_short, mask, Shape, Size, CHUNK};
 use rng::Rng;
 
@@ -78,35 +78,22 @@ fn edges(list: &mut List) {
 }
 
 fn refusals(list: &mut List) {
-    for (channels, unit) in [(8, 1), (16, 2)] {
-        list.holding(channels, 3, &[0, 1, 0]);
-        let good = Store { unit, capacity: 3, len: 3, mark: None };
-        let calls = [burst(1, 1, 4, 0, 1), burst(1, 0, 0, 0, 0), burst(1, u64::MAX, 9, 9, 9)];
-        rows_1_and_2(list, good, &calls);
-        for call in calls {
-            list.say(call);
-        }
-    }
+    let calls = [burst(1, 1, 4, 0, 1), burst(1, 0, 0, 0, 0), burst(1, u64::MAX, 9, 9, 9)];
+    refused_and_asked(list, [0, 1, 0], &calls);
 }
 
 fn short(list: &mut List, rng: &mut Rng) {
     list.lend(need(1, 7));
     each_short(&[0, 1], 7, |samples| {
         let kept = rng.once_in(12);
-        let mut say = |op: Op, kept: bool| {
-            let line = list.ask(op);
-            if kept {
-                list.write(&line);
-            }
-        };
-        say(Op::Capture { channels: 8, capacity: 7 }, kept);
-        say(append(8, samples), kept);
+        list.say_if(Op::Capture { channels: 8, capacity: 7 }, kept);
+        list.say_if(append(8, samples), kept);
         for sample in 0..9 {
             for max_gap in 0..6 {
                 for tolerance in 0..5 {
                     for budget in 0..4 {
                         let burst = burst(1, sample, max_gap, tolerance, budget);
-                        say(burst, kept && rng.once_in(160));
+                        list.say_if(burst, kept && rng.once_in(160));
                     }
                 }
             }

@@ -1,10 +1,10 @@
 //! An encoder replayed from two lines.
 
-use super::refused::rows_1_and_2;
+use super::refused::refused_and_asked;
 use crate::document::refusals::need;
 use crate::feed::Feed;
 use crate::list::{append, List};
-use crate::op::{Op, Store};
+use crate::op::Op;
 use crate::shapes::{each_short, line, Shape, Size, CHUNK, NO_LINES};
 use rng::Rng;
 
@@ -80,31 +80,18 @@ fn pairs(list: &mut List, rng: &mut Rng) {
 
 /// Rows 1 and 2 come ahead of row 14.
 fn refusals(list: &mut List) {
-    for (channels, unit) in [(8, 1), (16, 2)] {
-        list.holding(channels, 3, &[0, 1, 3]);
-        let good = Store { unit, capacity: 3, len: 3, mark: None };
-        let calls = [encoder(0, 1), encoder(1, 1), encoder(0, 16)];
-        rows_1_and_2(list, good, &calls);
-        for call in calls {
-            list.say(call);
-        }
-    }
+    let calls = [encoder(0, 1), encoder(1, 1), encoder(0, 16)];
+    refused_and_asked(list, [0, 1, 3], &calls);
 }
 
 fn short(list: &mut List, rng: &mut Rng) {
     list.lend(need(1, 5));
     each_short(&[0, 1, 2, 3], 5, |samples| {
         let kept = rng.once_in(16);
-        let mut say = |op: Op, kept: bool| {
-            let line = list.ask(op);
-            if kept {
-                list.write(&line);
-            }
-        };
-        say(Op::Capture { channels: 8, capacity: 5 }, kept);
-        say(append(8, samples), kept);
+        list.say_if(Op::Capture { channels: 8, capacity: 5 }, kept);
+        list.say_if(append(8, samples), kept);
         for (a, b) in [(0, 1), (1, 0), (0, 2), (9, 1)] {
-            say(encoder(a, b), kept);
+            list.say_if(encoder(a, b), kept);
         }
     });
 }

@@ -23,6 +23,15 @@ pub fn rows_1_and_2(list: &mut List, good: Store, calls: &[Op]) {
     list.lend(full);
 }
 
+/// Rows 1 and 2 of these calls on a capture of three samples, and what they answer over it, in both units.
+pub fn refused_and_asked(list: &mut List, samples: [u16; 3], calls: &[Op]) {
+    for (channels, unit) in [(8, 1), (16, 2)] {
+        list.holding(channels, 3, &samples);
+        rows_1_and_2(list, Store { unit, capacity: 3, len: 3, mark: None }, calls);
+        say_all(list, calls);
+    }
+}
+
 fn say_all(list: &mut List, calls: &[Op]) {
     for call in calls {
         list.say(call.clone());

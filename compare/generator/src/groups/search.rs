@@ -1,11 +1,11 @@
 //! Next, previous, summary and density.
 
-use super::refused::rows_1_and_2;
+use super::refused::refused_and_asked;
 use super::A;
 use crate::document::refusals::need;
 use crate::feed::Feed;
 use crate::list::{append, List};
-use crate::op::{Op, Store};
+use crate::op::Op;
 use crate::shapes::{each_short, mask, Shape, Size, CHUNK};
 use rng::Rng;
 
@@ -75,38 +75,25 @@ fn edges(list: &mut List) {
 }
 
 fn refusals(list: &mut List) {
-    for (channels, unit) in [(8, 1), (16, 2)] {
-        list.holding(channels, 3, &[0, 1, 0]);
-        let good = Store { unit, capacity: 3, len: 3, mark: None };
-        let calls = [next(1, 0), prev(1, 2), summary(0, 3), density(0, 3)];
-        rows_1_and_2(list, good, &calls);
-        for call in calls {
-            list.say(call);
-        }
-    }
+    let calls = [next(1, 0), prev(1, 2), summary(0, 3), density(0, 3)];
+    refused_and_asked(list, [0, 1, 0], &calls);
 }
 
 fn short(list: &mut List, rng: &mut Rng) {
     list.lend(need(1, 5));
     each_short(&[0, 1, 2, 3], 5, |samples| {
         let kept = rng.once_in(60);
-        let mut say = |op: Op, kept: bool| {
-            let line = list.ask(op);
-            if kept {
-                list.write(&line);
-            }
-        };
-        say(Op::Capture { channels: 8, capacity: 5 }, kept);
-        say(append(8, samples), kept);
+        list.say_if(Op::Capture { channels: 8, capacity: 5 }, kept);
+        list.say_if(append(8, samples), kept);
         for place in 0..7 {
             for mask in 0..4 {
-                say(next(mask, place), kept && rng.once_in(8));
-                say(prev(mask, place), kept && rng.once_in(8));
+                list.say_if(next(mask, place), kept && rng.once_in(8));
+                list.say_if(prev(mask, place), kept && rng.once_in(8));
             }
             for end in 0..7 {
                 let kept = kept && rng.once_in(16);
-                say(summary(place, end), kept);
-                say(density(place, end), kept);
+                list.say_if(summary(place, end), kept);
+                list.say_if(density(place, end), kept);
             }
         }
     });

@@ -209,23 +209,17 @@ fn short(list: &mut List, rng: &mut Rng) {
     list.lend(need(1, 5));
     each_short(&[0, 1, 2, 255], 5, |samples| {
         let kept = rng.once_in(140);
-        let mut say = |op: Op, kept: bool| {
-            let line = list.ask(op);
-            if kept {
-                list.write(&line);
-            }
-        };
-        say(Op::Capture { channels: 8, capacity: 5 }, kept);
+        list.say_if(Op::Capture { channels: 8, capacity: 5 }, kept);
         // In two appends, cut anywhere.
         let cut = rng.below(samples.len() as u64 + 1) as usize;
-        say(append(8, &samples[..cut]), kept);
-        say(append(8, &samples[cut..]), kept);
-        say(Op::Run, kept);
+        list.say_if(append(8, &samples[..cut]), kept);
+        list.say_if(append(8, &samples[cut..]), kept);
+        list.say_if(Op::Run, kept);
         for i in 0..7 {
-            say(Op::Get(i), kept && rng.once_in(7));
+            list.say_if(Op::Get(i), kept && rng.once_in(7));
             for count in 0..7 {
                 let samples = Op::Samples { start: i, count, output: 4 };
-                say(samples, kept && rng.once_in(12));
+                list.say_if(samples, kept && rng.once_in(12));
             }
         }
     });
