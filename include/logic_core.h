@@ -55,13 +55,14 @@ enum lc_recorder {
     LC_FALLING_LINES = 11, LC_EDGE_LINES = 12, LC_KNOWN = 13, LC_PREVIOUS = 14, LC_RING_PLACE = 15, LC_KEPT = 16
 };
 
-/* Which is which behind an out pointer that takes several: the sizes of lc_needs, a node, the ends of lc_burst_at, the counts
- * of lc_encoder, and the jumps of lc_mill_burst_at. The numbers of a node begin so in level memory too. */
+/* Which is which behind an out pointer that takes several: the sizes of lc_needs, a node, the ends of lc_burst_at, the
+ * counts of lc_encoder, the jumps of lc_mill_burst_at, and what lc_file_says says. The numbers of a node begin so in level
+ * memory too. */
 enum lc_out {
     LC_SIZE_SAMPLES = 0, LC_SIZE_LEVEL_1 = 1, LC_SIZE_LEVEL_2 = 2, LC_SIZE_LEVEL_3 = 3, LC_SIZE_LEVEL_4 = 4,
     LC_NODE_FIRST = 0, LC_NODE_LAST = 1, LC_NODE_TOGGLES = 2, LC_BURST_FIRST = 0, LC_BURST_LAST = 1, LC_BURST_JUMPS_END = 2,
     LC_BURST_JUMPS_START = 3, LC_ENCODER_FORWARD = 0, LC_ENCODER_BACKWARD = 1, LC_ENCODER_SKIPPED = 2,
-    LC_MILL_JUMPS_END = 0, LC_MILL_JUMPS_START = 1
+    LC_MILL_JUMPS_END = 0, LC_MILL_JUMPS_START = 1, LC_SAID_UNIT = 0, LC_SAID_LEN = 1, LC_SAID_MARKED = 2, LC_SAID_MARK = 3
 };
 
 /* Lent memory in one value: the samples, the levels 1 to 4, and how many elements of each are lent, in lc_needs' order. */
@@ -163,11 +164,40 @@ uint32_t lc_encoder(const size_t record[5], LC_CONST_MEMORY, size_t a, size_t b,
 uint32_t lc_render(const size_t record[5], LC_CONST_MEMORY, double start, double spp, size_t width,
                    uint16_t *output, size_t output_len);
 
+/* Shelf files. A capture has one file: its unit, mark and samples in blocks of 512 bytes; capacity and levels are not in
+ * it. All numbers are low byte first. A block is its check (bytes 0 and 1), the count of its payload (2 and 3), its number
+ * from 0 (4 to 7), zeros (8 to 11), and its payload, filled up with zeros (12 to 511). The check is the sum of place * byte
+ * over the places 2 to 511, modulo 65521. The payload of block 0 is 18 bytes: unit, 1 where there is a mark and else 0, len
+ * in 8 bytes, mark in 8, 0 where there is none. The other blocks have the sample bytes, 500 each, the last one 1 to 500;
+ * without samples there are none.
+ *
+ * No capture has a file with one byte changed. Mills have no call for files, which show every line. */
+
+/* How long a capture's file is, in bytes: 512 for block 0, and 512 for each 500 sample bytes, begun ones too. Refuses with
+ * 1. */
+uint32_t lc_file_len(const size_t record[5], size_t *len);
+
+/* What a file's first 512 bytes say of its capture, to learn how much memory lc_read needs: said becomes unit, len, 1 where
+ * there is a mark and else 0, and the mark, 0 where there is none. Nothing behind those bytes is looked at. Refuses with 16
+ * where no capture's file begins with them, or file_len is below 512. */
+uint32_t lc_file_says(const uint8_t *file, size_t file_len, size_t said[4]);
+
+/* Writes the capture's file to the start of output: len becomes its bytes. Output past them is unchanged. Equal units, marks
+ * and samples make equal files, whatever else the record and the memory hold. Refuses with 1, 2, and 15 where output is
+ * shorter than lc_file_len says. */
+uint32_t lc_write(const size_t record[5], LC_CONST_MEMORY, uint8_t *output, size_t output_len, size_t *len);
+
+/* Reads the capture that has a file, file_len bytes in all, into a new store of a capacity: record becomes its numbers,
+ * with the file's unit, len and mark, and the lent memory what lc_append of all its samples to a store with nothing in it
+ * leaves. Refuses with 1 (the capacity); 16 where no capture has the file; and 15 where its len is above the capacity, or
+ * lent memory is shorter than lc_needs says of the capacity and the file's unit. */
+uint32_t lc_read(size_t capacity, const uint8_t *file, size_t file_len, LC_MEMORY, size_t record[5]);
+
 /* A mill's reader: the calls lc_mill_*, for whoever may see some lines only. Each takes a grant, a mask of lines, and tells
  * nothing of the others: to it, two captures of equal length, mark and granted lines look alike, refusals too, each with its
  * memory lent whole; unit, capacity and the other lines may differ. Who holds the memory can read all lines in it, so the
- * caller keeps the memory and hands on the answers. lc_density, lc_raw and lc_whole are not for mills: the count of changes,
- * the bytes and the nodes tell of every line.
+ * caller keeps the memory and hands on the answers. lc_density, lc_raw, lc_whole and a capture's file are not for mills: the
+ * count of changes, the bytes and the nodes tell of every line.
  *
  * Samples, nodes and pixels show granted lines only: each number is ANDed with the grant. Places are int64_t numbers that
  * count from the mark, negative before it, or from the first sample where there is no mark: the first sample is at -mark, or

@@ -45,6 +45,10 @@ pub mod out {
     pub const ENCODER_SKIPPED: usize = 2;
     pub const MILL_JUMPS_END: usize = 0;
     pub const MILL_JUMPS_START: usize = 1;
+    pub const SAID_UNIT: usize = 0;
+    pub const SAID_LEN: usize = 1;
+    pub const SAID_MARKED: usize = 2;
+    pub const SAID_MARK: usize = 3;
 }
 
 exports! {
@@ -78,6 +82,8 @@ exports! {
         l3: *const u16, l3_len: usize, l4: *const u16, l4_len: usize,
         ring: *const u8, ring_len: usize, record: *mut [usize; 17], cut: *mut usize
     ) -> u32;
+    fn lc_file_len(record: *const [usize; 5], len: *mut usize) -> u32;
+    fn lc_file_says(file: *const u8, file_len: usize, said: *mut [usize; 4]) -> u32;
     fn lc_get(
         record: *const [usize; 5], samples: *const u8, samples_len: usize,
         l1: *const u16, l1_len: usize, l2: *const u16, l2_len: usize,
@@ -163,6 +169,11 @@ exports! {
         l3: *const u16, l3_len: usize, l4: *const u16, l4_len: usize, chunk: usize,
         from: *mut usize, to: *mut usize
     ) -> ();
+    fn lc_read(
+        capacity: usize, file: *const u8, file_len: usize, samples: *mut u8, samples_len: usize,
+        l1: *mut u16, l1_len: usize, l2: *mut u16, l2_len: usize, l3: *mut u16, l3_len: usize,
+        l4: *mut u16, l4_len: usize, record: *mut [usize; 5]
+    ) -> u32;
     fn lc_render(
         record: *const [usize; 5], samples: *const u8, samples_len: usize,
         l1: *const u16, l1_len: usize, l2: *const u16, l2_len: usize,
@@ -191,5 +202,11 @@ exports! {
         l1: *const u16, l1_len: usize, l2: *const u16, l2_len: usize,
         l3: *const u16, l3_len: usize, l4: *const u16, l4_len: usize, level: *mut usize,
         number: *mut usize
+    ) -> u32;
+    fn lc_write(
+        record: *const [usize; 5], samples: *const u8, samples_len: usize,
+        l1: *const u16, l1_len: usize, l2: *const u16, l2_len: usize,
+        l3: *const u16, l3_len: usize, l4: *const u16, l4_len: usize,
+        output: *mut u8, output_len: usize, len: *mut usize
     ) -> u32;
 }

@@ -1,10 +1,12 @@
 /* Records the lines of a log turner through a trigger, searches and draws what was recorded, replays its encoder to see that
- * the log came home, and checks each answer by a plain scan. Prints the answers; exits with 1 at the first that is wrong. */
+ * the log came home, writes its file and reads that again, and checks each answer by a plain scan. Prints the answers; exits
+ * with 1 at the first that is wrong. */
 #include "logic_core.h"
 
 #include <inttypes.h>
 #include <stdio.h>
 #include <stdlib.h>
+#include <string.h>
 
 enum {
     CHANNELS = 8,       /* up to 8: one byte a sample */
@@ -40,6 +42,22 @@ static void must(int holds, const char *what) {
     }
 }
 
+/* Lends as much as lc_needs says. */
+static lc_memory lend_memory(size_t channels, size_t capacity) {
+    lc_memory m;
+    must(lc_needs(channels, capacity, m.sizes) == 0, "needs");
+    m.samples = lend(m.sizes[LC_SIZE_SAMPLES]);
+    for (int level = 0; level < 4; level++)
+        m.level[level] = lend(m.sizes[LC_SIZE_LEVEL_1 + level] * sizeof *m.level[level]);
+    return m;
+}
+
+static void give_back(lc_memory m) {
+    free(m.samples);
+    for (int level = 0; level < 4; level++)
+        free(m.level[level]);
+}
+
 /* The steps that the turner makes one way, so many samples after it begins. */
 static size_t turned(size_t samples) {
     const size_t steps = samples / STEP;
@@ -69,16 +87,11 @@ static int stands(uint8_t sample) {
 }
 
 int main(void) {
-    /* The memory that is lent stays ours, and goes to each call on the record. */
-    lc_memory m;
-    size_t record[17], cut;
-
-    /* Lend as much as lc_needs says; the ring holds what is kept before the trigger, less than the limit. */
-    must(lc_needs(CHANNELS, CAPACITY, m.sizes) == 0, "needs");
-    m.samples = lend(m.sizes[LC_SIZE_SAMPLES]);
-    for (int level = 0; level < 4; level++)
-        m.level[level] = lend(m.sizes[LC_SIZE_LEVEL_1 + level] * sizeof *m.level[level]);
+    /* The memory that is lent stays ours, and goes to each call on the record. The ring holds what is kept before the
+     * trigger, less than the limit. */
+    lc_memory m = lend_memory(CHANNELS, CAPACITY);
     uint8_t *ring = lend(LIMIT);
+    size_t record[17], cut;
 
     /* A quarter of the limit from before the drive rises. */
     const uint8_t terms[] = {DRIVE, RISING};
@@ -212,15 +225,35 @@ int main(void) {
     for (int c = 0; c < 3; c++)
         must(steps_seen[c] == counts[c], "a mill's steps");
 
+    /* Its file, as it would lie on a shelf: the mark and the samples come back, and the levels are made anew. */
+    size_t file_len, written, said[4], again[5];
+    must(lc_file_len(record, &file_len) == 0, "the file's length");
+    uint8_t *file = lend(file_len);
+    must(lc_write(record, LC_LEND(m), file, file_len, &written) == 0 && written == file_len, "write");
+    must(lc_file_says(file, file_len, said) == 0, "what block 0 says");
+    printf("file: %zu bytes, unit %zu, len %zu, mark %zu\n", file_len, said[LC_SAID_UNIT], said[LC_SAID_LEN],
+           said[LC_SAID_MARK]);
+    const size_t room = said[LC_SAID_LEN];
+    lc_memory r = lend_memory(8 * said[LC_SAID_UNIT], room);
+    must(lc_read(room, file, file_len, LC_LEND(r), again) == 0, "read");
+    must(again[LC_LEN] == len && again[LC_MARKED] == 1 && again[LC_MARK] == mark, "the read length and mark");
+    must(memcmp(r.samples, m.samples, len) == 0, "the read samples");
+    must(lc_whole(again, LC_LEND(r), &level, &number) == 0, "the levels are made anew");
+    const uint32_t small = lc_read(room - 1, file, file_len, LC_LEND(r), again);
+    file[file_len / 2] ^= 1;
+    const uint32_t damaged = lc_read(room, file, file_len, LC_LEND(r), again);
+    printf("a capacity below len, and a changed byte: refused with %u and %u\n", (unsigned)small, (unsigned)damaged);
+    must(small == 15 && damaged == 16 && again[LC_LEN] == len, "a file's refusals");
+
     /* A refusal has a number, and changes nothing. */
     uint16_t value = 77;
     const uint32_t refused = lc_get(record, LC_LEND(m), len, &value);
     printf("get past the end: refused with %u\n", (unsigned)refused);
     must(refused == 9 && value == 77, "the refusal");
 
-    free(m.samples);
-    for (int l = 0; l < 4; l++)
-        free(m.level[l]);
+    give_back(m);
+    give_back(r);
     free(ring);
+    free(file);
     return 0;
 }

@@ -1,6 +1,7 @@
 //! How fast the unchanged Rust is, and beside it the port. See ../README.md.
 
 mod plain;
+mod plain_file;
 mod rattle;
 mod rust;
 mod side;
@@ -8,7 +9,7 @@ mod table;
 mod work;
 
 use table::Table;
-use work::{Appends, Bursts, Encoder, Pushes, Ranges, Row, Samples, Wait, Walk};
+use work::{Appends, Bursts, Encoder, Filing, Pushes, Ranges, Row, Samples, Wait, Walk};
 
 const CHUNK: u64 = 1_048_576;
 
@@ -37,6 +38,7 @@ fn main() {
         }
         questions(&mut table);
         encoders(&mut table);
+        files(&mut table);
     }
 }
 
@@ -149,6 +151,22 @@ fn turning(table: &mut Table, len: u64, name: &str, gap: Option<[u64; 2]>) {
     if (len, gap) == (CHUNK, Some([50, 150])) {
         let name = format!("{whole} by a mill, {name}");
         table.line(&name, "sample", |side| side.mill_encoder(&work));
+    }
+}
+
+/// Files of few samples and of many.
+fn files(table: &mut Table) {
+    for (name, len, times) in [("1000", 1_000, 1_000), ("4M", LEN, 1)] {
+        let samples = Samples::noise(table.unit, len);
+        table.hold(&samples);
+        let work = Filing { samples: &samples, times };
+        table.line(&format!("write of {name}"), "sample", |side| side.write(&work));
+        table.line_beside(
+            [&format!("read of {name}"), "append and one pass of the check"],
+            "sample",
+            |side| side.read(&work),
+            |side| side.append_and_check(&work),
+        );
     }
 }
 

@@ -1,10 +1,14 @@
 //! The port, over memory that it is lent. Without the static library it has no operation. The counts of nodes read, and those
 //! of the changes in a summary, are thrown away: the Rust has none.
 
-use crate::side::{timed, turned, Side, Timed};
-use crate::work::{Appends, Bursts, Encoder, Pushes, Ranges, Row, Samples, Wait, Walk, GRANT};
-use port::{mill, out, record, Asked, Feeder, Lent, LentMut, Record, Settings};
+use crate::plain_file;
+use crate::side::{filed, timed, turned, Side, Timed};
+use crate::work::{
+    Appends, Bursts, Encoder, Filing, Pushes, Ranges, Row, Samples, Wait, Walk, GRANT,
+};
+use port::{file, mill, out, record, Asked, Feeder, Lent, LentMut, Record, Settings};
 use std::cell::RefCell;
+use std::hint::black_box;
 
 #[derive(Default)]
 struct Capture {
@@ -20,6 +24,7 @@ pub struct Rattle {
     appended: RefCell<Capture>,
     output: RefCell<Vec<u16>>,
     ring: RefCell<Vec<u8>>,
+    file: RefCell<Vec<u8>>,
 }
 
 const NONE: &str = "none";
@@ -44,6 +49,13 @@ impl Capture {
         let [l1, l2, l3, l4] = &mut self.levels;
         let lent = LentMut { samples: &mut self.samples, levels: [l1, l2, l3, l4] };
         assert_eq!(port::append(&mut self.record, lent, bytes), 0);
+    }
+
+    fn read(&mut self, file: &[u8]) {
+        let [l1, l2, l3, l4] = &mut self.levels;
+        let lent = LentMut { samples: &mut self.samples, levels: [l1, l2, l3, l4] };
+        let capacity = self.record[record::CAPACITY];
+        assert_eq!(file::read(capacity, file, lent, &mut self.record), 0);
     }
 
     /// A recorder over this memory that keeps `pre` samples while it waits.
@@ -232,6 +244,45 @@ impl Side for Rattle {
         })
     }
 
+    fn write(&self, work: &Filing) -> Option<Timed> {
+        let ((record, _), lent) = (self.held.marked(), self.held.lent());
+        let mut output = self.file.borrow_mut();
+        output.resize(plain_file::length(work.samples.bytes.len()), 0xA5);
+        port::LINKED.then_some(())?;
+        let timed = timed(LENT, || {
+            let mut len = 0;
+            for _ in 0..work.times {
+                assert_eq!(file::write(&record, lent, &mut output, &mut len), 0);
+            }
+            (work.count(), 0)
+        })?;
+        Some(Timed { sum: filed(&output), ..timed })
+    }
+
+    fn read(&self, work: &Filing) -> Option<Timed> {
+        let mut capture = self.appended.borrow_mut();
+        let file = self.prepared(work, &mut capture)?;
+        timed(LENT, || {
+            for _ in 0..work.times {
+                capture.read(black_box(&file));
+            }
+            (work.count(), capture.record[record::LEN] as u64)
+        })
+    }
+
+    fn append_and_check(&self, work: &Filing) -> Option<Timed> {
+        let mut capture = self.appended.borrow_mut();
+        let file = self.prepared(work, &mut capture)?;
+        timed(LENT, || {
+            for _ in 0..work.times {
+                capture.record[record::LEN] = 0;
+                capture.append(&work.samples.bytes);
+                assert_eq!(plain_file::checked(black_box(&file)), file.len() / 512);
+            }
+            (work.count(), capture.record[record::LEN] as u64)
+        })
+    }
+
     fn mill_next_change(&self, work: &Walk) -> Option<Timed> {
         let ((record, mark), lent) = (self.held.marked(), self.held.lent());
         port::LINKED.then_some(())?;
@@ -285,6 +336,17 @@ impl Side for Rattle {
             assert_eq!(mill::encoder(record, lent, grant, a, b, &mut position, &mut counts), 0);
             (work.samples.len(), turned(position, in_order(counts)))
         })
+    }
+}
+
+impl Rattle {
+    /// The file of a work, and a store for its samples.
+    fn prepared(&self, work: &Filing, capture: &mut Capture) -> Option<Vec<u8>> {
+        let Samples { unit, bytes } = work.samples;
+        port::LINKED.then(|| capture.start(*unit, work.samples.len() as usize))?;
+        let mut file = vec![0; plain_file::length(bytes.len())];
+        plain_file::write(*unit, Some(work.mark()), bytes, &mut file);
+        Some(file)
     }
 }
 

@@ -1,19 +1,25 @@
 //! The unchanged Rust.
 
-use crate::plain;
-use crate::side::{timed, turned, Side, Timed};
-use crate::work::{Appends, Bursts, Encoder, Pushes, Ranges, Row, Samples, Wait, Walk, GRANT};
+use crate::side::{filed, timed, turned, Side, Timed};
+use crate::work::{
+    Appends, Bursts, Encoder, Filing, Pushes, Ranges, Row, Samples, Wait, Walk, GRANT,
+};
+use crate::{plain, plain_file};
 use edgewise::capture::{Capture, Node, Snapshot};
 use edgewise::trigger::{Condition, Feeder, TriggerTerm};
+use std::cell::RefCell;
+use std::hint::black_box;
 use std::sync::Arc;
 
 pub struct Rust {
     snapshot: Snapshot,
+    /// Where a plain writer writes, again in each round.
+    output: RefCell<Vec<u8>>,
 }
 
 impl Rust {
     pub fn new() -> Rust {
-        Rust { snapshot: Snapshot::empty() }
+        Rust { snapshot: Snapshot::empty(), output: RefCell::default() }
     }
 }
 
@@ -21,6 +27,7 @@ const NONE: &str = "none";
 const ALLOCATED: &str = "allocated in the call, not cleared";
 const CLEARED: &str = "allocated in the call, cleared";
 const SCAN: &str = "none, a plain scan";
+const WRITER: &str = "a plain writer's, written before, not cleared";
 
 fn capture(unit: usize) -> Capture {
     Capture::new(1, 8 * unit)
@@ -126,6 +133,20 @@ impl Side for Rust {
             let (position, counts) = plain::encoder(work.samples, work.lines);
             (work.samples.len(), turned(position, counts))
         })
+    }
+
+    /// It has no such call: a plain writer stands in its place.
+    fn write(&self, work: &Filing) -> Option<Timed> {
+        let Samples { unit, bytes } = work.samples;
+        let mut output = self.output.borrow_mut();
+        output.resize(plain_file::length(bytes.len()), 0xA5);
+        let timed = timed(WRITER, || {
+            for _ in 0..work.times {
+                plain_file::write(*unit, Some(work.mark()), black_box(bytes), &mut output);
+            }
+            (work.count(), 0)
+        })?;
+        Some(Timed { sum: filed(&output), ..timed })
     }
 
     // It has no reader for mills: these are its own calls, and their answers are cut down.

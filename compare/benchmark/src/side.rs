@@ -1,12 +1,12 @@
 //! A side of the benchmark. Each function does one work and says how long it took;
 //! a side that lacks an operation leaves its function as it stands here.
 
-use crate::work::{Appends, Bursts, Encoder, Pushes, Ranges, Row, Samples, Walk};
+use crate::work::{Appends, Bursts, Encoder, Filing, Pushes, Ranges, Row, Samples, Walk};
 use std::time::{Duration, Instant};
 
 pub struct Timed {
     pub time: Duration,
-    /// Samples stored, copied or replayed, changes found, calls made, pixels drawn.
+    /// Samples stored, copied, replayed or filed, changes found, calls made, pixels drawn.
     pub count: u64,
     /// A sum over the answers: equal on both sides, and nothing is optimised away.
     pub sum: u64,
@@ -59,6 +59,21 @@ pub trait Side {
         None
     }
 
+    /// The file of the capture that is held, into memory that was written before.
+    fn write(&self, work: &Filing) -> Option<Timed> {
+        None
+    }
+
+    /// That file, into a new store.
+    fn read(&self, work: &Filing) -> Option<Timed> {
+        None
+    }
+
+    /// Its samples appended to a new store, and one plain pass of the check over the file.
+    fn append_and_check(&self, work: &Filing) -> Option<Timed> {
+        None
+    }
+
     // The same by a mill's reader: lines of GRANT, places from the middle of the capture; an encoder by one who may see no
     // other line.
 
@@ -82,6 +97,12 @@ pub trait Side {
 /// What an encoder comes to as one number.
 pub fn turned(position: i64, counts: [u64; 3]) -> u64 {
     counts.into_iter().fold(position as u64, |sum, n| sum.wrapping_mul(257).wrapping_add(n))
+}
+
+/// A file as one number.
+pub fn filed(file: &[u8]) -> u64 {
+    file.iter()
+        .fold(file.len() as u64, |sum, &byte| sum.wrapping_mul(257).wrapping_add(byte as u64))
 }
 
 /// Times a work that gives its count and its sum.

@@ -135,6 +135,23 @@ pub struct Encoder<'a> {
     pub lines: [usize; 2],
 }
 
+/// The file of these samples, with a mark in the middle, so many times over.
+pub struct Filing<'a> {
+    pub samples: &'a Samples,
+    pub times: u64,
+}
+
+impl Filing<'_> {
+    pub fn mark(&self) -> u64 {
+        self.samples.len() / 2
+    }
+
+    /// Samples that are written or read in all.
+    pub fn count(&self) -> u64 {
+        self.times * self.samples.len()
+    }
+}
+
 /// One row of pixels.
 pub struct Row {
     pub start: f64,

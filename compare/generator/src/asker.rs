@@ -81,6 +81,10 @@ impl Asker {
         };
         let refused = ruled.is_err() || self.document.refuses();
         let own = if refused { None } else { self.rust.take(op) };
+        // It reads no files: what was read is given to it.
+        if let (Op::Read { .. }, Ok(_)) = (op, &ruled) {
+            self.rust.hold(self.document.store(), self.document.samples());
+        }
         self.count(op, own.is_some(), refused);
         let mut faults = self.port.as_mut().map_or(Vec::new(), Port::faults);
         if own.as_ref().is_some_and(|own| *own != ruled) {

@@ -1,8 +1,9 @@
-//! The port beside the Rust and the document: the recorded answers, then random captures for a given time.
+//! The port beside the Rust and the document: the recorded answers, what is asked once, then random captures for a given time.
 
 use crate::document::rules;
 use crate::encoders::Encoders;
 use crate::feed::Feed;
+use crate::files::Files;
 use crate::groups::GROUPS;
 use crate::line::Numbers;
 use crate::list::{append, List};
@@ -43,9 +44,8 @@ fn replay(name: &str) -> bool {
         let Some(op) = Op::read(&mut Numbers::new(line)) else {
             continue;
         };
-        let scene = matches!(op, Op::Lend(_) | Op::Record(_) | Op::Feeder(_) | Op::Put { .. });
         let answer = port.take(&op);
-        if scene {
+        if op.sets() {
             continue;
         }
         let Some(answer) = answer else {
@@ -91,15 +91,17 @@ fn line_says(line: &str, (asked, answer): &(Vec<u64>, Vec<u64>)) -> bool {
 }
 
 fn random(seconds: u64, seed: u64) -> bool {
-    let begun = Instant::now();
     let mut list = List::with_port();
     let mut rng = Rng::new(seed);
     let mut mills = Mills::default();
     let mut unfinished = Unfinished::default();
     let mut noise = Noise::default();
     let mut encoders = Encoders::default();
+    let mut files = Files::default();
     let mut longs = 0;
     encoders.sweep(&mut list, &mut rng);
+    files.sweep(&mut list, &mut rng);
+    let begun = Instant::now();
     while begun.elapsed() < Duration::from_secs(seconds) && list.asker().differences.len() < MANY {
         let group = &GROUPS[rng.below(GROUPS.len() as u64) as usize];
         match rng.below(2_000) {
@@ -112,6 +114,9 @@ fn random(seconds: u64, seed: u64) -> bool {
             _ => (group.random)(&mut list, &mut rng, Size::Short),
         }
         mills.ask(&mut list, &mut rng);
+        if rng.once_in(4) {
+            files.ask(&mut list, &mut rng);
+        }
         unfinished.ask(&mut list, &mut rng);
         noise.ask(&mut list, &mut rng);
         if rng.once_in(2) {
@@ -156,6 +161,14 @@ fn random(seconds: u64, seed: u64) -> bool {
         "{} encoders replayed, {unmade} of them over memory that no call made; {} runs beside their reverse",
         made + unmade,
         encoders.reversed,
+    );
+    let (writes, reads) = asker.port().map_or((0, 0), |port| (port.writes, port.reads));
+    println!(
+        "{} files written and {} read, {} written of two captures that hold the same; {} files with one byte changed were not read",
+        writes + files.other.writes + noise.port.writes,
+        reads + noise.port.reads,
+        files.twice,
+        files.changed,
     );
     asker.differences.is_empty()
 }

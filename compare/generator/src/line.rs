@@ -19,6 +19,7 @@ impl Op {
             }
             Op::Feeder(r) => vec![3, r.limit, r.pre, r.kept, r.place],
             Op::Put { level, index, value } => vec![4, *level, *index, *value as u64],
+            Op::PutFile { at, byte } => vec![5, *at, *byte as u64],
             Op::Capture { channels, capacity } => vec![10, *channels, *capacity],
             Op::Append(feed) => feed_numbers(11, feed),
             Op::Run => vec![14],
@@ -40,6 +41,10 @@ impl Op {
             Op::Start(settings) => start_numbers(settings),
             Op::Push(feed) => feed_numbers(52, feed),
             Op::State => vec![55],
+            Op::Write { output } => vec![60, *output],
+            Op::Read { capacity, count } => vec![61, *capacity, *count],
+            Op::Says { count } => vec![62, *count],
+            Op::FileLen => vec![63],
             Op::Mill(mill) => mill_numbers(mill),
         }
     }
@@ -66,6 +71,7 @@ impl Op {
                 Op::Feeder(Recorder { limit: next()?, pre: next()?, kept: next()?, place: next()? })
             }
             4 => Op::Put { level: next()?, index: next()?, value: next()? as u16 },
+            5 => Op::PutFile { at: next()?, byte: next()? as u8 },
             10 => Op::Capture { channels: next()?, capacity: next()? },
             code @ 11..=13 => Op::Append(read_feed(code - 11, numbers)?),
             14 => Op::Run,
@@ -91,6 +97,10 @@ impl Op {
             51 => Op::Start(read_start(numbers)?),
             code @ 52..=54 => Op::Push(read_feed(code - 52, numbers)?),
             55 => Op::State,
+            60 => Op::Write { output: next()? },
+            61 => Op::Read { capacity: next()?, count: next()? },
+            62 => Op::Says { count: next()? },
+            63 => Op::FileLen,
             _ => return None,
         })
     }
@@ -100,21 +110,21 @@ impl Op {
 fn mill_numbers(Mill { grant, ask }: &Mill) -> Vec<u64> {
     let grant = *grant as u64;
     match *ask {
-        Ask::Extent => vec![60],
-        Ask::Get(place) => vec![61, grant, place as u64],
-        Ask::Samples { start, count, output } => vec![62, grant, start as u64, count, output],
-        Ask::Summary { a, b } => vec![63, grant, a as u64, b as u64],
-        Ask::Next { mask, from } => vec![64, grant, mask as u64, from as u64],
-        Ask::Prev { mask, from } => vec![65, grant, mask as u64, from as u64],
+        Ask::Extent => vec![70],
+        Ask::Get(place) => vec![71, grant, place as u64],
+        Ask::Samples { start, count, output } => vec![72, grant, start as u64, count, output],
+        Ask::Summary { a, b } => vec![73, grant, a as u64, b as u64],
+        Ask::Next { mask, from } => vec![74, grant, mask as u64, from as u64],
+        Ask::Prev { mask, from } => vec![75, grant, mask as u64, from as u64],
         Ask::Burst { mask, sample, max_gap, tolerance, budget } => {
-            vec![66, grant, mask as u64, sample as u64, max_gap, tolerance, budget]
+            vec![76, grant, mask as u64, sample as u64, max_gap, tolerance, budget]
         }
         Ask::Render(view) => {
-            let mut line = view_numbers(67, &view);
+            let mut line = view_numbers(77, &view);
             line.insert(1, grant);
             line
         }
-        Ask::Encoder { a, b } => vec![68, grant, a, b],
+        Ask::Encoder { a, b } => vec![78, grant, a, b],
     }
 }
 

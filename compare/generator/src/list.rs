@@ -66,6 +66,15 @@ impl List {
         self.lent
     }
 
+    /// Puts bytes into file memory, by a line for each that is another there.
+    pub fn put_file(&mut self, from: usize, bytes: &[u8]) {
+        for (at, &byte) in (from..).zip(bytes) {
+            if self.asker.document().files().at(at) != byte {
+                self.say(Op::PutFile { at: at as u64, byte });
+            }
+        }
+    }
+
     /// A store over exactly the memory that it needs.
     pub fn capture(&mut self, channels: u64, capacity: u64) {
         self.lend(refusals::need(rules::unit(channels), capacity));

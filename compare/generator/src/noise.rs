@@ -3,7 +3,7 @@
 //! the walk over what memory holds, a summary and its count of changes those of the nodes that are there, to which the port's
 //! side holds them. An encoder's position is that of its counts, and a mill that may see its lines gets what the service gets.
 
-use crate::document::{refusals::need, rules};
+use crate::document::{file, refusals::need, rules};
 use crate::feed::Feed;
 use crate::list::List;
 use crate::mill::{self, Run};
@@ -44,6 +44,9 @@ impl Noise {
         }
         densities(&mut self.port, list, rng);
         encoders(&mut self.port, list, rng);
+        if rng.once_in(4) {
+            files(&mut self.port, list, rng);
+        }
     }
 
     /// Large counts in neighbouring nodes of a level, most of which add up to about 2^32.
@@ -131,6 +134,27 @@ pub fn encoders(port: &mut Port, list: &mut List, rng: &mut Rng) {
         }
         for fault in faults {
             list.asker().differs(&format!("memory that no call made: {ops:?}: {fault}"));
+        }
+    }
+}
+
+/// Writes the file of what memory holds, and reads it again over the same memory: then the levels are right.
+fn files(port: &mut Port, list: &mut List, rng: &mut Rng) {
+    let (unit, len) = (port.unit(), port.len());
+    let count = file::length(unit, len);
+    let capacity = (len + rng.below(3)).max(1);
+    for op in [
+        Op::FileLen,
+        Op::Write { output: count - rng.below(2) },
+        Op::Write { output: count + rng.below(2) },
+        Op::Lend(need(unit, capacity)),
+        Op::Read { capacity: len.saturating_sub(1), count },
+        Op::Read { capacity, count },
+        Op::Whole,
+    ] {
+        port.take(&op);
+        for fault in port.faults() {
+            list.asker().differs(&format!("memory that no call made: {op:?}: {fault}"));
         }
     }
 }

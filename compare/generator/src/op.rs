@@ -108,6 +108,7 @@ pub enum Op {
     Record(Store),
     Feeder(Recorder),
     Put { level: u64, index: u64, value: u16 },
+    PutFile { at: u64, byte: u8 },
     // The store.
     Capture { channels: u64, capacity: u64 },
     Append(Feed),
@@ -131,12 +132,25 @@ pub enum Op {
     Start(Settings),
     Push(Feed),
     State,
+    // Files: all in the first bytes of file memory.
+    Write { output: u64 },
+    Read { capacity: u64, count: u64 },
+    Says { count: u64 },
+    FileLen,
     // A mill's. They stand in no list: the Rust has no such reader.
     Mill(Mill),
 }
 
 impl Op {
-    /// Whether another capture begins here.
+    /// Whether it sets the scene.
+    pub fn sets(&self) -> bool {
+        matches!(
+            self,
+            Op::Lend(_) | Op::Record(_) | Op::Feeder(_) | Op::Put { .. } | Op::PutFile { .. }
+        )
+    }
+
+    /// Whether another capture begins here, with nothing in it.
     pub fn begins(&self) -> bool {
         matches!(self, Op::Capture { .. } | Op::Start(_))
     }

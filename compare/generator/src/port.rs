@@ -1,6 +1,7 @@
 //! The port as a side, over lent memory that is filled with a pattern first.
 //! Beside it stands what the calls must leave there; whatever else changes is a fault.
 
+mod file;
 mod memory;
 mod mill;
 mod recorder;
@@ -9,6 +10,7 @@ mod walk;
 use crate::digest::digest;
 use crate::document::rules::Turns;
 use crate::document::{listed, optional, refusals, turned};
+use crate::file_memory::FileMemory;
 use crate::node::{joined, span, Node};
 use crate::op::{Burst, Lent, Op, Recorder, Store, View};
 use crate::side::{Answer, Side};
@@ -38,6 +40,7 @@ pub struct Port {
     memory: Memory,
     /// What memory must hold.
     right: Memory,
+    pub files: FileMemory,
     /// Whether calls alone made the record and the levels.
     made: bool,
     /// The nodes that the last call read, where it was a search or a burst and not refused.
@@ -49,6 +52,9 @@ pub struct Port {
     pub cut: u64,
     /// Encoders replayed.
     pub turns: u64,
+    /// Files written, and files read.
+    pub writes: u64,
+    pub reads: u64,
     calls: u64,
     faults: Vec<String>,
 }
@@ -86,12 +92,13 @@ impl Side for Port {
                     memory.levels[level as usize - 1][index as usize] = value;
                 }
             }
+            Op::PutFile { at, byte } => self.files.put(at as usize, byte),
             _ => {
                 self.read = None;
                 let before = (self.record, self.own);
                 let answer = self.answer(op)?;
                 let changes =
-                    matches!(op, Op::Capture { .. } | Op::Append(_) | Op::Start(_) | Op::Push(_));
+                    op.begins() || matches!(op, Op::Append(_) | Op::Push(_) | Op::Read { .. });
                 if !(changes && answer.is_ok()) {
                     self.same("record", before, (self.record, self.own));
                 }
@@ -107,6 +114,10 @@ impl Port {
     /// The faults since the last call of this.
     pub fn faults(&mut self) -> Vec<String> {
         std::mem::take(&mut self.faults)
+    }
+
+    pub fn unit(&self) -> u64 {
+        self.record[record::UNIT] as u64
     }
 
     /// The record's len.
@@ -140,6 +151,10 @@ impl Port {
                 last
             }
             Op::State => self.state(),
+            Op::FileLen => self.file_len(),
+            Op::Write { output } => self.write(output),
+            Op::Read { capacity, count } => self.read(capacity, count),
+            Op::Says { count } => self.says(count),
             Op::Run => self.run(),
             Op::Get(i) => {
                 let mut value = 0xA5C3;

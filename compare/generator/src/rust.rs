@@ -5,7 +5,8 @@ mod mill;
 
 use crate::digest::digest;
 use crate::document::{listed, optional};
-use crate::op::{Burst, Condition, Op, Settings, Term, Wish};
+use crate::feed::to_bytes;
+use crate::op::{Burst, Condition, Op, Settings, Store, Term, Wish};
 use crate::side::{Answer, Side};
 use edgewise::capture::{Capture, Snapshot};
 use edgewise::trigger::{self, pretrigger_samples, Feeder, TriggerTerm};
@@ -119,6 +120,14 @@ impl Rust {
             // No such calls, or none that shows it.
             _ => None,
         }
+    }
+
+    /// A capture that holds these samples, by one append.
+    pub fn hold(&mut self, store: Store, samples: &[u16]) {
+        self.capture = Arc::new(Capture::new(0, 8 * store.unit as usize));
+        self.capture.append(&to_bytes(samples, store.unit));
+        self.capture.set_trigger(store.mark);
+        self.feeder = None;
     }
 
     fn start(&mut self, s: &Settings) -> Vec<u64> {

@@ -67,6 +67,9 @@ pub fn write() -> bool {
 
 #[cfg(test)]
 mod tests {
+    use crate::groups::file::ROOM;
+    use crate::line::Numbers;
+    use crate::op::Op;
     use std::sync::OnceLock;
 
     fn make() -> Vec<String> {
@@ -95,11 +98,19 @@ mod tests {
                     let lengths = lengths.split(' ').map(|n| n.parse::<u64>().unwrap());
                     assert!(lengths.zip(most).all(|(length, most)| length <= most), "{line}");
                 }
+                let in_file_memory = match Op::read(&mut Numbers::new(line)) {
+                    Some(Op::PutFile { at, .. }) => at < ROOM,
+                    Some(Op::Write { output: count } | Op::Says { count }) => count <= ROOM,
+                    Some(Op::Read { count, .. }) => count <= ROOM,
+                    _ => true,
+                };
+                assert!(in_file_memory, "{line}");
             }
         }
     }
 
-    /// With the numbers that document 01 prints, in its order; then CR 6's order, forward and backward.
+    /// With the numbers that document 01 prints, in its order; then CR 6's order, forward and backward; then the files that
+    /// are worked by hand in document/file.rs.
     #[test]
     fn holds_the_shelf_examples() {
         let lists = texts();
@@ -123,6 +134,9 @@ mod tests {
             (0, vec![a, "15 8 1 9", "15 7 0 0 3"]),
             (5, vec!["11 5 0 1 3 2 0 0 0 5", "24 0 1 1 0 4 4 0 0"]),
             (5, vec!["11 5 0 2 3 1 0 0 0 5", "24 0 1 1 0 18446744073709551612 0 4 0"]),
+            (6, vec!["2 1 1 0 0 0", "63 1 0 512", "60 0 1 15", "60 511 1 15", "60 512 1 0 512"]),
+            (6, vec!["11 6 1 2 3 4 5 255 0 0 3", "2 2 3 3 1 2", "63 1 0 1024", "60 0 1 15"]),
+            (6, vec!["62 512 1 0 2 3 1 2", "62 513 1 0 2 3 1 2", "62 1024 1 0 2 3 1 2"]),
         ] {
             let lines = lines.join("\n");
             assert!(lists[list].contains(&lines), "no\n{lines}");

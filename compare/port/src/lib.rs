@@ -51,6 +51,7 @@ macro_rules! lent {
     }};
 }
 
+pub mod file;
 pub mod mill;
 
 #[inline]

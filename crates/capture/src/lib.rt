@@ -34,7 +34,7 @@ pub struct Capture {
 }
 
 // The mark lies beyond the stored samples.
-fn mark_wrong(m: Mark, len: usize) -> bool
+pub fn mark_wrong(m: Mark, len: usize) -> bool
     ensures { λ r. ⌜ r ≡ markWrong (markOf m) len ⌝ }
 {
     match m {
@@ -54,7 +54,7 @@ pub fn unit_wrong(unitsize: usize) -> bool
 }
 
 // Row 1: a number of the record is outside its range.
-fn record_wrong(c: Capture) -> bool
+pub fn record_wrong(c: Capture) -> bool
     ensures { λ r. ⌜ r ≡ storeWrong (storeOf c) ⌝ }
 {
     if unit_wrong(c.unitsize) {

@@ -1,5 +1,5 @@
 -- Captures that appends made: for every list of appends from a store's start, refused ones included, over any memory, the record, the samples, the levels and each
--- question's answer are 01's for the samples that were taken. It is what a loaded file rests on. 01: Store.
+-- question's answer are 01's for the samples that were taken. It is what raw samples that the tool loads rest on. 01: Store.
 -- The claim speaks of the calls' own contracts, as that of `claim_captures` does. No range is asked of channels, capacity and memory; an append is of bytes.
 use mathlib.Core.Path.{_≡_}
 use mathlib.Core.Bool.{Bool, cond}

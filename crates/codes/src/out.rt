@@ -33,3 +33,11 @@ pub const ENCODER_SKIPPED: usize = 2;
 pub const MILL_JUMPS_END: usize = 0;
 
 pub const MILL_JUMPS_START: usize = 1;
+// what block 0 of a file says
+pub const SAID_UNIT: usize = 0;
+
+pub const SAID_LEN: usize = 1;
+
+pub const SAID_MARKED: usize = 2;
+
+pub const SAID_MARK: usize = 3;

@@ -2,3 +2,4 @@ pub mod Codes
 mod Starts
 mod Told
 mod MillTold
+mod FilesTold

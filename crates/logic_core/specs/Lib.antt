@@ -1,3 +1,4 @@
 pub mod Asked
 pub mod Recorder
 pub mod Mill
+pub mod Files

@@ -3,6 +3,7 @@
 // Each call gives a code: 0; the number of the refusal, which leaves everything as it was; or 100, which is no.
 pub mod mill_reader;
 pub mod recorder;
+pub mod shelf;
 
 use codes::capture_in;
 use lines::Mask;

@@ -2,6 +2,7 @@
 // defines their format. For each list it writes the list's name, how many lines it compared and how many differed,
 // and one line more for the first that did.
 use number::lesser;
+use replay_list::File;
 use replay_list::Level1;
 use replay_list::Level2;
 use replay_list::Level3;
@@ -60,7 +61,7 @@ fn read(path: &[u8], n: usize, text: &mut [u8]) -> usize {
     count
 }
 
-// The lists that the arguments name, one after the other.
+// The lists that the arguments name, one after the other. Each begins with zeros where files stand.
 fn lists(
     path: &mut [u8; 256],
     text: &mut [u8; 131072],
@@ -78,7 +79,20 @@ fn lists(
     while i < count {
         let n = os::arg(i, path);
         let bytes = read(path, n, text);
-        let s = replay_list(text, bytes, samples, l1, l2, l3, l4, ring, output, piece);
+        let mut file: File = [0; 65536];
+        let s = replay_list(
+            text,
+            bytes,
+            samples,
+            l1,
+            l2,
+            l3,
+            l4,
+            ring,
+            output,
+            piece,
+            &mut file,
+        );
         report(path, n, s);
         i += 1;
     }

@@ -5,6 +5,8 @@ use number::lesser;
 use replay_ask::ask;
 use replay_change::write;
 use replay_change::writes;
+use replay_file::about_files;
+use replay_file::file_line;
 use replay_start::Change;
 use replay_start::begin;
 use replay_start::begins;
@@ -41,6 +43,41 @@ fn read_only<'a>(
 }
 
 // What a line does, over the parts of memory that are lent.
+fn over_lent(
+    o: Operation,
+    line: &[u8],
+    f: Feeder,
+    samples: &mut [u8],
+    l1: &mut [Mask],
+    l2: &mut [Mask],
+    l3: &mut [Mask],
+    l4: &mut [Mask],
+    ring: &mut [u8],
+    output: &mut [Mask],
+    piece: &mut [u8],
+    file: &mut [u8],
+) -> Change {
+    if writes(o.code) {
+        return write(o, line, f, samples, l1, l2, l3, l4, ring, piece);
+    }
+    if about_files(o.code) {
+        return file_line(o, f, samples, l1, l2, l3, l4, file);
+    }
+    read_only(
+        o,
+        line,
+        f,
+        &samples[..],
+        &l1[..],
+        &l2[..],
+        &l3[..],
+        &l4[..],
+        &ring[..],
+        output,
+    )
+}
+
+// What a line does, where so much of the memory is lent.
 pub fn step(
     o: Operation,
     line: &[u8],
@@ -54,6 +91,7 @@ pub fn step(
     ring: &mut [u8],
     output: &mut [Mask],
     piece: &mut [u8],
+    file: &mut [u8],
 ) -> Change {
     let e = lesser(lent.samples, samples.len());
     let e1 = lesser(lent.l1, l1.len());
@@ -61,30 +99,18 @@ pub fn step(
     let e3 = lesser(lent.l3, l3.len());
     let e4 = lesser(lent.l4, l4.len());
     let er = lesser(lent.ring, ring.len());
-    if writes(o.code) {
-        return write(
-            o,
-            line,
-            f,
-            &mut samples[0..e],
-            &mut l1[0..e1],
-            &mut l2[0..e2],
-            &mut l3[0..e3],
-            &mut l4[0..e4],
-            &mut ring[0..er],
-            piece,
-        );
-    }
-    read_only(
+    over_lent(
         o,
         line,
         f,
-        &samples[0..e],
-        &l1[0..e1],
-        &l2[0..e2],
-        &l3[0..e3],
-        &l4[0..e4],
-        &ring[0..er],
+        &mut samples[0..e],
+        &mut l1[0..e1],
+        &mut l2[0..e2],
+        &mut l3[0..e3],
+        &mut l4[0..e4],
+        &mut ring[0..er],
         output,
+        piece,
+        file,
     )
 }

@@ -26,6 +26,8 @@ pub type Output = [Mask; 131074];
 
 pub type Piece = [u8; 65536];
 
+pub type File = [u8; 65536];
+
 // All lines of a list of so many bytes.
 pub fn replay_list(
     text: &[u8],
@@ -38,6 +40,7 @@ pub fn replay_list(
     ring: &mut Ring,
     output: &mut Output,
     piece: &mut Piece,
+    file: &mut File,
 ) -> State {
     let n = lesser(count, text.len());
     let mut s = State::start();
@@ -62,6 +65,7 @@ pub fn replay_list(
             ring,
             output,
             piece,
+            file,
         );
         s = s.after(o.code, line, r, output);
         at = line_after(end, n);

@@ -1,6 +1,11 @@
 pub mod Bits
 pub mod Sample
 pub mod SampleBytes
+pub mod Block
+pub mod Changed
+pub mod ShelfBlocks
+pub mod ShelfHead
+pub mod Shelf
 pub mod Trigger
 pub mod Both
 pub mod Selection
@@ -30,6 +35,7 @@ pub mod BorderRows
 pub mod BorderStart
 pub mod BorderMill
 pub mod BorderEncoder
+pub mod BorderShelf
 pub mod BorderNode
 pub mod BorderWalk
 pub mod BorderBurst

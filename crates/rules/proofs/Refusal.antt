@@ -58,7 +58,7 @@ unit-right u = (λ e. go (eqb u 1) refl (not-false _ e), λ h. by (unit-cases h)
     by (inl e) = rw (eq-eqb u 1 e)
     by (inr e) = rw (ne-eqb u 1 (λ z. omega arith), eq-eqb u 2 e)
 
-mark-right : (mark : Option ℕ) (len : ℕ) → (markWrong mark len ≡ false) ↔ ((k : ℕ) → mark ≡ some k → k ≤ len)
+pub mark-right : (mark : Option ℕ) (len : ℕ) → (markWrong mark len ≡ false) ↔ ((k : ℕ) → mark ≡ some k → k ≤ len)
 mark-right none len = (λ e k q. absurd (Option·none-ne-some k q), λ f. refl)
 mark-right (some j) len = (λ e k q. let same : j ≡ k = cc in omega (arith, ltb-false len j e), λ f. le-ltb len j (f j refl))
 
@@ -115,7 +115,7 @@ ranged st e =
     }
 
 module _ (st : Store) (lent : Lent) where
-  rows-then : storeWrong st ≡ false → lentShort st lent ≡ false → Sound st lent × MarkInside st
+  pub rows-then : storeWrong st ≡ false → lentShort st lent ≡ false → Sound st lent × MarkInside st
   rows-then e f =
       let r = ranged st e in
       let l = neither (ltb (lent .samples) (samplesNeed st)) (levelShort st (lent .level) topLevel) .0 f in (

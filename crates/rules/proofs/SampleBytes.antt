@@ -1,11 +1,11 @@
 -- Samples written as bytes read back, for any unit; and a list, number by number.
-use mathlib.Core.Path.{_≡_, refl, sym, ap, ap₂, _∙_}
+use mathlib.Core.Path.{_≡_, refl, sym, ap, ap₂, _∙_, subst⁻¹}
 use mathlib.Core.List.{List, [], _∷_, _++_, append-assoc, append-nil}
 use Prim.Native.Nat.{ℕ, zero, suc, _+_, _*_, _/_, _%_, _^_, _≤_, _<_}
 use native.Mathlib.Nat.{zero-add, zero-mul, div-add-mod', div-lt-iff-lt-mul, mod-lt, pow-succ', mul-div-cancel}
 use native.Mathlib.Omega.{arith}
-use lib.ListN.{length, getD, length-append}
-use lib.Seq.{ext-getD}
+use lib.ListN.{length, getD, take, drop, length-append}
+use lib.Seq.{ext-getD, drop-cons, getD-drop}
 use Rattle.rules.specs.Sample.{little, sampleOf, sampleCount, listFrom, samplesOf}
 use Rattle.rules.specs.SampleBytes.{sampleBytes, bytesOf, Bytes}
 use Rattle.rules.proofs.Sample.{list-length, list-at, little-same, sample-after, samples-length, samples-at}
@@ -28,12 +28,29 @@ little-tail u x l = little-same u (x ∷ l) l (0 + 1) 0 (λ i h. ap (λ (k : ℕ
     one : (i : ℕ) → 0 + 1 + i ≡ suc i
     one i = omega arith
 
-little-back : (u v : ℕ) (rest : List ℕ) → v < 256 ^ u → little u (sampleBytes u v ++ rest) 0 ≡ v
+pub little-back : (u v : ℕ) (rest : List ℕ) → v < 256 ^ u → little u (sampleBytes u v ++ rest) 0 ≡ v
 unfolding sampleBytes
 little-back zero v rest h = omega arith
 little-back (suc u) v rest h =
     ap (λ (x : ℕ). v % 256 + 256 * x) (little-tail u (v % 256) (sampleBytes u (v / 256) ++ rest) ∙ little-back u (v / 256) rest (div-lt-iff-lt-mul (omega arith) .1 (omega (arith, pow-succ' 256 u))))
     ∙ omega (arith, div-add-mod' v 256)
+
+-- a number of bytes that stand in a list, written again
+pub bytes-again : (u : ℕ) (l : List ℕ) (k : ℕ) → Bytes l → k + u ≤ length l → sampleBytes u (little u l k) ≡ take u (drop k l)
+unfolding sampleBytes
+bytes-again zero l k b h = refl
+bytes-again (suc u) l k b h =
+    ap₂ (λ (x : ℕ) (r : List ℕ). x ∷ r) low (ap (sampleBytes u) high ∙ bytes-again u l (k + 1) b (omega arith) ∙ ap (λ (j : ℕ). take u (drop j l)) one)
+    ∙ sym (ap (take (suc u)) (drop-cons l k 0 (omega arith)))
+  where
+    one : k + 1 ≡ suc k
+    one = omega arith
+
+    low : (getD l k 0 + 256 * little u l (k + 1)) % 256 ≡ getD l k 0
+    low = omega (arith, b k)
+
+    high : (getD l k 0 + 256 * little u l (k + 1)) / 256 ≡ little u l (k + 1)
+    high = omega (arith, b k)
 
 pub sample-back : (u v : ℕ) (rest : List ℕ) → v < 256 ^ u → sampleOf u (sampleBytes u v ++ rest) 0 ≡ v
 unfolding sampleOf
@@ -73,7 +90,7 @@ samples-back u vs pos n =
     count = ap (λ (k : ℕ). k / u) (bytes-length u vs) ∙ mul-div-cancel (length vs) pos
 
 -- ---- they are bytes
-bytes-more : (x : ℕ) (l : List ℕ) → x < 256 → Bytes l → Bytes (x ∷ l)
+pub bytes-more : (x : ℕ) (l : List ℕ) → x < 256 → Bytes l → Bytes (x ∷ l)
 bytes-more x l h r zero = h
 bytes-more x l h r (suc k) = r k
 
@@ -81,7 +98,7 @@ pub bytes-append : (a b : List ℕ) → Bytes a → Bytes b → Bytes (a ++ b)
 bytes-append [] b p q k = q k
 bytes-append (x ∷ a) b p q k = bytes-more x (a ++ b) (p 0) (bytes-append a b (λ j. p (suc j)) q) k
 
-sample-are : (u v : ℕ) → Bytes (sampleBytes u v)
+pub sample-are : (u v : ℕ) → Bytes (sampleBytes u v)
 unfolding sampleBytes
 sample-are zero v k = omega arith
 sample-are (suc u) v k = bytes-more (v % 256) (sampleBytes u (v / 256)) (mod-lt v (omega arith)) (sample-are u (v / 256)) k
@@ -90,3 +107,11 @@ pub bytes-are : (u : ℕ) (vs : List ℕ) → Bytes (bytesOf u vs)
 unfolding bytesOf
 bytes-are u [] k = omega arith
 bytes-are u (v ∷ vs) k = bytes-append (sampleBytes u v) (bytesOf u vs) (sample-are u v) (bytes-are u vs) k
+
+pub take-are : (n : ℕ) (l : List ℕ) → Bytes l → Bytes (take n l)
+take-are zero l b k = omega arith
+take-are (suc n) [] b k = omega arith
+take-are (suc n) (x ∷ l) b k = bytes-more x (take n l) (b 0) (take-are n l (λ j. b (suc j))) k
+
+pub drop-are : (n : ℕ) (l : List ℕ) → Bytes l → Bytes (drop n l)
+drop-are n l b k = subst⁻¹ (λ (x : ℕ). x < 256) (getD-drop n l k 0) (b (n + k))

@@ -19,4 +19,7 @@ pub mod Start
 pub mod Ring
 pub mod Push
 pub mod Encoder
+pub mod Block
+pub mod Shelf
+pub mod ShelfCalls
 pub mod Mill

@@ -67,7 +67,7 @@ pub fn append_parts(
 }
 
 // The bytes of src go to dst, from at on.
-fn copy_at(dst: &mut [u8], at: usize, src: &[u8])
+pub fn copy_at(dst: &mut [u8], at: usize, src: &[u8])
     requires { ⌜ at + length (now src) ≤ length (now dst) ⌝ }
     ensures { λ _. ⌜ now (dst .exit) ≡ paste (now (dst .entry)) at (now (src .entry)) (length (now (src .entry))) ⌝ }
 {
@@ -80,7 +80,7 @@ fn copy_at(dst: &mut [u8], at: usize, src: &[u8])
 
 // n samples stand behind the first len: every node that covers one of them is made, level by level. From each level the node of the new samples
 // that join its unfinished node is carried to the next. Short pushes mostly lie in one node of level 1: there it is the same at every level.
-fn rebuild_levels(
+pub fn rebuild_levels(
     samples: &[u8],
     l1: &mut [Mask],
     l2: &mut [Mask],

@@ -7,7 +7,7 @@
 
 use crate::memory::Memory;
 use crate::mode::DefaultMode;
-use crate::{Burst, Counted, Encoder, Extent, Lines, MillNode, Node, Refusal};
+use crate::{Burst, Counted, Encoder, Extent, Lines, MillNode, Node, Refusal, Said};
 
 /// The record of a capture; [`record`] says which number is which.
 pub type Record = [usize; 5];
@@ -219,6 +219,38 @@ pub fn render(
     let code =
         call!(lc_render, (record), memory.as_ptr, (start, spp, width, output.as_mut_ptr(), room));
     answered(code).map(|_| ())
+}
+
+pub fn file_len(record: &Record) -> Result<usize, Refusal> {
+    let mut len = 0;
+    // SAFETY: the pointers are to five numbers and to one, as many as are read and written.
+    let code = unsafe { lc_file_len(record, &mut len) };
+    answered(code).map(|_| len)
+}
+
+pub fn file_says(file: &[u8]) -> Result<Said, Refusal> {
+    let mut said = [0; 4];
+    // SAFETY: the pointers are a slice's own, with its length, and to four numbers, as many as are written.
+    let code = unsafe { lc_file_says(file.as_ptr(), file.len(), &mut said) };
+    answered(code).map(|_| Said {
+        unit: said[out::SAID_UNIT],
+        len: said[out::SAID_LEN],
+        mark: (said[out::SAID_MARKED] != 0).then_some(said[out::SAID_MARK]),
+    })
+}
+
+/// The length of the file at the output's start.
+pub fn write(record: &Record, memory: &Memory, output: &mut [u8]) -> Result<usize, Refusal> {
+    let (room, mut len) = (output.len(), 0);
+    let code = call!(lc_write, (record), memory.as_ptr, (output.as_mut_ptr(), room, &mut len));
+    answered(code).map(|_| len)
+}
+
+pub fn read(capacity: usize, file: &[u8], memory: &mut Memory) -> Result<Record, Refusal> {
+    let mut record = [0; 5];
+    let code =
+        call!(lc_read, (capacity, file.as_ptr(), file.len()), memory.as_mut_ptr, (&mut record));
+    answered(code).map(|_| record)
 }
 
 pub fn mill_extent(record: &Record, memory: &Memory) -> Result<Extent, Refusal> {

@@ -31,7 +31,7 @@ pub struct Capture {
 
 /// The answer of a call that has nothing left to refuse: the record and the memory are this crate's own and fit
 /// each other.
-fn answer<T>(answered: Result<T, Refusal>) -> T {
+pub(crate) fn answer<T>(answered: Result<T, Refusal>) -> T {
     answered.unwrap_or_else(|refusal| unreachable!("{refusal}"))
 }
 
@@ -87,7 +87,7 @@ impl Capture {
         self.len() == 0
     }
 
-    /// The place of the sample that fired the trigger. Only a [`Recorder`](crate::Recorder) sets it.
+    /// The place of the sample that fired the trigger. A [`Recorder`](crate::Recorder) sets it, and a file keeps it.
     pub fn mark(&self) -> Option<usize> {
         (self.record[record::MARKED] != 0).then_some(self.record[record::MARK])
     }
@@ -141,7 +141,7 @@ impl Capture {
 
     /// Whether each node of the summary tree is right, or the first that is not, lowest level first.
     ///
-    /// It is proved that appends and pushes leave them right. The check is for those who doubt the memory itself;
+    /// It is proved that appends, pushes and reads leave them right. The check is for those who doubt the memory itself;
     /// it reads every sample.
     pub fn whole(&self) -> Result<(), WrongNode> {
         match answer(boundary::whole(&self.record, &self.memory)) {

@@ -31,6 +31,8 @@
 //! ([`Counted`]). [`Capture::density`] says how many changes a stretch has, and [`Capture::encoder`] how far an encoder has
 //! turned.
 //!
+//! [`Capture::write`] gives a capture's file, and [`Capture::read`] the capture again, mark and all.
+//!
 //! [`Capture::mill`] gives a [`Mill`], a reader that sees some lines only and counts places from the mark.
 //!
 //! Pixels and the samples kept before a trigger are computed in the default floating-point mode, whatever mode the thread
@@ -43,6 +45,8 @@ mod answers;
 mod boundary;
 mod capture;
 mod changes;
+mod fault;
+mod file;
 mod memory;
 mod mill;
 #[allow(unsafe_code)]
@@ -54,6 +58,8 @@ mod settings;
 pub use answers::{Burst, Counted, Encoder, Extent, MillNode, Node, Pixel, View, WrongNode};
 pub use capture::Capture;
 pub use changes::Changes;
+pub use fault::{Fault, Wrong};
+pub use file::{ReadError, Said, BLOCK};
 pub use memory::Needs;
 pub use mill::Mill;
 pub use recorder::{Pushed, Recorder};

@@ -40,7 +40,7 @@ use std::fmt;
 /// # Ok::<(), Refusal>(())
 /// ```
 ///
-/// It has no raw bytes, no check of the summary tree and no count of changes, which tell of all lines:
+/// It has no raw bytes, no check of the summary tree, no count of changes and no file, which tell of all lines:
 ///
 /// ```compile_fail,E0599
 /// let capture = capture::Capture::start(8, 1000).unwrap();
@@ -55,6 +55,21 @@ use std::fmt;
 /// ```compile_fail,E0599
 /// let capture = capture::Capture::start(8, 1000).unwrap();
 /// capture.mill(0b1).density(0, 8);
+/// ```
+///
+/// ```compile_fail,E0599
+/// let capture = capture::Capture::start(8, 1000).unwrap();
+/// capture.mill(0b1).file_len();
+/// ```
+///
+/// ```compile_fail,E0599
+/// let capture = capture::Capture::start(8, 1000).unwrap();
+/// capture.mill(0b1).write(&mut [0; 512]);
+/// ```
+///
+/// ```compile_fail,E0599
+/// let capture = capture::Capture::start(8, 1000).unwrap();
+/// capture.mill(0b1).write_to(Vec::new());
 /// ```
 #[derive(Clone, Copy)]
 pub struct Mill<'a> {
@@ -78,8 +93,8 @@ impl Capture {
         Mill { record: self.record, memory: &self.memory, grant }
     }
 
-    /// The same where the capture's mark is kept beside it: a capture that was filled by [`append`](Capture::append),
-    /// as from a file, has none of its own. None where the mark is after the end.
+    /// The same where the capture's mark is kept beside it: a capture that was filled by [`append`](Capture::append) has
+    /// none of its own. None where the mark is after the end.
     ///
     /// ```
     /// let mut capture = capture::Capture::start(8, 1000)?;

@@ -49,10 +49,14 @@ pub enum Refusal {
     Before,
     /// 14: an encoder's two lines are equal, or one is above 15.
     EncoderLines,
+    /// 15: an output is too short for a capture's file, or a capacity too small for a file's samples.
+    FileRoom,
+    /// 16: no capture has such a file. [`Fault::of`](crate::Fault::of) says what is wrong with it.
+    File,
 }
 
 /// Each refusal at its number less 1, with its words.
-const WORDS: [(Refusal, &str); 14] = [
+const WORDS: [(Refusal, &str); 16] = [
     (Refusal::Capacity, "a capacity is 1 to 67108864 samples"),
     (Refusal::Memory, "lent memory is too short"),
     (Refusal::Line, "a trigger's lines are 0 to 15"),
@@ -70,10 +74,12 @@ const WORDS: [(Refusal, &str); 14] = [
     (Refusal::Grant, "a line is beyond the grant"),
     (Refusal::Before, "the place is before the first sample"),
     (Refusal::EncoderLines, "an encoder's two lines are 0 to 15, and not the same"),
+    (Refusal::FileRoom, "the file does not fit in the output, or its samples in the capacity"),
+    (Refusal::File, "no capture has this file"),
 ];
 
 impl Refusal {
-    /// The refusal's number in the library's header, 1 to 14.
+    /// The refusal's number in the library's header, 1 to 16.
     pub fn number(self) -> u32 {
         self as u32 + 1
     }
@@ -103,7 +109,7 @@ mod tests {
             assert_eq!(refusal as usize, index);
             assert_eq!(Refusal::of_number(refusal.number()), Some(refusal));
         }
-        for number in [0, 15, 100, u32::MAX] {
+        for number in [0, 17, 100, u32::MAX] {
             assert_eq!(Refusal::of_number(number), None);
         }
     }

@@ -145,12 +145,12 @@ mod tests {
 
     #[test]
     fn options_and_a_file_in_any_order() {
-        let args = read("--from 3 a.cap --hex --trigger 1=high --trigger=2=low -o b.cap")
+        let args = read("--from 3 a.shelf --hex --trigger 1=high --trigger=2=low -o b.shelf")
             .unwrap()
             .unwrap();
-        assert_eq!(args.file(), Some(OsStr::new("a.cap")));
+        assert_eq!(args.file(), Some(OsStr::new("a.shelf")));
         assert_eq!(args.text("--from"), Ok(Some("3")));
-        assert_eq!(args.path("--output"), Some(OsStr::new("b.cap")));
+        assert_eq!(args.path("--output"), Some(OsStr::new("b.shelf")));
         assert!(args.flag("--hex"));
         let terms: Vec<_> = args.texts("--trigger").map(Result::unwrap).collect();
         assert_eq!(terms, ["1=high", "2=low"]);

@@ -95,13 +95,13 @@ pub fn draw(
 #[cfg(test)]
 mod tests {
     use super::*;
-    use crate::recording::Recording;
+    use crate::file::captured;
 
     /// The changes are at 2, 4, 5 and 7.
     const SAMPLES: [u8; 8] = [0, 0, 1, 1, 0, 2, 2, 3];
 
     fn parts(count: usize) -> Parts {
-        Parts::new(&Recording::of(&SAMPLES, None).capture, 0, 8, count)
+        Parts::new(&captured(&SAMPLES, None), 0, 8, count)
     }
 
     fn printed(count: usize, style: Style, room: usize) -> String {
@@ -137,9 +137,9 @@ mod tests {
     fn numbers_stand_in_columns() {
         let mut samples = [0; 2000];
         samples.iter_mut().step_by(2).take(60).for_each(|sample| *sample = 1);
-        let parts = Parts::new(&Recording::of(&samples, None).capture, 990, 2000, 2);
+        let parts = Parts::new(&captured(&samples, None), 990, 2000, 2);
         assert_eq!(parts.counts(), [0, 0]);
-        let parts = Parts::new(&Recording::of(&samples, None).capture, 0, 2000, 2);
+        let parts = Parts::new(&captured(&samples, None), 0, 2000, 2);
         let mut out = Vec::new();
         print(&mut out, &parts, Style::Ascii, 4).unwrap();
         assert_eq!(String::from_utf8(out).unwrap(), "   0 119 ####\n1000   0\n");

@@ -1,80 +1,48 @@
-//! Captures are loaded from files, and saved.
+//! Captures are loaded from files.
 
 use crate::args::Args;
 use crate::failure::{bad, Failure};
-use crate::header::{Header, BEGINNING, LONGEST};
 use crate::note;
 use crate::number;
-use crate::recording::Recording;
 use crate::source::Source;
-use capture::{Capture, MOST_SAMPLES};
-use std::io::{self, Write};
+use capture::{Capture, ReadError, MOST_SAMPLES};
 
-/// Bytes that are read at once, whole samples of either unit.
-const BLOCK: usize = 1 << 20;
+/// Bytes of raw samples that are read at once, whole samples of either unit.
+const PART: usize = 1 << 20;
 
-/// Loads the file that a command is given: a capture file, or raw samples where there is --unit.
-pub fn load(command: &str, args: &Args) -> Result<Recording, Failure> {
+/// Loads the file that a command is given: a shelf file, or raw samples where there is --unit.
+pub fn load(command: &str, args: &Args) -> Result<Capture, Failure> {
     let file = args.file().ok_or_else(|| bad("which file? - is standard input"))?;
     let unit = args.read_value("--unit", number::unit)?;
     let mut source = Source::open(file)?;
-    match (source.begins_with(BEGINNING)?, unit) {
-        (true, None) => load_saved(&mut source),
-        (false, Some(unit)) => load_raw(command, &mut source, unit),
-        (true, Some(_)) => Err(source.bad("a capture file says its unit itself; leave out --unit")),
-        (false, None) => {
-            Err(source.bad("no capture file; for raw samples add --unit 1 or --unit 2"))
-        }
+    match unit {
+        Some(unit) => load_raw(command, &mut source, unit),
+        None => load_shelf(&mut source, args.flag("--grant")),
     }
 }
 
-fn load_saved(source: &mut Source) -> Result<Recording, Failure> {
-    let Header { unit, rate, mark, len } = read_header(source)?;
-    // A capture of no samples has room for one all the same: there is none without room.
-    let mut capture = Capture::start(8 * unit, len.max(1))?;
-    let mut block = vec![0; BLOCK.min(len * unit)];
-    while capture.len() < len {
-        let due = (len - capture.len()) * unit;
-        let part = &mut block[..due.min(BLOCK)];
-        let count = source.full(part)?;
-        capture.append(&part[..count])?;
-        if count < part.len() {
-            return Err(source.bad(&format!("it ends after {} of {len} samples", capture.len())));
+fn load_shelf(source: &mut Source, for_mill: bool) -> Result<Capture, Failure> {
+    Capture::read_from(&mut *source, None).map_err(|error| match error {
+        // What is wrong with a file may tell of every line.
+        ReadError::Refused(refusal, _) if for_mill => source.bad(&refusal.to_string()),
+        ReadError::Refused(_, Some(fault)) if fault.block == 0 => {
+            source.bad(&format!("{error}; for raw samples add --unit 1 or --unit 2"))
         }
-    }
-    if source.full(&mut [0])? > 0 {
-        return Err(source.bad(&format!("it goes on after its {len} samples")));
-    }
-    Ok(Recording { capture, mark, rate })
+        _ => source.bad(&error.to_string()),
+    })
 }
 
-fn read_header(source: &mut Source) -> Result<Header, Failure> {
-    let mut line = Vec::new();
-    loop {
-        let mut byte = [0];
-        if source.full(&mut byte)? == 0 || line.len() == LONGEST {
-            return Err(source.bad("its first line has no end"));
-        }
-        if byte == *b"\n" {
-            break;
-        }
-        line.extend(byte);
-    }
-    Header::read(&String::from_utf8_lossy(&line))
-        .map_err(|what| source.bad(&format!("first line: {what}")))
-}
-
-fn load_raw(command: &str, source: &mut Source, unit: usize) -> Result<Recording, Failure> {
+fn load_raw(command: &str, source: &mut Source, unit: usize) -> Result<Capture, Failure> {
     let mut bytes = Vec::new();
     loop {
         let read = bytes.len();
-        bytes.resize(read + BLOCK, 0);
+        bytes.resize(read + PART, 0);
         let count = source.full(&mut bytes[read..])?;
         bytes.truncate(read + count);
         if bytes.len() / unit > MOST_SAMPLES {
             return Err(source.bad(&format!("more than {MOST_SAMPLES} samples")));
         }
-        if count < BLOCK {
+        if count < PART {
             break;
         }
     }
@@ -83,62 +51,38 @@ fn load_raw(command: &str, source: &mut Source, unit: usize) -> Result<Recording
     }
     let mut capture = Capture::start(8 * unit, (bytes.len() / unit).max(1))?;
     capture.append(&bytes)?;
-    Ok(Recording { capture, mark: None, rate: None })
+    Ok(capture)
 }
 
-/// Writes a capture file.
-pub fn save(recording: &Recording, to: &mut dyn Write) -> io::Result<()> {
-    let Recording { capture, mark, rate } = recording;
-    let header = Header { unit: capture.unit(), rate: *rate, mark: *mark, len: capture.len() };
-    writeln!(to, "{}", header.written())?;
-    capture.raw_chunks().try_for_each(|bytes| to.write_all(bytes))
+/// For tests: samples of unit 1, and a mark.
+#[cfg(test)]
+pub fn captured(samples: &[u8], mark: Option<usize>) -> Capture {
+    let samples: Vec<_> = samples.iter().copied().map(capture::Lines::from).collect();
+    Capture::read(&crate::plain::file::file(1, mark, &samples), None).unwrap()
 }
 
 #[cfg(test)]
 mod tests {
     use super::*;
+    use crate::plain::file::file;
 
-    fn loaded(bytes: &[u8]) -> Result<Recording, Failure> {
-        load_saved(&mut Source::of(bytes))
-    }
-
-    #[test]
-    fn saved_and_loaded_again() {
-        for (unit, len) in [(1, 0), (1, 5), (2, 5), (2, 1_500_000)] {
-            let bytes: Vec<u8> = (0..len * unit).map(|i| (i / 7) as u8).collect();
-            let mut capture = Capture::start(8 * unit, len + 3).unwrap();
-            capture.append(&bytes).unwrap();
-            let mark = len.checked_sub(2);
-            let mut file = Vec::new();
-            save(&Recording { capture, mark, rate: Some(7) }, &mut file).unwrap();
-
-            let recording = loaded(&file).unwrap();
-            assert_eq!((recording.mark, recording.rate), (mark, Some(7)));
-            assert_eq!((recording.capture.unit(), recording.capture.len()), (unit, len));
-            assert_eq!(recording.capture.raw_chunks().collect::<Vec<_>>().concat(), bytes);
-            assert_eq!(recording.capture.whole(), Ok(()));
-        }
+    fn said(bytes: &[u8], for_mill: bool) -> Failure {
+        load_shelf(&mut Source::of(bytes), for_mill).unwrap_err()
     }
 
     #[test]
     fn what_is_wrong_is_said() {
-        let long = [b'x'; 200];
-        for (bytes, what) in [
-            (
-                &b"logic-capture 1 unit=1 rate=- mark=- len=4\nabc"[..],
-                "it ends after 3 of 4 samples",
-            ),
-            (b"logic-capture 1 unit=2 rate=- mark=- len=2\nabc", "it ends after 1 of 2 samples"),
-            (b"logic-capture 1 unit=1 rate=- mark=- len=2\nabc", "it goes on after its 2 samples"),
-            (b"logic-capture 1 unit=1 rate=- mark=- len=2", "its first line has no end"),
-            (&long, "its first line has no end"),
-            (
-                b"logic-capture 1 unit=4 rate=- mark=- len=2\n",
-                "first line: unit=4: a unit is 1 or 2 bytes a sample",
-            ),
-        ] {
-            let Err(failure) = loaded(bytes) else { panic!("{what}") };
-            assert_eq!(failure, bad(format!("test: {what}")));
-        }
+        let good = file(2, Some(1), &[1; 300]);
+        let capture = load_shelf(&mut Source::of(&good), false).unwrap();
+        assert_eq!((capture.len(), capture.mark()), (300, Some(1)));
+
+        let refused = "test: refused, 16: no capture has this file";
+        let block = "block 2: the file ends after 511 of its 512 bytes";
+        assert_eq!(said(&good[..1535], false), bad(format!("{refused}: {block}")));
+        assert_eq!(said(&good[..1535], true), bad(refused));
+        let block = "block 0: the file ends after 3 of its 512 bytes";
+        let raw = "for raw samples add --unit 1 or --unit 2";
+        assert_eq!(said(b"abc", false), bad(format!("{refused}: {block}; {raw}")));
+        assert_eq!(said(b"abc", true), bad(refused));
     }
 }

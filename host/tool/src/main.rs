@@ -6,16 +6,18 @@ mod commands;
 mod failure;
 mod file;
 mod frame;
-mod header;
 mod interrupt;
 mod lines;
 mod number;
+mod numbers;
 mod output;
 mod parts;
 mod place;
+#[cfg(test)]
+#[path = "../../capture/tests/plain/mod.rs"]
+mod plain;
 mod progress;
 mod reader;
-mod recording;
 mod source;
 mod svg;
 mod text;

@@ -51,12 +51,12 @@ impl Parts {
 #[cfg(test)]
 mod tests {
     use super::*;
-    use crate::recording::Recording;
+    use crate::file::captured;
 
     #[test]
     fn parts_are_as_equal_as_can_be_and_add_up() {
         let samples: Vec<u8> = (0..100u8).map(|i| i / 3 % 2 + i / 7 % 2 * 2).collect();
-        let capture = Recording::of(&samples, None).capture;
+        let capture = captured(&samples, None);
         for (from, to) in [(0, 100), (3, 4), (6, 50), (21, 100)] {
             for count in 1..=(to - from) as usize {
                 let parts = Parts::new(&capture, from, to, count);
@@ -75,7 +75,7 @@ mod tests {
 
     #[test]
     fn how_far_along_a_place_is() {
-        let capture = Recording::of(&[0; 10], None).capture;
+        let capture = captured(&[0; 10], None);
         let parts = Parts::new(&capture, 2, 10, 3);
         assert_eq!([2, 4, 8].map(|place| parts.along(place)), [Some(0.0), Some(0.25), Some(0.75)]);
         assert_eq!([1, 10].map(|place| parts.along(place)), [None, None]);
@@ -83,7 +83,7 @@ mod tests {
 
     #[test]
     fn a_change_at_a_border_is_of_the_part_that_it_begins() {
-        let capture = Recording::of(&[0, 0, 1, 1, 0, 2, 2, 3], None).capture;
+        let capture = captured(&[0, 0, 1, 1, 0, 2, 2, 3], None);
         // Changes at 2, 4, 5 and 7.
         assert_eq!(Parts::new(&capture, 0, 8, 4).counts(), [0, 1, 2, 1]);
         assert_eq!(Parts::new(&capture, 0, 8, 8).counts(), [0, 0, 1, 0, 1, 1, 0, 1]);

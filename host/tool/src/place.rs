@@ -59,15 +59,16 @@ fn plain(text: &str, reader: &Reader) -> Result<Place, String> {
 #[cfg(test)]
 mod tests {
     use super::*;
-    use crate::recording::Recording;
+    use crate::file::captured;
+    use capture::Capture;
 
-    fn recording(mark: Option<usize>) -> Recording {
-        Recording::of(&[0; 20], mark)
+    fn marked(mark: Option<usize>) -> Capture {
+        captured(&[0; 20], mark)
     }
 
     #[test]
     fn places() {
-        let recording = recording(Some(7));
+        let capture = marked(Some(7));
         for (text, place) in [
             ("0", 0),
             ("18446744073709551615", usize::MAX as Place),
@@ -78,14 +79,14 @@ mod tests {
             ("end-1", 19),
             ("end+1", 21),
         ] {
-            assert_eq!(read(text, &Reader::Service(&recording)), Ok(place));
+            assert_eq!(read(text, &Reader::Service(&capture)), Ok(place));
         }
     }
 
     #[test]
     fn places_of_a_mill() {
-        let recording = recording(Some(7));
-        let mill = Reader::Mill(recording.capture.mill_with_mark(1, 7).unwrap());
+        let capture = marked(Some(7));
+        let mill = Reader::Mill(capture.mill(1));
         for (text, place) in [
             ("0", 0),
             ("-7", -7),
@@ -113,14 +114,15 @@ mod tests {
         ] {
             assert_eq!(read(text, &mill).unwrap_err(), what, "{text}");
         }
-        let mill = Reader::Mill(recording.capture.mill(1));
+        let capture = marked(None);
+        let mill = Reader::Mill(capture.mill(1));
         assert_eq!(read("mark", &mill).unwrap_err(), "this capture has no mark");
         assert_eq!(read("end", &mill), Ok(20));
     }
 
     #[test]
     fn what_is_wrong_is_said() {
-        let marked = recording(Some(7));
+        let capture = marked(Some(7));
         for (text, what) in [
             ("", FORM),
             ("-1", FORM),
@@ -132,10 +134,10 @@ mod tests {
             ("mark+18446744073709551615", "too far"),
             ("18446744073709551616", "above 18446744073709551615"),
         ] {
-            assert_eq!(read(text, &Reader::Service(&marked)).unwrap_err(), what, "{text}");
+            assert_eq!(read(text, &Reader::Service(&capture)).unwrap_err(), what, "{text}");
         }
-        let unmarked = recording(None);
-        let service = Reader::Service(&unmarked);
+        let capture = marked(None);
+        let service = Reader::Service(&capture);
         assert_eq!(read("mark", &service).unwrap_err(), "this capture has no mark");
     }
 }

@@ -1,17 +1,18 @@
 //! Who asks: the service, or with --grant a mill.
 
 use crate::args::Args;
-use crate::failure::{bad, Failure};
+use crate::failure::Failure;
 use crate::lines;
-use crate::recording::Recording;
-use capture::{Burst, Counted, Encoder, Lines, Mill, MillNode, Node, Pixel, Refusal, View};
+use capture::{
+    Burst, Capture, Counted, Encoder, Lines, Mill, MillNode, Node, Pixel, Refusal, View,
+};
 
 /// A place as its reader counts. It holds those of both readers, and sums of them.
 pub type Place = i128;
 
 pub enum Reader<'a> {
     /// It sees all lines, and counts places from the first sample.
-    Service(&'a Recording),
+    Service(&'a Capture),
     /// It sees granted lines and nothing of the others, and counts places from the mark.
     Mill(Mill<'a>),
 }
@@ -21,22 +22,17 @@ const MILL_UNIT: usize = 2;
 
 impl<'a> Reader<'a> {
     /// The reader that --grant asks for, or the service.
-    pub fn asked(args: &Args, recording: &'a Recording) -> Result<Reader<'a>, Failure> {
+    pub fn asked(args: &Args, capture: &'a Capture) -> Result<Reader<'a>, Failure> {
         let Some(grant) = args.read_value("--grant", |text| lines::read(text, MILL_UNIT))? else {
-            return Ok(Reader::Service(recording));
+            return Ok(Reader::Service(capture));
         };
-        let grant = lines::mask(&grant);
-        let mill = match recording.mark {
-            Some(mark) => recording.capture.mill_with_mark(grant, mark),
-            None => Some(recording.capture.mill(grant)),
-        };
-        mill.map(Reader::Mill).ok_or_else(|| bad("the mark is after the end"))
+        Ok(Reader::Mill(capture.mill(lines::mask(&grant))))
     }
 
     /// The bytes of a sample, as far as it shows.
     pub fn unit(&self) -> usize {
         match self {
-            Reader::Service(recording) => recording.capture.unit(),
+            Reader::Service(capture) => capture.unit(),
             Reader::Mill(_) => MILL_UNIT,
         }
     }
@@ -71,7 +67,7 @@ impl<'a> Reader<'a> {
     /// The place behind the last sample.
     pub fn end(&self) -> Place {
         match self {
-            Reader::Service(recording) => recording.capture.len() as Place,
+            Reader::Service(capture) => capture.len() as Place,
             Reader::Mill(mill) => mill.extent().end.into(),
         }
     }
@@ -79,7 +75,7 @@ impl<'a> Reader<'a> {
     /// The place of the sample that fired.
     pub fn mark(&self) -> Option<Place> {
         match self {
-            Reader::Service(recording) => recording.mark.map(|mark| mark as Place),
+            Reader::Service(capture) => capture.mark().map(|mark| mark as Place),
             Reader::Mill(mill) => mill.extent().marked.then_some(0),
         }
     }
@@ -94,7 +90,7 @@ impl<'a> Reader<'a> {
 
     pub fn get(&self, place: Place) -> Result<Lines, Refusal> {
         match self {
-            Reader::Service(recording) => recording.capture.get(from_first(place)),
+            Reader::Service(capture) => capture.get(from_first(place)),
             Reader::Mill(mill) => mill.get(from_mark(place)),
         }
     }
@@ -102,9 +98,7 @@ impl<'a> Reader<'a> {
     /// Copies the samples from a place on, as many as there are and fit, and says how many.
     pub fn samples_to(&self, start: Place, output: &mut [Lines]) -> Result<usize, Refusal> {
         match self {
-            Reader::Service(recording) => {
-                Ok(recording.capture.samples_to(from_first(start), output))
-            }
+            Reader::Service(capture) => Ok(capture.samples_to(from_first(start), output)),
             Reader::Mill(mill) => mill.samples_to(from_mark(start), output),
         }
     }
@@ -112,8 +106,8 @@ impl<'a> Reader<'a> {
     /// As a mill's, which has no count of changes; the service has that elsewhere.
     pub fn summary(&self, a: Place, b: Place) -> Result<Option<MillNode>, Refusal> {
         match self {
-            Reader::Service(recording) => {
-                let node = recording.capture.summary(from_first(a), from_first(b));
+            Reader::Service(capture) => {
+                let node = capture.summary(from_first(a), from_first(b));
                 let lines = |Node { first, last, toggles, .. }| MillNode { first, last, toggles };
                 Ok(node.map(lines))
             }
@@ -123,8 +117,8 @@ impl<'a> Reader<'a> {
 
     pub fn next_change(&self, mask: Lines, from: Place) -> Result<Counted<Place>, Refusal> {
         Ok(match self {
-            Reader::Service(recording) => {
-                recording.capture.next_change(mask, from_first(from)).map(|place| place as Place)
+            Reader::Service(capture) => {
+                capture.next_change(mask, from_first(from)).map(|place| place as Place)
             }
             Reader::Mill(mill) => mill.next_change(mask, from_mark(from))?.map(Place::from),
         })
@@ -132,8 +126,8 @@ impl<'a> Reader<'a> {
 
     pub fn prev_change(&self, mask: Lines, from: Place) -> Result<Counted<Place>, Refusal> {
         Ok(match self {
-            Reader::Service(recording) => {
-                recording.capture.prev_change(mask, from_first(from)).map(|place| place as Place)
+            Reader::Service(capture) => {
+                capture.prev_change(mask, from_first(from)).map(|place| place as Place)
             }
             Reader::Mill(mill) => mill.prev_change(mask, from_mark(from))?.map(Place::from),
         })
@@ -146,8 +140,7 @@ impl<'a> Reader<'a> {
         [max_gap, tolerance, budget]: [usize; 3],
     ) -> Result<Counted<Burst<Place>>, Refusal> {
         Ok(match self {
-            Reader::Service(recording) => recording
-                .capture
+            Reader::Service(capture) => capture
                 .burst_at(mask, from_first(sample), max_gap, tolerance, budget)
                 .map(|burst| placed(burst, |place| place as Place)),
             Reader::Mill(mill) => mill
@@ -158,14 +151,14 @@ impl<'a> Reader<'a> {
 
     pub fn encoder(&self, a: u8, b: u8) -> Result<Encoder, Refusal> {
         match self {
-            Reader::Service(recording) => recording.capture.encoder(a.into(), b.into()),
+            Reader::Service(capture) => capture.encoder(a.into(), b.into()),
             Reader::Mill(mill) => mill.encoder(a.into(), b.into()),
         }
     }
 
     pub fn render(&self, view: View, width: usize) -> Result<Vec<Pixel>, Refusal> {
         match self {
-            Reader::Service(recording) => recording.capture.render(view, width),
+            Reader::Service(capture) => capture.render(view, width),
             Reader::Mill(mill) => mill.render(view, width),
         }
     }

@@ -105,12 +105,12 @@ fn escaped(text: &str) -> String {
 #[cfg(test)]
 mod tests {
     use super::*;
+    use crate::file::captured;
     use crate::reader::Reader;
-    use crate::recording::Recording;
 
     fn drawn(samples: &[u8], room: usize, mark: Option<usize>, label: &str) -> String {
-        let recording = Recording::of(samples, mark);
-        let reader = Reader::Service(&recording);
+        let capture = captured(samples, mark);
+        let reader = Reader::Service(&capture);
         let wave = Wave::new(&reader, 0, reader.end(), room).unwrap().unwrap();
         let mut out = Vec::new();
         draw(&mut out, &wave, &[(0, label.to_string())], reader.mark(), room).unwrap();

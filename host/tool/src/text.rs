@@ -101,11 +101,11 @@ fn ruler(wave: &Wave, stretch: usize) -> String {
 #[cfg(test)]
 mod tests {
     use super::*;
+    use crate::file::captured;
     use crate::reader::Reader;
-    use crate::recording::Recording;
 
     fn drawn(samples: &[u8], style: Style, room: usize, mark: Option<usize>) -> String {
-        drawn_for(&Reader::Service(&Recording::of(samples, mark)), style, room)
+        drawn_for(&Reader::Service(&captured(samples, mark)), style, room)
     }
 
     fn drawn_for(reader: &Reader, style: Style, room: usize) -> String {
@@ -153,9 +153,8 @@ mod tests {
 
     #[test]
     fn a_mill_sees_its_lines_and_its_places() {
-        let recording = Recording::of(&[0, 0, 1, 3, 2, 0], None);
-        let mill = recording.capture.mill_with_mark(0b01, 3).unwrap();
-        let text = drawn_for(&Reader::Mill(mill), Style::Ascii, 6);
+        let capture = captured(&[0, 0, 1, 3, 2, 0], Some(3));
+        let text = drawn_for(&Reader::Mill(capture.mill(0b01)), Style::Ascii, 6);
         let expected = [
             "place    -3", //
             "mark        v 0",

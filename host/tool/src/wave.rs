@@ -112,12 +112,12 @@ fn view(from: Place, to: Place, width: usize) -> View {
 #[cfg(test)]
 mod tests {
     use super::*;
-    use crate::recording::Recording;
+    use crate::file::captured;
     use Step::*;
 
     fn wave(samples: &[u8], from: Place, to: Place, width: usize) -> Wave {
-        let recording = Recording::of(samples, None);
-        Wave::new(&Reader::Service(&recording), from, to, width).unwrap().unwrap()
+        let capture = captured(samples, None);
+        Wave::new(&Reader::Service(&capture), from, to, width).unwrap().unwrap()
     }
 
     fn steps(samples: &[u8], from: Place, to: Place, width: usize) -> Vec<Step> {
@@ -173,9 +173,9 @@ mod tests {
     #[test]
     fn a_mill_draws_the_same_columns() {
         let samples = [0, 1, 2, 2, 3, 1, 1, 0, 0, 2, 2, 2, 3, 3, 1, 0];
-        let recording = Recording::of(&samples, None);
+        let capture = captured(&samples, None);
         for (mark, width) in [(0, 4), (3, 16), (7, 8), (16, 2)] {
-            let mill = Reader::Mill(recording.capture.mill_with_mark(0b10, mark).unwrap());
+            let mill = Reader::Mill(capture.mill_with_mark(0b10, mark).unwrap());
             let drawn = Wave::new(&mill, mill.first(), mill.end(), width).unwrap().unwrap();
             let whole = wave(&samples, 0, 16, width);
             assert!(drawn.steps(1).eq(whole.steps(1)));
@@ -189,8 +189,8 @@ mod tests {
     #[test]
     fn nothing_to_draw() {
         for (samples, from, to) in [(&[][..], 0, 0), (&[0; 10], 10, 20), (&[0; 10], 9, 9)] {
-            let recording = Recording::of(samples, None);
-            assert!(Wave::new(&Reader::Service(&recording), from, to, 10).unwrap().is_none());
+            let capture = captured(samples, None);
+            assert!(Wave::new(&Reader::Service(&capture), from, to, 10).unwrap().is_none());
         }
     }
 }

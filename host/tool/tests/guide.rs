@@ -2,7 +2,7 @@
 
 mod common;
 
-use capture::{Needs, Refusal};
+use capture::{Condition, Needs, Recorder, Refusal, Settings, Wish};
 use common::{Folder, TOOL};
 use std::env;
 use std::path::Path;
@@ -100,6 +100,8 @@ fn refusals_say_what_the_guide_says() {
         Refusal::Grant,
         Refusal::Before,
         Refusal::EncoderLines,
+        Refusal::FileRoom,
+        Refusal::File,
     ];
     let rows = rows("| No. |");
     assert_eq!(rows.len(), refusals.len());
@@ -108,4 +110,42 @@ fn refusals_say_what_the_guide_says() {
         let words = row[1].split("; from C").next().unwrap();
         assert_eq!(format!("refused, {}: {words}", row[0]), refusal.to_string());
     }
+}
+
+/// The bytes of each row of a table, as a number, low byte first; rows follow each other, and have all bytes.
+fn fields(heading: &str, bytes: &[u8]) -> Vec<u64> {
+    let mut end = 0;
+    let fields = rows(heading).into_iter().map(|row| {
+        let (first, last) = row[0].split_once('–').unwrap_or((row[0], row[0]));
+        let (first, last): (usize, usize) = (first.parse().unwrap(), last.parse().unwrap());
+        assert_eq!(first, end, "{}", row[1]);
+        end = last + 1;
+        bytes[first..end].iter().rev().fold(0, |number, &byte| number << 8 | u64::from(byte))
+    });
+    let fields = fields.collect();
+    assert_eq!(end, bytes.len(), "{heading}");
+    fields
+}
+
+#[test]
+fn files_are_laid_out_as_the_guide_says() {
+    let settings = Settings::new(16, 400)
+        .limit(400)
+        .term(0, Condition::Rising)
+        .pretrigger(Wish::Fraction(0.9));
+    let mut recorder = Recorder::start(&settings).unwrap();
+    let samples = [vec![0; 2 * 300], [7, 9].repeat(100)].concat();
+    recorder.push(&samples).unwrap();
+    let mut file = Vec::new();
+    recorder.into_capture().write_to(&mut file).unwrap();
+
+    let blocks: Vec<&[u8]> = file.chunks(512).collect();
+    for (number, (block, count)) in blocks.iter().zip([18, 500, 300]).enumerate() {
+        let sum: u64 = (2..).zip(&block[2..]).map(|(place, &byte)| place * u64::from(byte)).sum();
+        let head = &fields("| Bytes |", block)[..4];
+        assert_eq!(head, [sum % 65_521, count, number as u64, 0]);
+        assert!(block[12 + count as usize..].iter().all(|&byte| byte == 0));
+    }
+    assert_eq!(fields("| Bytes of the payload |", &blocks[0][12..30]), [2, 1, 400, 300]);
+    assert_eq!([&blocks[1][12..], &blocks[2][12..312]].concat(), samples);
 }

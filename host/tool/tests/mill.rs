@@ -6,18 +6,12 @@ mod plain;
 
 use capture::{Burst, View};
 use common::{turned, Folder, Run};
+use plain::file::file;
 use plain::walk::Walk;
 use plain::Rng;
 
 /// What is said of a line beyond the grant.
 const BEYOND: &str = "refused, 12: a line is beyond the grant";
-
-/// A capture file with a mark.
-fn file(unit: usize, mark: Option<usize>, s: &[u16]) -> Vec<u8> {
-    let mark = mark.map_or("-".into(), |mark| mark.to_string());
-    let header = format!("logic-capture 1 unit={unit} rate=4 mark={mark} len={}\n", s.len());
-    [header.into_bytes(), plain::bytes(s, unit)].concat()
-}
 
 /// The answers as lines of text.
 fn text(answers: impl IntoIterator<Item = impl AsRef<[i64]>>) -> String {
@@ -44,11 +38,11 @@ fn answers_are_those_of_plain_scans_moved_and_cut() {
         let (len, calm) = (rng.pick(&[0, 1, 2, 40, 300, 5000]), rng.pick(&[1, 5, 60]));
         let s = &rng.samples(len, unit, calm)[..];
         let somewhere = rng.below(len.max(1));
-        let mark = rng.pick(&[None, Some(0), Some(somewhere)]).filter(|_| len > 0);
-        folder.write("a.cap", &file(unit, mark, s));
+        let mark = rng.pick(&[None, Some(0), Some(somewhere), Some(len)]);
+        folder.write("a.shelf", &file(unit, mark, s));
         let (grant, seen) =
             rng.pick(&[("0-15", 0xffff), ("all", 0xffff), ("0,4-6", 0x71), ("9,1", 0x202)]);
-        let asked = format!("--grant {grant} a.cap");
+        let asked = format!("--grant {grant} a.shelf");
         let origin = mark.unwrap_or(0);
         let moved = |place: usize| place as i64 - origin as i64;
         let (a, b) = (rng.below(len + 3), rng.below(len + 3));
@@ -103,11 +97,11 @@ fn answers_are_those_of_plain_scans_moved_and_cut() {
 fn alike(test: &str) -> Folder {
     let folder = Folder::new(test);
     let one = [0, 1, 3, 5, 4, 0, 2, 1];
-    folder.write("one.cap", &file(1, Some(3), &one));
+    folder.write("one.shelf", &file(1, Some(3), &one));
     let others = [0x9d30u16, 0x7a, 0, 0xff0a, 0x8000, 0x10, 0xfa, 2];
     let two: Vec<u16> = one.iter().zip(others).map(|(one, others)| one & 5 | others).collect();
     assert!(two.iter().zip(one).all(|(two, one)| two & 5 == one & 5));
-    folder.write("two.cap", &file(2, Some(3), &two));
+    folder.write("two.shelf", &file(2, Some(3), &two));
     folder
 }
 
@@ -116,6 +110,7 @@ fn files_alike_in_granted_lines_give_the_same() {
     let folder = alike("mill-alike");
     for line in [
         "info",
+        "info --rate 4",
         "next",
         "next --from -3 --lines 2",
         "next --lines 1",
@@ -158,33 +153,33 @@ fn files_alike_in_granted_lines_give_the_same() {
         "encoder --a 0 --b 16",
     ] {
         let [one, two] = ["one", "two"].map(|name| {
-            let run = folder.run(&format!("{line} --grant 0,2 {name}.cap"));
-            Run { err: run.err.replace(&format!("{name}.cap"), ""), ..run }
+            let run = folder.run(&format!("{line} --grant 0,2 {name}.shelf"));
+            Run { err: run.err.replace(&format!("{name}.shelf"), ""), ..run }
         });
         assert_eq!(one, two, "{line}");
     }
     // The service sees that they differ.
-    assert_ne!(folder.run("samples one.cap"), folder.run("samples two.cap"));
+    assert_ne!(folder.run("samples one.shelf"), folder.run("samples two.shelf"));
 }
 
 #[test]
 fn a_mill_and_what_it_is_shown() {
     let folder = alike("mill-shown");
     let info = "grant 0,2\nsamples 8\nfirst -3\nend 5\nmark 0\nrate 4\nseconds 2\nchanging 0,2\n";
-    assert_eq!(folder.run("info --grant 2,0 one.cap").yes(), info);
+    assert_eq!(folder.run("info --rate 4 --grant 2,0 one.shelf").yes(), info);
     folder.write("raw", &[0, 1]);
     let info = "grant 9\nsamples 2\nfirst 0\nend 2\nmark -\nrate -\nseconds -\nchanging -\n";
     assert_eq!(folder.run("info --unit 1 --grant 9 raw").yes(), info);
-    assert_eq!(folder.run("next --grant 0 one.cap").yes(), "-2\n");
-    assert_eq!(folder.run("next --grant 0,2 --lines all --from mark one.cap").yes(), "1\n");
+    assert_eq!(folder.run("next --grant 0 one.shelf").yes(), "-2\n");
+    assert_eq!(folder.run("next --grant 0,2 --lines all --from mark one.shelf").yes(), "1\n");
     // Numbers are as wide as those of sixteen lines: a mill is not told the unit.
-    assert_eq!(folder.run("samples --grant 2 --from 0 --to 1 --hex one.cap").yes(), "0 0x0004\n");
+    assert_eq!(folder.run("samples --grant 2 --from 0 --to 1 --hex one.shelf").yes(), "0 0x0004\n");
     folder.run("next --unit 1 --grant 9 raw").none();
 
-    let drawn = folder.run("render --grant 2,0 --ascii --width 8 one.cap").yes();
+    let drawn = folder.run("render --grant 2,0 --ascii --width 8 one.shelf").yes();
     let rows = ["place -3", "mark     v 0", " 0    /--\\__/-", " 2    __/-\\___"];
     assert_eq!(drawn.lines().collect::<Vec<_>>(), rows);
-    let picture = folder.run("render --grant 2 --svg - one.cap").yes();
+    let picture = folder.run("render --grant 2 --svg - one.shelf").yes();
     assert!(picture.contains(">-3</text>") && picture.contains("mark 0</text>"), "{picture}");
     assert_eq!(picture.matches("stroke-width").count(), 1);
 }
@@ -208,60 +203,61 @@ fn what_a_mill_may_not_ask_is_refused() {
     ] {
         let name = command.split(' ').next().unwrap();
         // 12 comes first.
-        let line = format!("{command} --grant 0,2 --lines 1,2 {place} -4 one.cap");
+        let line = format!("{command} --grant 0,2 --lines 1,2 {place} -4 one.shelf");
         let said = folder.run(&line).bad();
         assert_eq!(said, format!("logic-capture {name}: --lines 1,2: {BEYOND}"));
         for place_text in ["-4", "mark-4", "end-9", "-9223372036854775809"] {
-            let said = folder.run(&format!("{command} --grant 0 {place} {place_text} one.cap"));
+            let said = folder.run(&format!("{command} --grant 0 {place} {place_text} one.shelf"));
             assert_eq!(said.bad(), format!("logic-capture {name}: {place} {place_text}: {before}"));
         }
     }
     for lines in ["--a 0 --b 1", "--a 1 --b 2", "--a 15 --b 0"] {
-        let said = folder.run(&format!("encoder --grant 0,2 {lines} one.cap")).bad();
+        let said = folder.run(&format!("encoder --grant 0,2 {lines} one.shelf")).bad();
         assert_eq!(said, format!("logic-capture encoder: {lines}: {BEYOND}"));
     }
     // 14 comes ahead of 12.
     let equal = "refused, 14: an encoder's two lines are 0 to 15, and not the same";
     for lines in ["--a 0 --b 0", "--a 1 --b 1", "--a 15 --b 15"] {
-        let said = folder.run(&format!("encoder --grant 0,2 {lines} one.cap")).bad();
+        let said = folder.run(&format!("encoder --grant 0,2 {lines} one.shelf")).bad();
         assert_eq!(said, format!("logic-capture encoder: {lines}: {equal}"));
     }
     for (line, what) in [
         (
-            "check --grant 0 one.cap",
+            "check --grant 0 one.shelf",
             " check: --grant: the check of summaries is not given to mills",
         ),
         (
-            "density --grant 0-15 one.cap",
+            "density --grant 0-15 one.shelf",
             " density: --grant: the count of changes tells of all lines, and is not given to mills",
         ),
         (
-            "record --unit 1 --grant 0 -o x.cap one.cap",
+            "record --unit 1 --grant 0 -o x.shelf one.shelf",
             " record: --grant: raw samples are not given to mills",
         ),
         ("demo --grant 0", " demo: there is no option '--grant'; see --help"),
+        ("shelf --grant 0 .", " shelf: --grant: the files of a folder are not shown to mills"),
         (
-            "encoder --grant 0,2 --a 16 --b 0 one.cap",
+            "encoder --grant 0,2 --a 16 --b 0 one.shelf",
             " encoder: --a 16: '16' is no line: lines are 0 to 15",
         ),
-        ("next --grant 16 one.cap", " next: --grant 16: '16' is no line: lines are 0 to 15"),
-        ("next --grant 0 --grant 1 one.cap", " next: --grant is given twice"),
+        ("next --grant 16 one.shelf", " next: --grant 16: '16' is no line: lines are 0 to 15"),
+        ("next --grant 0 --grant 1 one.shelf", " next: --grant is given twice"),
         (
-            "next --grant 0 --from 9223372036854775808 one.cap",
+            "next --grant 0 --from 9223372036854775808 one.shelf",
             " next: --from 9223372036854775808: too far",
         ),
         (
-            "next --from -1 one.cap",
+            "next --from -1 one.shelf",
             " next: --from -1: a place is a number, mark or end, as in mark+10",
         ),
     ] {
         assert_eq!(folder.run(line).bad(), format!("logic-capture{what}"), "{line}");
     }
-    assert!(!folder.has("x.cap"));
+    assert!(!folder.has("x.shelf"));
     // The view of --pixels may begin anywhere.
     let blank = "0 0\n0 0\n";
-    let line = "render --pixels --grant 0 --start -99 --spp 1 --width 2 one.cap";
+    let line = "render --pixels --grant 0 --start -99 --spp 1 --width 2 one.shelf";
     assert_eq!(folder.run(line).yes(), blank);
-    folder.run("next --grant 0 --from 9223372036854775807 one.cap").none();
-    folder.run("samples --grant 0 --from 9223372036854775807 one.cap").none();
+    folder.run("next --grant 0 --from 9223372036854775807 one.shelf").none();
+    folder.run("samples --grant 0 --from 9223372036854775807 one.shelf").none();
 }

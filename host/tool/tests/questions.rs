@@ -6,6 +6,7 @@ mod plain;
 
 use capture::{Burst, Lines, View};
 use common::{turned, Folder, Run};
+use plain::file::file;
 use plain::walk::Walk;
 use plain::Rng;
 use std::fmt::Write as _;
@@ -134,23 +135,41 @@ fn answers_are_those_of_plain_scans() {
     }
 }
 
-/// A capture file of unit 1 with a mark.
-const SAVED: &[u8] = b"logic-capture 1 unit=1 rate=4 mark=2 len=8\n\0\0\x01\x01\0\x02\x02\x03";
+/// A shelf file of unit 1 with a mark.
+fn shelved() -> Vec<u8> {
+    file(1, Some(2), &[0, 0, 1, 1, 0, 2, 2, 3])
+}
 
 fn saved(test: &str) -> Folder {
     let folder = Folder::new(test);
-    folder.write("a.cap", SAVED);
+    folder.write("a.shelf", &shelved());
     folder
 }
 
 #[test]
-fn a_capture_file_and_its_numbers() {
+fn a_shelf_file_and_its_numbers() {
     let folder = saved("questions-info");
-    let info = "unit 1\nsamples 8\nmark 2\nrate 4\nseconds 2\nchanging 0,1\n";
-    assert_eq!(folder.run("info a.cap").yes(), info);
-    assert_eq!(folder.run_on("info -", SAVED).yes(), info);
+    let info = "format shelf\nunit 1\nsamples 8\nmark 2\nrate 4\nseconds 2\nchanging 0,1\n";
+    assert_eq!(folder.run("info --rate 4 a.shelf").yes(), info);
+    assert_eq!(folder.run_on("info --rate 4 -", &shelved()).yes(), info);
+    let timeless = info.replace("rate 4\nseconds 2", "rate -\nseconds -");
+    assert_eq!(folder.run("info a.shelf").yes(), timeless);
+    // Only --unit makes raw samples of a file.
+    let raw = folder.run("info --unit 2 a.shelf").yes();
+    assert!(raw.starts_with("format raw\nunit 2\nsamples 512\nmark -\n"), "{raw}");
+
+    // A capture may be empty, and a mark behind its last sample.
+    folder.write("none.shelf", &file(2, Some(0), &[]));
+    let info = "format shelf\nunit 2\nsamples 0\nmark 0\nrate -\nseconds -\nchanging -\n";
+    assert_eq!(folder.run("info none.shelf").yes(), info);
+    folder.run("next --from mark none.shelf").none();
+    folder.write("end.shelf", &file(1, Some(3), &[0, 1, 1]));
+    assert_eq!(folder.run("prev --from mark end.shelf").yes(), "1\n");
+    assert!(!folder.run("render --ascii end.shelf").yes().contains("mark"));
+    assert_eq!(folder.run("info --grant 0 end.shelf").yes().lines().nth(2), Some("first -3"));
+
     folder.write("empty", b"");
-    let info = "unit 2\nsamples 0\nmark -\nrate -\nseconds -\nchanging -\n";
+    let info = "format raw\nunit 2\nsamples 0\nmark -\nrate -\nseconds -\nchanging -\n";
     assert_eq!(folder.run("info --unit 2 empty").yes(), info);
     folder.run("next --unit 1 empty").none();
     folder.run("samples --unit 1 empty").none();
@@ -160,14 +179,14 @@ fn a_capture_file_and_its_numbers() {
 #[test]
 fn places_from_the_mark_and_the_end() {
     let folder = saved("questions-places");
-    assert_eq!(folder.run("next --lines 0 --from mark a.cap").yes(), "4\n");
-    assert_eq!(folder.run("next --lines 0 --from mark-1 a.cap").yes(), "2\n");
-    assert_eq!(folder.run("prev --lines 0 --from mark+1 a.cap").yes(), "2\n");
-    assert_eq!(folder.run("prev a.cap").yes(), "7\n");
-    assert_eq!(folder.run("samples --from end-2 a.cap").yes(), "6 2\n7 3\n");
-    folder.run("next --from end a.cap").none();
-    folder.run("next --from 18446744073709551615 a.cap").none();
-    folder.run("samples --from 18446744073709551615 a.cap").none();
+    assert_eq!(folder.run("next --lines 0 --from mark a.shelf").yes(), "4\n");
+    assert_eq!(folder.run("next --lines 0 --from mark-1 a.shelf").yes(), "2\n");
+    assert_eq!(folder.run("prev --lines 0 --from mark+1 a.shelf").yes(), "2\n");
+    assert_eq!(folder.run("prev a.shelf").yes(), "7\n");
+    assert_eq!(folder.run("samples --from end-2 a.shelf").yes(), "6 2\n7 3\n");
+    folder.run("next --from end a.shelf").none();
+    folder.run("next --from 18446744073709551615 a.shelf").none();
+    folder.run("samples --from 18446744073709551615 a.shelf").none();
 }
 
 #[test]
@@ -175,22 +194,22 @@ fn the_nodes_read_stand_behind_the_answer() {
     let folder = saved("questions-read");
     let none = |out: &str| Run { status: 1, out: out.into(), err: String::new() };
     // The capture is shorter than a node, so each node read is a sample.
-    assert_eq!(folder.run("next --read --lines 0 a.cap").yes(), "2 2\n");
-    assert_eq!(folder.run("next --read --lines 0 --from 7 a.cap"), none("none 0\n"));
-    assert_eq!(folder.run("next --lines 1 --from 5 --read a.cap"), none("none 2\n"));
-    assert_eq!(folder.run("prev --lines 0 --from 6 a.cap --read").yes(), "4 3\n");
+    assert_eq!(folder.run("next --read --lines 0 a.shelf").yes(), "2 2\n");
+    assert_eq!(folder.run("next --read --lines 0 --from 7 a.shelf"), none("none 0\n"));
+    assert_eq!(folder.run("next --lines 1 --from 5 --read a.shelf"), none("none 2\n"));
+    assert_eq!(folder.run("prev --lines 0 --from 6 a.shelf --read").yes(), "4 3\n");
     assert_eq!(
-        folder.run("burst --read --lines 0 --at 3 --gap 4 --budget 1 a.cap").yes(),
+        folder.run("burst --read --lines 0 --at 3 --gap 4 --budget 1 a.shelf").yes(),
         "2 7 1 0 6\n"
     );
-    assert_eq!(folder.run("burst --read --lines 0 --at 3 --gap 2 a.cap"), none("none 3\n"));
-    assert_eq!(folder.run("burst --read --lines 0 --at 3 --gap 1 a.cap"), none("none 0\n"));
+    assert_eq!(folder.run("burst --read --lines 0 --at 3 --gap 2 a.shelf"), none("none 3\n"));
+    assert_eq!(folder.run("burst --read --lines 0 --at 3 --gap 1 a.shelf"), none("none 0\n"));
     // A mill reads the same nodes; its places count from the mark.
-    assert_eq!(folder.run("next --read --grant 0 a.cap").yes(), "0 2\n");
-    assert_eq!(folder.run("next --read --grant 0 --from 5 a.cap"), none("none 0\n"));
-    assert_eq!(folder.run("prev --read --grant 0,5 --lines 0 --from 4 a.cap").yes(), "2 3\n");
+    assert_eq!(folder.run("next --read --grant 0 a.shelf").yes(), "0 2\n");
+    assert_eq!(folder.run("next --read --grant 0 --from 5 a.shelf"), none("none 0\n"));
+    assert_eq!(folder.run("prev --read --grant 0,5 --lines 0 --from 4 a.shelf").yes(), "2 3\n");
     assert_eq!(
-        folder.run("burst --read --grant 0 --at 1 --gap 4 --budget 1 a.cap").yes(),
+        folder.run("burst --read --grant 0 --at 1 --gap 4 --budget 1 a.shelf").yes(),
         "0 5 1 0 6\n"
     );
 }
@@ -198,11 +217,11 @@ fn the_nodes_read_stand_behind_the_answer() {
 #[test]
 fn numbers_in_other_forms() {
     let folder = saved("questions-forms");
-    assert_eq!(folder.run("changes a.cap --hex --from 5").yes(), "5 0x02 0x02\n7 0x03 0x01\n");
-    assert_eq!(folder.run("summary a.cap --bits").yes(), "00000000 00000011 00000011\n");
-    assert_eq!(folder.run("samples a.cap --from 7 --bits --lines 1").yes(), "7 00000010\n");
+    assert_eq!(folder.run("changes a.shelf --hex --from 5").yes(), "5 0x02 0x02\n7 0x03 0x01\n");
+    assert_eq!(folder.run("summary a.shelf --bits").yes(), "00000000 00000011 00000011\n");
+    assert_eq!(folder.run("samples a.shelf --from 7 --bits --lines 1").yes(), "7 00000010\n");
     assert_eq!(
-        folder.run("render --pixels a.cap --spp 4 --width 2 --hex").yes(),
+        folder.run("render --pixels a.shelf --spp 4 --width 2 --hex").yes(),
         "0x00 0x01\n0x00 0x03\n"
     );
 }
@@ -222,7 +241,7 @@ fn half_a_sample_at_the_end_of_a_raw_file() {
 #[test]
 fn drawings() {
     let folder = saved("questions-drawings");
-    let text = folder.run("render --ascii --lines 1,0 a.cap").yes();
+    let text = folder.run("render --ascii --lines 1,0 a.shelf").yes();
     let rows: Vec<&str> = text.lines().collect();
     assert_eq!(rows.len(), 4);
     assert_eq!(rows[0], "place 0               2               4               6");
@@ -239,15 +258,17 @@ fn drawings() {
         )
     );
 
-    let boxes = folder
-        .run_words(&["render", "--lines", "0", "--width", "8", "--name", "0=a name", "a.cap"], &[]);
+    let boxes = folder.run_words(
+        &["render", "--lines", "0", "--width", "8", "--name", "0=a name", "a.shelf"],
+        &[],
+    );
     let expected = "place     0\nmark        ▼ 2\n           ┌─┐  ┌─\n 0 a name ─┘ └──┘\n";
     assert_eq!(boxes.yes(), expected);
 
-    folder.run("render --svg a.svg a.cap").yes();
+    folder.run("render --svg a.svg a.shelf").yes();
     let picture = String::from_utf8(folder.read("a.svg")).unwrap();
     assert!(picture.starts_with("<svg ") && picture.ends_with("</svg>\n"));
-    assert_eq!(folder.run("render --svg - a.cap").yes(), picture);
+    assert_eq!(folder.run("render --svg - a.shelf").yes(), picture);
     assert_eq!(picture.matches("stroke-width").count(), 8);
     assert!(picture.contains("mark 2</text>"));
 }
@@ -256,35 +277,35 @@ fn drawings() {
 fn where_a_capture_is_busy() {
     let folder = saved("questions-density");
     // Changes at 2, 4, 5 and 7.
-    assert_eq!(folder.run("density a.cap").yes(), "4\n");
-    assert_eq!(folder.run("density --from mark a.cap").yes(), "3\n");
-    assert_eq!(folder.run("density --from mark-1 --to end-1 a.cap").yes(), "3\n");
-    assert_eq!(folder.run("density --to 99 a.cap").yes(), "4\n");
+    assert_eq!(folder.run("density a.shelf").yes(), "4\n");
+    assert_eq!(folder.run("density --from mark a.shelf").yes(), "3\n");
+    assert_eq!(folder.run("density --from mark-1 --to end-1 a.shelf").yes(), "3\n");
+    assert_eq!(folder.run("density --to 99 a.shelf").yes(), "4\n");
     for empty in ["--from 8", "--from 3 --to 2", "--to 2", "--from 18446744073709551615"] {
-        let run = folder.run(&format!("density {empty} a.cap"));
+        let run = folder.run(&format!("density {empty} a.shelf"));
         assert_eq!(run, Run { status: 1, out: "0\n".into(), err: String::new() });
     }
 
     let bars = "0 0\n2 1 #####\n4 2 ##########\n6 1 #####\n";
-    assert_eq!(folder.run("density --parts 4 --ascii --width 10 a.cap").yes(), bars);
+    assert_eq!(folder.run("density --parts 4 --ascii --width 10 a.shelf").yes(), bars);
     let bars = "0 0\n2 1 █▌\n4 2 ███\n6 1 █▌\n";
-    assert_eq!(folder.run("density --parts 4 --width 3 a.cap").yes(), bars);
+    assert_eq!(folder.run("density --parts 4 --width 3 a.shelf").yes(), bars);
     let longest = format!("0 4 {}\n", "█".repeat(50));
-    assert_eq!(folder.run("density --parts 1 a.cap").yes(), longest);
-    assert_eq!(folder.run("density --parts 8 a.cap").yes().lines().count(), 8);
-    let quiet = folder.run("density --parts 2 --to 2 a.cap");
+    assert_eq!(folder.run("density --parts 1 a.shelf").yes(), longest);
+    assert_eq!(folder.run("density --parts 8 a.shelf").yes().lines().count(), 8);
+    let quiet = folder.run("density --parts 2 --to 2 a.shelf");
     assert_eq!(quiet, Run { status: 1, out: "0 0\n1 0\n".into(), err: String::new() });
 
-    folder.run("density --parts 4 --svg a.svg a.cap").yes();
+    folder.run("density --parts 4 --svg a.svg a.shelf").yes();
     let picture = String::from_utf8(folder.read("a.svg")).unwrap();
     assert!(picture.starts_with("<svg ") && picture.ends_with("</svg>\n"));
-    assert_eq!(folder.run("density --parts 4 --svg - a.cap").yes(), picture);
+    assert_eq!(folder.run("density --parts 4 --svg - a.shelf").yes(), picture);
     assert!(picture.contains("<title>4 to 5: 2</title>") && picture.contains("mark 2</text>"));
     // Where parts are not said, there is one for each sample here; four have a change.
-    let picture = folder.run("density --svg - --width 80 a.cap").yes();
+    let picture = folder.run("density --svg - --width 80 a.shelf").yes();
     assert_eq!(picture.matches("<title>").count(), 4);
     let err = "logic-capture density: no samples to draw\n".to_string();
-    let run = folder.run("density --from 8 --svg x.svg a.cap");
+    let run = folder.run("density --from 8 --svg x.svg a.shelf");
     assert_eq!(run, Run { status: 1, out: String::new(), err });
     assert!(!folder.has("x.svg"));
 }
@@ -318,11 +339,11 @@ fn how_far_an_encoder_has_turned() {
         assert_eq!(ask(raw, still), Run { status: 1, out, err: String::new() });
     }
 
-    // A capture file is read from its first sample on, and not from its mark.
+    // A shelf file is read from its first sample on, and not from its mark.
     let all = "position 2 forward 3 backward 1 skipped 0\n";
-    assert_eq!(folder.run("encoder --a 1 --b 0 a.cap").yes(), all);
-    assert_eq!(folder.run("encoder --grant 0,1 --a 1 --b 0 a.cap").yes(), all);
-    assert_eq!(folder.run_on("encoder --a 1 --b 0 -", SAVED).yes(), all);
+    assert_eq!(folder.run("encoder --a 1 --b 0 a.shelf").yes(), all);
+    assert_eq!(folder.run("encoder --grant 0,1 --a 1 --b 0 a.shelf").yes(), all);
+    assert_eq!(folder.run_on("encoder --a 1 --b 0 -", &shelved()).yes(), all);
 
     // Turns stand behind, as a decimal.
     let turns = |steps: &str, samples: &[u8]| {
@@ -343,9 +364,12 @@ fn how_far_an_encoder_has_turned() {
 fn nothing_to_draw() {
     let folder = saved("questions-nothing");
     folder.write("empty", b"");
-    for line in
-        ["a.cap --from 8", "a.cap --from 2 --to 2", "a.cap --from 9 --svg x.svg", "--unit 1 empty"]
-    {
+    for line in [
+        "a.shelf --from 8",
+        "a.shelf --from 2 --to 2",
+        "a.shelf --from 9 --svg x.svg",
+        "--unit 1 empty",
+    ] {
         let err = "logic-capture render: no samples to draw\n".to_string();
         assert_eq!(
             folder.run(&format!("render {line}")),

@@ -1,15 +1,21 @@
 //! Document 01 as a side: it has an answer to every line that wants one.
 
+pub mod file;
 mod mill;
 pub mod refusals;
 pub mod rules;
 
 use crate::digest::digest;
 use crate::feed::to_bytes;
+use crate::file_memory::FileMemory;
 use crate::node::{joined, span, Node, NUMBERS};
 use crate::op::{Lent, Op, Recorder, Settings, Store, Wish};
 use crate::side::{Answer, Side};
+use file::{Capture, Said};
 use rules::Turns;
+
+/// Files up to this length are read in two ways.
+const SMALL: usize = 4_096;
 
 #[derive(Default)]
 pub struct Document {
@@ -21,6 +27,7 @@ pub struct Document {
     recorder: Option<Recording>,
     /// Numbers written into level memory by hand: level, index, value.
     puts: Vec<(u64, u64, u16)>,
+    files: FileMemory,
 }
 
 struct Recording {
@@ -42,6 +49,7 @@ impl Side for Document {
                 self.puts.retain(|&(l, i, _)| (l, i) != (level, index));
                 self.puts.push((level, index, value));
             }
+            Op::PutFile { at, byte } => self.files.put(at as usize, byte),
             _ => return Some(self.answer(op)),
         }
         None
@@ -57,6 +65,10 @@ impl Document {
         &self.samples
     }
 
+    pub fn files(&self) -> &FileMemory {
+        &self.files
+    }
+
     /// Whether rows 1 and 2 refuse the store as it is now. This is Raw's refusal too, which has no number.
     pub fn refuses(&self) -> bool {
         refusals::store(&self.store, &self.lent).is_err()
@@ -68,7 +80,7 @@ impl Document {
                 let unit = rules::unit(*channels);
                 let store = Store { unit, capacity: *capacity, len: 0, mark: None };
                 refusals::store(&store, &self.lent)?;
-                *self = Document { lent: self.lent, store, ..Document::default() };
+                self.begin(store);
                 Ok(vec![unit])
             }
             Op::Start(settings) => self.start(settings),
@@ -87,6 +99,22 @@ impl Document {
                 Ok(vec![r.record.kept, r.record.place, r.previous.is_some() as u64, previous])
             }
             Op::Raw(chunk) => Ok(self.raw(*chunk)),
+            Op::FileLen => {
+                refusals::record(&self.store)?;
+                Ok(vec![file::length(self.store.unit, self.store.len)])
+            }
+            Op::Write { output } => self.write(*output),
+            Op::Read { capacity, count } => self.read(*capacity, *count),
+            Op::Says { count } => {
+                let first = self.files.first(*count as usize);
+                let said = file::says(&first);
+                assert_eq!(
+                    said.is_some(),
+                    file::some_file_begins_so(&first),
+                    "two ways, one answer"
+                );
+                said.map(|said| said.values()).ok_or(16)
+            }
             Op::Pretrigger { time, rate, unit } => {
                 let (pre, cut) = rules::pre(Wish::Seconds(*time), 0, *rate, *unit);
                 Ok(vec![pre, cut as u64])
@@ -142,6 +170,43 @@ impl Document {
         })
     }
 
+    /// Another capture. The memory stays.
+    fn begin(&mut self, store: Store) {
+        let files = std::mem::take(&mut self.files);
+        *self = Document { lent: self.lent, store, files, ..Document::default() };
+    }
+
+    /// Length and digest of the file.
+    fn write(&mut self, output: u64) -> Answer {
+        refusals::store(&self.store, &self.lent)?;
+        let file = self.file();
+        refusals::write(file.len() as u64, output)?;
+        self.files.hold(&file);
+        Ok(vec![file.len() as u64, digest(file.into_iter().map(u64::from))])
+    }
+
+    /// The file of the capture.
+    fn file(&self) -> Vec<u8> {
+        let Store { unit, len, mark, .. } = self.store;
+        file::file_of(unit, mark, len, &to_bytes(&self.samples, unit))
+    }
+
+    fn read(&mut self, capacity: u64, count: u64) -> Answer {
+        refusals::capacity(capacity)?;
+        let first = self.files.first(count as usize);
+        let read = file::read(&first);
+        if first.len() <= SMALL {
+            assert_eq!(read.is_some(), file::some_capture_has(&first), "two ways, one answer");
+        }
+        let Capture { said, bytes } = read.ok_or(16u64)?;
+        let Said { unit, len, mark } = said;
+        let store = Store { unit, capacity, len, mark };
+        refusals::read(&store, &self.lent)?;
+        self.begin(store);
+        self.samples = rules::samples(&bytes, unit);
+        Ok(said.values())
+    }
+
     fn append(&mut self, bytes: &[u8]) -> Answer {
         refusals::store(&self.store, &self.lent)?;
         let taken = rules::samples(bytes, self.store.unit);
@@ -166,8 +231,8 @@ impl Document {
             armed: !settings.terms.is_empty(),
             previous: None,
         };
-        let recorder = Some(recording);
-        *self = Document { lent: self.lent, store, recorder, ..Document::default() };
+        self.begin(store);
+        self.recorder = Some(recording);
         Ok(vec![unit, pre, cut as u64])
     }
 

@@ -4,7 +4,7 @@ use super::rules;
 use crate::node::{span, NUMBERS};
 use crate::op::{Lent, Recorder, Settings, Store, View, Wish};
 
-const MOST: u64 = 67_108_864;
+pub const MOST: u64 = 67_108_864;
 
 /// The memory that a store needs. The ring is a recorder's.
 pub fn need(unit: u64, capacity: u64) -> Lent {
@@ -35,6 +35,11 @@ fn first(rows: &[(u64, &dyn Fn() -> bool)]) -> Result<(), u64> {
         Some(&(number, _)) => Err(number),
         None => Ok(()),
     }
+}
+
+/// A call on the record alone.
+pub fn record(s: &Store) -> Result<(), u64> {
+    first(&[(1, &|| row_1(s))])
 }
 
 /// Every call on a store.
@@ -77,6 +82,21 @@ pub fn encoder(a: u64, b: u64) -> Result<(), u64> {
 pub fn mill_encoder(grant: u16, a: u64, b: u64) -> Result<(), u64> {
     encoder(a, b)?;
     first(&[(12, &|| grant >> a & 1 == 0 || grant >> b & 1 == 0)])
+}
+
+/// Writing a file of this length, after the rows of every call.
+pub fn write(length: u64, output: u64) -> Result<(), u64> {
+    first(&[(15, &|| output < length)])
+}
+
+/// Reading: the capacity of the new store, whatever the file is; 16 comes after it.
+pub fn capacity(capacity: u64) -> Result<(), u64> {
+    first(&[(1, &|| !(1..=MOST).contains(&capacity))])
+}
+
+/// And then the store that a capture's file calls for.
+pub fn read(s: &Store, lent: &Lent) -> Result<(), u64> {
+    first(&[(15, &|| s.len > s.capacity || row_2(s, lent, 0))])
 }
 
 /// A render, after the rows of every call.

@@ -2,6 +2,7 @@
 
 mod burst;
 mod encoder;
+pub mod file;
 mod recorder;
 pub mod refused;
 pub mod render;
@@ -20,13 +21,14 @@ pub struct Group {
     pub random: fn(&mut List, &mut Rng, Size),
 }
 
-pub const GROUPS: [Group; 6] = [
+pub const GROUPS: [Group; 7] = [
     Group { name: "store", write: store::write, random: store::random },
     Group { name: "search", write: search::write, random: search::random },
     Group { name: "burst", write: burst::write, random: burst::random },
     Group { name: "render", write: render::write, random: render::random },
     Group { name: "recorder", write: recorder::write, random: recorder::random },
     Group { name: "encoder", write: encoder::write, random: encoder::random },
+    Group { name: "file", write: file::write, random: file::random },
 ];
 
 /// The captures of document 01's shelf examples.

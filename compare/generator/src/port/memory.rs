@@ -32,7 +32,17 @@ impl Memory {
         }
     }
 
-    /// What is lent to append; push gets the ring beside it.
+    /// As much as is lent, and the guards.
+    pub fn part(&self, lent: &Lent) -> Memory {
+        let [a, b, c, d] = lent.levels.map(|length| length as usize + GUARD);
+        let [l1, l2, l3, l4] = &self.levels;
+        let levels = [&l1[..a], &l2[..b], &l3[..c], &l4[..d]].map(<[u16]>::to_vec);
+        let [samples, ring] = [(&self.samples, lent.samples), (&self.ring, lent.ring)]
+            .map(|(memory, length)| memory[..length as usize + GUARD].to_vec());
+        Memory { samples, levels, ring }
+    }
+
+    /// What is lent to append and to a read; push gets the ring beside it.
     pub fn lent_mut(&mut self, lent: &Lent) -> (LentMut<'_>, &mut [u8]) {
         let [a, b, c, d] = lent.levels.map(|n| n as usize);
         let [l1, l2, l3, l4] = &mut self.levels;

@@ -18,7 +18,7 @@ abbrev entered-at : tie.After-report Inv-loop μ-loop → tie.In-loop Inv-loop �
 entered-at p =
     let lent = p .before .before .before .before .before .before .before in
     let read = lent .before .before .before .before .before .before .before in
-    read .before .before .before .before .before .before
+    read .before .before .before .before .before .before .before
 
 arg-count-requires : tie.Need-arg-count-requires Inv-loop μ-loop
 arg-count-requires c κs = search needs

@@ -6,11 +6,11 @@ use Rattle.replay_list.proofs.replay_list.Statement.{statement}
 use Rattle.replay_list.proofs.replay_list.Tie as tie
 
 abbrev Inv-loop : tie.InvT-loop
-Inv-loop text count samples₀ l1₀ l2₀ l3₀ l4₀ ring₀ output₀ piece₀ n s₀ at₀ samples l1 l2 l3 l4 ring output piece s at =
+Inv-loop text count samples₀ l1₀ l2₀ l3₀ l4₀ ring₀ output₀ piece₀ file₀ n s₀ at₀ samples l1 l2 l3 l4 ring output piece file s at =
     Unit {0}
 
 abbrev μ-loop : tie.MeasureT-loop
-μ-loop text count samples₀ l1₀ l2₀ l3₀ l4₀ ring₀ output₀ piece₀ n s₀ at₀ samples l1 l2 l3 l4 ring output piece s at =
+μ-loop text count samples₀ l1₀ l2₀ l3₀ l4₀ ring₀ output₀ piece₀ file₀ n s₀ at₀ samples l1 l2 l3 l4 ring output piece file s at =
     n - at
 
 lesser-requires : tie.Need-lesser-requires Inv-loop μ-loop
@@ -52,7 +52,7 @@ line-after-requires c κs = search needs
 loop-less : tie.Need-loop-less Inv-loop μ-loop
 loop-less c =
     let stepped = c .before .before .before .before in
-    let lent = stepped .before .before .before .before .before .before .before in
+    let lent = stepped .before .before .before .before .before .before .before .before in
     let ended = lent .before .before .before .before .before .before .before in
     omega (arith, c .line-after .ensures, ended .line-end .ensures .from, ended .before .loop-test .taken)
 

@@ -88,6 +88,24 @@ pub fn render(l: &Lent) -> u32 {
     lent!(l, lc_render, (l.store()), (start, spp, width, l.output, output))
 }
 
+pub fn file_len(l: &Lent) -> u32 {
+    // SAFETY: the pointers are into pages of ours, to as many numbers.
+    unsafe { lc_file_len(l.store(), l.number(0)) }
+}
+
+pub fn file_says(l: &Lent) -> u32 {
+    // SAFETY: the pointers are into pages of ours, to as many bytes and numbers.
+    unsafe { lc_file_says(l.file, l.given.file.len(), l.numbers.cast()) }
+}
+
+pub fn write(l: &Lent) -> u32 {
+    lent!(l, lc_write, (l.store()), (l.file_output, l.given.file_room, l.number(0)))
+}
+
+pub fn read(l: &Lent) -> u32 {
+    lent!(l, lc_read, (l.given.capacity, l.file, l.given.file.len()), (l.begun.cast()))
+}
+
 pub fn mill_extent(l: &Lent) -> u32 {
     lent!(l, lc_mill_extent, (l.store()), (l.mill_place(0), l.mill_place(1), l.number(0)))
 }

@@ -2,6 +2,7 @@
 
 use crate::calls::{record, recorder};
 use crate::pages::Pages;
+use crate::plain;
 
 pub const CAPACITY: usize = 64;
 pub const LEN: usize = 40;
@@ -39,6 +40,10 @@ pub struct Given {
     pub grant: u16,
     pub mill_place: i64,
     pub mill_end: i64,
+    /// The capture's file.
+    pub file: Vec<u8>,
+    /// The length of the output for a file.
+    pub file_room: usize,
 }
 
 /// The numbers of a node.
@@ -76,6 +81,7 @@ impl Given {
         ] {
             record[at] = number;
         }
+        let file = plain::file::file(2, Some(MARK), &run);
         Given {
             channels: 16,
             capacity: CAPACITY,
@@ -102,6 +108,8 @@ impl Given {
             grant: 0b11,
             mill_place: 2,
             mill_end: 15,
+            file_room: file.len() + 9,
+            file,
         }
     }
 
@@ -134,8 +142,10 @@ pub struct Lent {
     pub levels: [*mut u16; 4],
     pub ring: *mut u8,
     pub bytes: *const u8,
+    pub file: *const u8,
     pub begun: *mut [usize; 17],
     pub output: *mut u16,
+    pub file_output: *mut u8,
     pub numbers: *mut [usize; 5],
     pub places: *mut [i64; 2],
     pub read: *mut usize,
@@ -151,8 +161,10 @@ impl Lent {
             levels: [0, 1, 2, 3].map(|level| kept.put(&given.levels[level])),
             ring: kept.put(&given.ring),
             bytes: kept.put(&given.bytes),
+            file: kept.put(&given.file),
             begun: out.put(&[[77; 17]]),
             output: out.put(&vec![77; given.output]),
+            file_output: out.put(&vec![77; given.file_room]),
             numbers: out.put(&[[77; 5]]),
             places: out.put(&[[77; 2]]),
             read: count.put(&[77]),

@@ -5,5 +5,7 @@ mod given;
 mod modes;
 mod numbers;
 mod pages;
+#[path = "../plain/mod.rs"]
+mod plain;
 mod refused;
 mod rows;

@@ -67,6 +67,14 @@ fn exports() -> Vec<Tried> {
         question("lc_burst_at", calls::burst_at, &[]),
         question("lc_encoder", calls::encoder, &[rows::ENCODER]),
         question("lc_render", calls::render, &[rows::VIEW]),
+        tried("lc_file_len", calls::file_len, &[rows::STORE]),
+        tried("lc_file_says", calls::file_says, &[rows::BLOCK_0]),
+        question("lc_write", calls::write, &[rows::FILE_OUTPUT]),
+        tried(
+            "lc_read",
+            calls::read,
+            &[rows::CHANNELS, rows::BLOCK_0, rows::BLOCKS, rows::FILE_ROOM],
+        ),
         question("lc_mill_extent", calls::mill_extent, &[]),
         question("lc_mill_get", calls::mill_get, &[rows::BEFORE, rows::MILL_PLACE]),
         question("lc_mill_samples", calls::mill_samples, &[rows::BEFORE, rows::OUTPUT]),
@@ -138,12 +146,13 @@ fn a_refused_call_stores_nothing() {
     none(lines);
 }
 
-/// An encoder's rows stand in their order: where two hold, the call gives the number of the first.
+/// Rows stand in their order: where two hold, the call gives the number of the first.
 #[test]
-fn the_first_row_that_holds_refuses_an_encoder() {
+fn the_first_row_that_holds_refuses() {
     let given = Given::new();
     let mut lines = Vec::new();
-    for tried in exports().iter().filter(|tried| tried.name.ends_with("encoder")) {
+    let named = ["lc_encoder", "lc_mill_encoder", "lc_write", "lc_read"];
+    for tried in exports().iter().filter(|tried| named.contains(&tried.name)) {
         for (at, &first) in tried.rows.iter().enumerate() {
             for &(_, other, also) in tried.rows[at + 1..].iter().copied().flatten() {
                 for &(row, what, change) in first {
@@ -188,7 +197,7 @@ fn a_question_stores_behind_its_out_pointers_alone() {
     let given = Given::new();
     let mut lines = Vec::new();
     for tried in exports() {
-        if !["lc_append", "lc_push"].contains(&tried.name) {
+        if !["lc_append", "lc_push", "lc_read"].contains(&tried.name) {
             let ended = called(given.clone(), ReadOnly::Kept, tried.call);
             lines.extend(line(&tried.named(), "answered", 0, ended));
         }

@@ -2,6 +2,8 @@
 
 use crate::calls::{record, recorder};
 use crate::given::{Given, CAPACITY, LEN, MARK};
+use crate::plain::file::seal;
+use capture::BLOCK;
 
 const MOST_SAMPLES: usize = 67_108_864;
 
@@ -125,4 +127,60 @@ pub const END_BEFORE: &[Row] =
 pub const MILL_PLACE: &[Row] = &[
     (9, "the end", |g| g.mill_place = (LEN - MARK) as i64),
     (9, "the greatest place", |g| g.mill_place = i64::MAX),
+];
+
+pub const FILE_OUTPUT: &[Row] = &[
+    (15, "output too short for the file", |g| g.file_room = g.file.len() - 1),
+    (15, "no output for the file", |g| g.file_room = 0),
+];
+
+/// Changes a byte of the given file and makes the checks anew, so that it is another field that refuses.
+fn put(g: &mut Given, place: usize, byte: u8) {
+    g.file[place] = byte;
+    g.file.chunks_exact_mut(BLOCK).for_each(seal);
+}
+
+/// A file's beginning that no capture has.
+pub const BLOCK_0: &[Row] = &[
+    (16, "no file", |g| g.file.clear()),
+    (16, "a file shorter than a block", |g| g.file.truncate(BLOCK - 1)),
+    (16, "a check that is not block 0's", |g| g.file[0] ^= 1),
+    (16, "a count that is not 18", |g| put(g, 2, 17)),
+    (16, "a number that is not 0", |g| put(g, 7, 1)),
+    (16, "no zeros at 8", |g| put(g, 8, 1)),
+    (16, "no zeros behind the payload", |g| put(g, 30, 1)),
+    (16, "unit 0 in the file", |g| put(g, 12, 0)),
+    (16, "unit 3 in the file", |g| put(g, 12, 3)),
+    (16, "flag 2", |g| put(g, 13, 2)),
+    (16, "a mark without its flag", |g| put(g, 13, 0)),
+    (16, "a len above the most", |g| put(g, 21, 1)),
+    (16, "a mark past len in the file", |g| put(g, 22, LEN as u8 + 1)),
+];
+
+/// What is behind the beginning.
+pub const BLOCKS: &[Row] = &[
+    (16, "a block missing", |g| g.file.truncate(BLOCK)),
+    (16, "a byte missing", |g| shorten(&mut g.file)),
+    (16, "a byte too many", |g| g.file.push(0)),
+    (16, "a block too many", |g| g.file.extend([0; BLOCK])),
+    (16, "a check that is not block 1's", |g| g.file[BLOCK + 1] ^= 1),
+    (16, "a changed sample", |g| g.file[BLOCK + 12] ^= 1),
+    (16, "another count in block 1", |g| put(g, BLOCK + 2, 82)),
+    (16, "another number in block 1", |g| put(g, BLOCK + 4, 0)),
+    (16, "no zeros at 11 in block 1", |g| put(g, BLOCK + 11, 1)),
+    (16, "no zeros behind the samples", |g| put(g, BLOCK + 92, 1)),
+];
+
+/// Of a read: in place of 2.
+pub const FILE_ROOM: &[Row] = &[
+    (15, "a capacity below the file's len", |g| g.capacity = LEN - 1),
+    (15, "a capacity that the memory is short for", |g| g.capacity = CAPACITY + 1),
+    (15, "the greatest capacity", |g| g.capacity = MOST_SAMPLES),
+    (15, "samples too short", |g| shorten(&mut g.samples)),
+    (15, "no samples", |g| g.samples.clear()),
+    (15, "level 1 too short", |g| shorten(&mut g.levels[0])),
+    (15, "level 2 too short", |g| shorten(&mut g.levels[1])),
+    (15, "level 3 too short", |g| shorten(&mut g.levels[2])),
+    (15, "level 4 too short", |g| shorten(&mut g.levels[3])),
+    (15, "no level 4", |g| g.levels[3].clear()),
 ];

@@ -2,6 +2,7 @@
 //! some.
 #![allow(dead_code)]
 
+pub mod file;
 pub mod walk;
 
 use capture::{Burst, Condition, Encoder, Lines, Node, Pixel, Term, View};

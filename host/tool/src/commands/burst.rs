@@ -21,8 +21,8 @@ pub const COMMAND: Command = Command {
         ("--unit", Takes::Value),
     ],
     run: |args, out| {
-        let recording = file::load("burst", args)?;
-        let reader = Reader::asked(args, &recording)?;
+        let capture = file::load("burst", args)?;
+        let reader = Reader::asked(args, &capture)?;
         let mask = lines::mask(&chosen_lines(args, &reader)?);
         let at = needed(place::asked(args, "--at", &reader)?, "--at PLACE")?;
         let gap = needed(args.read_value("--gap", number::whole)?, "--gap SAMPLES")?;

@@ -7,15 +7,15 @@ use crate::file;
 
 pub const COMMAND: Command = Command {
     name: "check",
-    about: "Checks a capture file, and every summary that is made of it",
+    about: "Checks a shelf file, and every summary that is made of it",
     help: include_str!("../help/check.txt"),
     options: &[
         ("--grant", Takes::Refused("the check of summaries is not given to mills")),
         ("--unit", Takes::Value),
     ],
     run: |args, out| {
-        let recording = file::load("check", args)?;
-        match recording.capture.whole() {
+        let capture = file::load("check", args)?;
+        match capture.whole() {
             Ok(()) => writeln!(out, "whole")?,
             Err(wrong) => {
                 writeln!(out, "wrong {} {}", wrong.level, wrong.number)?;

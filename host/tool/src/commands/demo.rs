@@ -6,10 +6,9 @@ use crate::failure::{bad, Failure, Outcome};
 use crate::frame::{self, DRIVE, DRIVE_STARTS, NAMES, RATE, SAMPLES, TURN, TURNER_ENCODER};
 use crate::output::Output;
 use crate::reader::{Place, Reader};
-use crate::recording::Recording;
 use crate::text::{self, Style};
 use crate::wave::Wave;
-use crate::{file, lines};
+use crate::{lines, numbers};
 use capture::{Capture, Condition, Encoder, Lines, Pushed, Recorder, Settings, Wish};
 use std::io::Write;
 
@@ -45,10 +44,9 @@ fn run(args: &Args, out: &mut dyn Write) -> Result<Outcome, Failure> {
     let samples: Vec<Lines> = (0..SAMPLES).map(frame::sample).collect();
     let bytes: Vec<u8> = samples.iter().flat_map(|sample| sample.to_le_bytes()).collect();
     let capture = record(&bytes)?;
-    let recording = Recording { mark: capture.mark(), capture, rate: Some(RATE) };
     // Saved before anything is printed: who reads that may not read to its end.
     if let Some(output) = output {
-        output.write(out, |to| file::save(&recording, to))?;
+        output.write(out, |to| capture.write_to(to).map(|_| ()))?;
     }
     if let Some(raw) = raw {
         raw.write(out, |to| to.write_all(&bytes))?;
@@ -57,16 +55,15 @@ fn run(args: &Args, out: &mut dyn Write) -> Result<Outcome, Failure> {
     writeln!(out, "A scanner frame: four heads, two encoders and a log turner on 16 lines.")?;
     writeln!(out, "{SAMPLES} samples went by in pushes of {PUSH}. The recorder waited for the turner's drive,")?;
     writeln!(out, "{DRIVE}=rising, and kept {LIMIT} of them, a quarter from before that:\n")?;
-    recording.describe(&Reader::Service(&recording), out)?;
+    numbers::print(&Reader::Service(&capture), Some(RATE), out)?;
     writeln!(out)?;
-    draw(&recording, args.flag("--ascii"), out)?;
+    draw(&capture, args.flag("--ascii"), out)?;
     writeln!(out)?;
-    let found = search(&recording, out)?;
-    let turned = replay(&recording, out)?;
+    let found = search(&capture, out)?;
+    let turned = replay(&capture, out)?;
 
     // The same by hand: what the trigger has to keep of the frame, looked at sample by sample.
     let kept = &samples[DRIVE_STARTS - LIMIT / 4..][..LIMIT];
-    let capture = &recording.capture;
     let agrees = capture.samples(0, capture.len()) == kept
         && found == scan(kept)
         && turned == count(kept)
@@ -100,8 +97,8 @@ fn record(bytes: &[u8]) -> Result<Capture, Failure> {
     Ok(recorder.into_capture())
 }
 
-fn draw(recording: &Recording, ascii: bool, out: &mut dyn Write) -> Result<(), Failure> {
-    let reader = Reader::Service(recording);
+fn draw(capture: &Capture, ascii: bool, out: &mut dyn Write) -> Result<(), Failure> {
+    let reader = Reader::Service(capture);
     let mark = reader.mark().unwrap_or(0);
     let wave = Wave::new(&reader, (mark - BEFORE_MARK).max(0), mark + AFTER_MARK, WIDTH)?;
     let Some(wave) = wave else { return Ok(()) };
@@ -111,10 +108,9 @@ fn draw(recording: &Recording, ascii: bool, out: &mut dyn Write) -> Result<(), F
 }
 
 /// Finds the places at which the turner's encoder moves, by hops over the summaries.
-fn search(recording: &Recording, out: &mut dyn Write) -> Result<Vec<usize>, Failure> {
-    let capture = &recording.capture;
+fn search(capture: &Capture, out: &mut dyn Write) -> Result<Vec<usize>, Failure> {
     let mask = lines::mask(&TURNER_ENCODER);
-    let mark = recording.mark.unwrap_or(0);
+    let mark = capture.mark().unwrap_or(0);
     let lines = lines::written(mask);
     if let Some(first) = capture.next_change(mask, mark).found {
         let after = first - mark;
@@ -131,9 +127,9 @@ fn search(recording: &Recording, out: &mut dyn Write) -> Result<Vec<usize>, Fail
 }
 
 /// Replays the turner's encoder, and says whether the log came home.
-fn replay(recording: &Recording, out: &mut dyn Write) -> Result<Encoder, Failure> {
+fn replay(capture: &Capture, out: &mut dyn Write) -> Result<Encoder, Failure> {
     let [a, b] = TURNER_ENCODER.map(usize::from);
-    let turned = recording.capture.encoder(a, b)?;
+    let turned = capture.encoder(a, b)?;
     let Encoder { position, forward, backward, skipped } = turned;
     let turns = |steps: usize| steps as f64 / TURN as f64;
     writeln!(

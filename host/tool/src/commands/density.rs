@@ -47,15 +47,15 @@ fn run(args: &Args, out: &mut dyn Write) -> Result<Outcome, Failure> {
         return Err(bad("--width goes with --parts or --svg"));
     }
     let picture = args.path("--svg").map(Output::open).transpose()?;
-    let recording = file::load("density", args)?;
-    let reader = Reader::Service(&recording);
+    let capture = file::load("density", args)?;
+    let reader = Reader::Service(&capture);
     let from = place::asked(args, "--from", &reader)?.unwrap_or(reader.first());
     let to = place::asked(args, "--to", &reader)?.unwrap_or(reader.end()).min(reader.end());
     let samples = usize::try_from(to - from).unwrap_or(0);
     if let Some(parts) = asked.filter(|&parts| parts > samples) {
         return Err(bad(format!("--parts {parts}: the stretch has {samples} samples")));
     }
-    let parts = |count| Parts::new(&recording.capture, from, to, count);
+    let parts = |count| Parts::new(&capture, from, to, count);
     let count = match (picture, asked) {
         (Some(_), None) if samples == 0 => {
             note("density", "no samples to draw");
@@ -74,7 +74,7 @@ fn run(args: &Args, out: &mut dyn Write) -> Result<Outcome, Failure> {
             parts.most()
         }
         (None, None) => {
-            let count = recording.capture.density(from as usize, to as usize);
+            let count = capture.density(from as usize, to as usize);
             writeln!(out, "{count}")?;
             count
         }

@@ -20,8 +20,8 @@ pub const COMMAND: Command = Command {
     ],
     run: |args, out| {
         let turn = args.read_value("--steps-per-turn", read_turn)?;
-        let recording = file::load("encoder", args)?;
-        let reader = Reader::asked(args, &recording)?;
+        let capture = file::load("encoder", args)?;
+        let reader = Reader::asked(args, &capture)?;
         let line = |name| args.read_value(name, |text| lines::read_line(text, reader.unit()));
         let a = needed(line("--a")?, "--a LINE")?;
         let b = needed(line("--b")?, "--b LINE")?;

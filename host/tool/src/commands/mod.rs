@@ -12,6 +12,7 @@ mod prev;
 mod record;
 mod render;
 mod samples;
+mod shelf;
 mod summary;
 
 use crate::args::{Args, Known};
@@ -33,10 +34,11 @@ pub struct Command {
     pub run: fn(&Args, &mut dyn Write) -> Result<Outcome, Failure>,
 }
 
-pub const COMMANDS: [Command; 13] = [
+pub const COMMANDS: [Command; 14] = [
     demo::COMMAND,
     record::COMMAND,
     info::COMMAND,
+    shelf::COMMAND,
     next::COMMAND,
     prev::COMMAND,
     changes::COMMAND,

@@ -17,8 +17,8 @@ pub const COMMAND: Command = Command {
         ("--unit", Takes::Value),
     ],
     run: |args, out| {
-        let recording = file::load("next", args)?;
-        let reader = Reader::asked(args, &recording)?;
+        let capture = file::load("next", args)?;
+        let reader = Reader::asked(args, &capture)?;
         let mask = lines::mask(&chosen_lines(args, &reader)?);
         let from = place::asked(args, "--from", &reader)?.unwrap_or(reader.first());
         print_found(args, reader.next_change(mask, from)?.map(|place| place.to_string()), out)

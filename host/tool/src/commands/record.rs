@@ -3,13 +3,11 @@
 use super::{needed, Command};
 use crate::args::{Args, Takes};
 use crate::failure::{bad, Failure, Outcome};
-use crate::header::BEGINNING;
 use crate::output::Output;
 use crate::progress::Progress;
 use crate::reader::Reader;
-use crate::recording::Recording;
 use crate::source::Source;
-use crate::{file, interrupt, note, number, trigger, wish};
+use crate::{interrupt, note, number, numbers, trigger, wish};
 use capture::{Pushed, Recorder, Refusal, Settings, Wish, MOST_SAMPLES};
 use std::ffi::OsStr;
 use std::io::Write;
@@ -17,7 +15,7 @@ use std::time::Instant;
 
 pub const COMMAND: Command = Command {
     name: "record",
-    about: "Records raw samples through a trigger, and saves them as a capture file",
+    about: "Records raw samples through a trigger, and saves them as a shelf file",
     help: include_str!("../help/record.txt"),
     options: &[
         ("--unit", Takes::Value),
@@ -51,9 +49,6 @@ fn run(args: &Args, out: &mut dyn Write) -> Result<Outcome, Failure> {
     let rate = args.read_value("--rate", number::rate)?;
     let mut recorder = start(args, unit, rate)?;
     let mut source = Source::open(args.file().unwrap_or(OsStr::new("-")))?;
-    if source.begins_with(BEGINNING)? {
-        return Err(source.bad("a capture file, not raw samples"));
-    }
     let output = Output::open(path)?;
 
     interrupt::listen();
@@ -87,11 +82,10 @@ fn run(args: &Args, out: &mut dyn Write) -> Result<Outcome, Failure> {
         }
     }
     let capture = recorder.into_capture();
-    let recording = Recording { mark: capture.mark(), capture, rate };
     let is_standard = output.is_standard();
-    output.write(out, |file| file::save(&recording, file))?;
+    output.write(out, |file| capture.write_to(file).map(|_| ()))?;
     if !is_standard {
-        recording.describe(&Reader::Service(&recording), out)?;
+        numbers::print(&Reader::Service(&capture), rate, out)?;
     }
     Ok(Outcome::of(!matches!(end, End::Full)))
 }

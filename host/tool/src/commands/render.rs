@@ -47,8 +47,8 @@ fn run(args: &Args, out: &mut dyn Write) -> Result<Outcome, Failure> {
     exclude(args, "--ascii", "--svg")?;
     let width = args.read_value("--width", read_width)?;
     let picture = args.path("--svg").map(Output::open).transpose()?;
-    let recording = file::load("render", args)?;
-    let reader = Reader::asked(args, &recording)?;
+    let capture = file::load("render", args)?;
+    let reader = Reader::asked(args, &capture)?;
     if args.flag("--pixels") {
         return pixels(args, &reader, width.unwrap_or(TEXT_WIDTH), out);
     }

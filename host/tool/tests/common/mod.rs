@@ -45,6 +45,14 @@ impl Folder {
         self.0.join(name).exists()
     }
 
+    /// The names in it, sorted.
+    pub fn names(&self) -> Vec<String> {
+        let entries = fs::read_dir(&self.0).unwrap().map(|entry| entry.unwrap().file_name());
+        let mut names: Vec<_> = entries.map(|name| name.into_string().unwrap()).collect();
+        names.sort();
+        names
+    }
+
     /// Runs the tool with the words of a line.
     pub fn run(&self, line: &str) -> Run {
         self.run_on(line, &[])

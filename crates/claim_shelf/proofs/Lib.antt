@@ -1,0 +1,4 @@
+pub mod Written
+pub mod Taken
+pub mod Files
+pub mod Claim

@@ -1,0 +1,28 @@
+-- What reading answers and leaves. 02: CR 7.
+use mathlib.Core.Path.{_≡_}
+use mathlib.Core.List.{List}
+use Prim.Native.Nat.{ℕ}
+use lib.ListN.{take, drop}
+use Rattle.rules.specs.Refusal.{Store}
+use Rattle.rules.specs.Block.{blockSize}
+use Rattle.rules.specs.Shelf.{headingOf, blocksFor, fileLen, headingIn, payloads, bytesIn}
+use Rattle.rules.specs.ShelfCalls.{readAnswer, readCount}
+use Rattle.store.specs.Room.{StoreRoom}
+use Rattle.store.specs.Stored.{Stored}
+use Rattle.capture.specs.declared.Started.{Started}
+use Rattle.capture.specs.Record.{lentOf}
+use Rattle.capture.specs.Calls.{startedOf}
+
+-- n bytes of samples behind block 0
+abbrev pub bytesBehind : ℕ → List ℕ → List ℕ
+bytesBehind n file = take n (payloads (blocksFor n) (drop blockSize file))
+
+-- a file of the right length, and memory for its samples and their nodes
+pub record TakeRoom (st : Store) (file samples : ℕ) (levels : ℕ → List ℕ) : Type 0 where
+  pub room : StoreRoom (st .unit) 0 (st .len) samples levels
+  pub size : file ≡ fileLen (headingOf st)
+
+-- a call of read, over any memory: its answer, and the memory that it leaves, which is what append of all the file's samples to the fresh store leaves
+pub record Reads (capacity : ℕ) (file samples : List ℕ) (levels : ℕ → List ℕ) (r : Started) (samples′ : List ℕ) (levels′ : ℕ → List ℕ) : Type 0 where
+  pub answer-is : startedOf r ≡ readAnswer capacity (lentOf samples levels) file
+  pub memory : Stored (headingIn file .unit) 0 (readCount capacity (lentOf samples levels) file) (bytesIn file) samples levels samples′ levels′
