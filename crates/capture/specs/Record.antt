@@ -1,8 +1,10 @@
 -- The code's record as 01's store, and the lengths of lent memory.
 use mathlib.Core.Path.{_≡_}
+use mathlib.Core.Bool.{cond}
 use mathlib.Core.List.{List}
 use mathlib.Core.Option.{Option, none, some}
 use Prim.Native.Nat.{ℕ, _≤_}
+use lib.Dec.{eqb}
 use lib.ListN.{length}
 use Rattle.rules.specs.Sample.{UnitSize}
 use Rattle.rules.specs.Refusal.{Store, Lent, mostSamples, samplesNeed, levelNeed}
@@ -15,6 +17,10 @@ use Rattle.capture.specs.declared.Sizes.{Sizes}
 abbrev pub markOf : Mark → Option ℕ
 markOf Absent = none
 markOf (At k) = some k
+
+-- a mark by its two numbers (`rules.specs.Refusal`: `markFlag`, `markPlace`)
+abbrev pub markIn : ℕ → ℕ → Mark
+markIn flag place = cond (eqb flag 0) Absent (At place)
 
 abbrev pub storeOf : Capture → Store
 storeOf c = record { unit = c .unitsize; capacity = c .capacity; len = c .len; mark = markOf (c .trigger) }

@@ -14,9 +14,9 @@ ghost use Rattle.rules.specs.Reading.{getAnswer, copiedTo};
 ghost use Rattle.rules.specs.Node.{chunk, chunkEnd};
 ghost use Rattle.rules.specs.Sample.{unitOf, sampleOf};
 ghost use Rattle.rules.specs.Answer.{unless};
-ghost use Rattle.rules.specs.Refusal.{unitWrong, markWrong, storeWrong, lentShort, storeRefusal, fresh, copied};
+ghost use Rattle.rules.specs.Refusal.{markFlag, markPlace, unitWrong, markWrong, storeWrong, lentShort, storeRefusal, fresh, copied};
 ghost use Rattle.node.specs.Memory.{levelOf};
-ghost use Rattle.capture.specs.Record.{markOf, storeOf, lentOf, Small, Sized};
+ghost use Rattle.capture.specs.Record.{markOf, markIn, storeOf, lentOf, Small, Sized};
 ghost use Rattle.capture.specs.Calls.{neededOf, needRefusal, memoryNeed, startedOf, gotOf, Source, Copies, RawLies, RawPart};
 
 // 01's mark: the place of the firing sample, once there is one.
@@ -31,6 +31,35 @@ pub struct Capture {
     pub capacity: usize,
     pub len: usize,
     pub trigger: Mark,
+}
+
+// A mark as two numbers: whether there is one, and where.
+pub fn mark_flag(m: Mark) -> usize
+    ensures { λ r. ⌜ r ≡ markFlag (markOf m) ⌝ }
+{
+    match m {
+        Mark::Absent => 0,
+        Mark::At(_) => 1,
+    }
+}
+
+pub fn mark_place(m: Mark) -> usize
+    ensures { λ r. ⌜ r ≡ markPlace (markOf m) ⌝ }
+{
+    match m {
+        Mark::Absent => 0,
+        Mark::At(k) => k,
+    }
+}
+
+// The mark of two such numbers.
+pub fn mark_in(flag: usize, place: usize) -> Mark
+    ensures { λ r. ⌜ r ≡ markIn flag place ⌝ }
+{
+    if flag == 0 {
+        return Mark::Absent;
+    }
+    Mark::At(place)
 }
 
 // The mark lies beyond the stored samples.

@@ -9,6 +9,7 @@ use native.Mathlib.Omega.{arith}
 use lib.Dec.{eqb}
 use lib.ListN.{length, take, getD}
 use lib.Seq.{length-sets, getD-take}
+use Rattle.capture.specs.Record.{markIn}
 use Rattle.rules.specs.SampleBytes.{Bytes}
 use Rattle.rules.specs.Selection.{Settings, Reply, refused, going-on, complete}
 use Rattle.rules.specs.Refusal.{Lent, Recorder, startRefusal}
@@ -20,7 +21,7 @@ use Rattle.terms.specs.Terms.{previousOf}
 use Rattle.terms.specs.declared.Previous.the-variants.{Nothing, Sample}
 use Rattle.feeder.specs.declared.Feeder.{Feeder}
 use Rattle.feeder.specs.Record.{recorderOf}
-use Rattle.feeder_numbers.specs.Numbers.{knownIn, previousSampleIn, markIn, maskIn, feederFrom, pushedNumbers, recorderNumbers}
+use Rattle.feeder_numbers.specs.Numbers.{knownIn, previousSampleIn, maskIn, feederFrom, pushedNumbers, recorderNumbers}
 use Rattle.feeder_numbers.proofs.ReadBack.{Follows, recorder-back, pushed-back}
 use Rattle.rules.specs.Push.{leftOf}
 use Rattle.codes.specs.Record.{captureIn}

@@ -11,14 +11,14 @@ use lib.Dec.{eqb}
 use lib.ListN.{length, getD}
 use Rattle.rules.specs.Sample.{listFrom}
 use Rattle.rules.specs.Trigger.{Armed, unarmed, waiting, Masks}
-use Rattle.rules.specs.Refusal.{Recorder}
+use Rattle.rules.specs.Refusal.{Recorder, markFlag, markPlace}
 use Rattle.rules.proofs.SampleBytes.{list-whole}
-use Rattle.capture.specs.Record.{markOf}
+use Rattle.capture.specs.Record.{markOf, markIn}
 use Rattle.terms.specs.declared.Masks as code
 use Rattle.terms.specs.Terms.{previousOf}
 use Rattle.feeder.specs.declared.Armed.the-variants.{Unarmed, Waiting}
 use Rattle.feeder.specs.Record.{armedAs, recorderOf}
-use Rattle.feeder_numbers.specs.Numbers.{waitsIn, highLinesIn, lowLinesIn, risingLinesIn, fallingLinesIn, edgeLinesIn, markIn, maskIn, masksIn, armedIn, previousIn, feederFrom, markedNumber, markNumber, waitsNumber, masksOf, pushedNumbers, recorderNumbers}
+use Rattle.feeder_numbers.specs.Numbers.{waitsIn, highLinesIn, lowLinesIn, risingLinesIn, fallingLinesIn, edgeLinesIn, maskIn, masksIn, armedIn, previousIn, feederFrom, waitsNumber, masksOf, pushedNumbers, recorderNumbers}
 
 -- ---- what a record of the code holds: masks and samples of 16 lines
 pub record NarrowMasks (m : Masks) : Type 0 where
@@ -36,11 +36,11 @@ pub record Narrow (r : Recorder) : Type 0 where
 mask-back : (v : ℕ) → v < 65536 → maskIn v ≡ v
 mask-back v h = mod-eq-of-lt h
 
-mark-back : (m : Option ℕ) → markOf (markIn (markedNumber m) (markNumber m)) ≡ m
+mark-back : (m : Option ℕ) → markOf (markIn (markFlag m) (markPlace m)) ≡ m
 mark-back none = refl
 mark-back (some k) = refl
 
-previous-back : (p : Option ℕ) → ((v : ℕ) → p ≡ some v → v < 65536) → previousOf (previousIn (markedNumber p) (markNumber p)) ≡ p
+previous-back : (p : Option ℕ) → ((v : ℕ) → p ≡ some v → v < 65536) → previousOf (previousIn (markFlag p) (markPlace p)) ≡ p
 previous-back none h = refl
 previous-back (some v) h = ap some (mask-back v (h v refl))
 

@@ -3,9 +3,10 @@ use mathlib.Core.Path.{_≡_, ap, _∙_}
 use mathlib.Core.List.{List, [], _∷_}
 use Prim.Native.Nat.{ℕ}
 use lib.Seq.{sets}
+use Rattle.rules.specs.Refusal.{markFlag, markPlace}
 use Rattle.rules.specs.Trigger as rule
 use Rattle.capture.specs.declared.Mark.{Mark}
-use Rattle.capture.specs.Record.{markOf}
+use Rattle.capture.specs.Record.{markOf, markIn}
 use Rattle.capture.specs.Numbers.{unitAt, lenAt, unitIn, capacityIn, lenIn, markedIn, markPlaceIn}
 use Rattle.terms.specs.declared.Masks.{Masks}
 use Rattle.terms.specs.declared.Previous.{Previous}
@@ -13,7 +14,7 @@ use Rattle.terms.specs.Terms.{asMasks, previousOf}
 use Rattle.feeder.specs.declared.Armed.{Armed}
 use Rattle.feeder.specs.declared.Feeder.{Feeder}
 use Rattle.feeder.specs.Record.{armedAs, recorderOf}
-use Rattle.feeder_numbers.specs.Numbers.{limitAt, waitsAt, highLinesAt, knownAt, limitIn, preIn, waitsIn, highLinesIn, lowLinesIn, risingLinesIn, fallingLinesIn, edgeLinesIn, knownIn, previousSampleIn, ringPlaceIn, keptIn, markIn, masksIn, armedIn, previousIn, feederFrom, markedNumber, markNumber, waitsNumber, masksOf, maskNumbers, pushedNumbers, recorderNumbers}
+use Rattle.feeder_numbers.specs.Numbers.{limitAt, waitsAt, highLinesAt, knownAt, limitIn, preIn, waitsIn, highLinesIn, lowLinesIn, risingLinesIn, fallingLinesIn, edgeLinesIn, knownIn, previousSampleIn, ringPlaceIn, keptIn, masksIn, armedIn, previousIn, feederFrom, waitsNumber, masksOf, maskNumbers, pushedNumbers, recorderNumbers}
 
 pub read : (r : List ℕ) {mark : Mark} {masks : Masks} {armed : Armed} {prev : Previous}
     → mark ≡ markIn (markedIn r) (markPlaceIn r)
@@ -33,11 +34,11 @@ read r e f g h i = record {
 }
 
 pub written : (f : Feeder) (old : List ℕ) {marked mark waits known sample : ℕ}
-    → marked ≡ markedNumber (markOf (f .capture .trigger))
-    → mark ≡ markNumber (markOf (f .capture .trigger))
+    → marked ≡ markFlag (markOf (f .capture .trigger))
+    → mark ≡ markPlace (markOf (f .capture .trigger))
     → waits ≡ waitsNumber (armedAs (f .masks))
-    → known ≡ markedNumber (previousOf (f .prev))
-    → sample ≡ markNumber (previousOf (f .prev))
+    → known ≡ markFlag (previousOf (f .prev))
+    → sample ≡ markPlace (previousOf (f .prev))
     → sets (sets (sets old lenAt (f .capture .len ∷ marked ∷ mark ∷ [])) waitsAt (waits ∷ [])) knownAt (known ∷ sample ∷ f .place ∷ f .kept ∷ [])
     ≡ pushedNumbers (recorderOf f) old
 written f old a b c e g i = sets (sets (sets old lenAt (f .capture .len ∷ a i ∷ b i ∷ [])) waitsAt (c i ∷ [])) knownAt (e i ∷ g i ∷ f .place ∷ f .kept ∷ [])

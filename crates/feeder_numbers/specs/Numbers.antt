@@ -1,15 +1,13 @@
 -- The 17 numbers of a recorder: which is which, the recorder that they hold, and how it is written. 01: Records.
 use mathlib.Core.Bool.{cond}
 use mathlib.Core.List.{List, [], _∷_}
-use mathlib.Core.Option.{Option, none, some}
 use Prim.Native.Nat.{ℕ, _%_}
 use lib.Dec.{eqb}
 use lib.ListN.{getD}
 use lib.Seq.{sets}
 use Rattle.rules.specs.Trigger as rule
-use Rattle.rules.specs.Refusal.{Recorder}
-use Rattle.capture.specs.declared.Mark.{Mark}
-use Rattle.capture.specs.declared.Mark.the-variants.{Absent, At}
+use Rattle.rules.specs.Refusal.{Recorder, markFlag, markPlace}
+use Rattle.capture.specs.Record.{markIn}
 use Rattle.capture.specs.Numbers.{unitAt, lenAt, unitIn, capacityIn, lenIn, markedIn, markPlaceIn}
 use Rattle.terms.specs.declared.Masks.{Masks}
 use Rattle.terms.specs.declared.Previous.{Previous}
@@ -96,9 +94,6 @@ abbrev pub keptIn : List ℕ → ℕ
 keptIn r = getD r keptAt 0
 
 -- ---- from numbers
-abbrev pub markIn : ℕ → ℕ → Mark
-markIn marked k = cond (eqb marked 0) Absent (At k)
-
 -- a mask has 16 lines; what is above them is dropped
 abbrev pub maskIn : ℕ → ℕ
 maskIn n = n % 65536
@@ -124,15 +119,6 @@ feederFrom r = record {
 }
 
 -- ---- to numbers
--- whether there is a mark or a previous sample, and which; 0 where there is none
-abbrev pub markedNumber : Option ℕ → ℕ
-markedNumber none = 0
-markedNumber (some k) = 1
-
-abbrev pub markNumber : Option ℕ → ℕ
-markNumber none = 0
-markNumber (some k) = k
-
 abbrev pub waitsNumber : rule.Armed → ℕ
 waitsNumber rule.unarmed = 0
 waitsNumber (rule.waiting m) = 1
@@ -148,11 +134,11 @@ maskNumbers m = m .high ∷ m .low ∷ m .rising ∷ m .falling ∷ m .edge ∷ 
 abbrev pub fixedNumbers : Recorder → List ℕ → List ℕ
 fixedNumbers r old = sets (sets (sets old unitAt (r .store .unit ∷ r .store .capacity ∷ [])) limitAt (r .limit ∷ r .pre ∷ [])) highLinesAt (maskNumbers (masksOf (r .armed)))
 
--- what a push may change: len and mark, whether it waits, previous sample, ring place and kept count
+-- what a push may change: len and mark, whether it waits, previous sample (as two numbers, as a mark is), ring place and kept count
 abbrev pub pushedNumbers : Recorder → List ℕ → List ℕ
 pushedNumbers r old =
-    sets (sets (sets old lenAt (r .store .len ∷ markedNumber (r .store .mark) ∷ markNumber (r .store .mark) ∷ [])) waitsAt (waitsNumber (r .armed) ∷ [])) knownAt
-    (markedNumber (r .previous) ∷ markNumber (r .previous) ∷ r .place ∷ r .kept ∷ [])
+    sets (sets (sets old lenAt (r .store .len ∷ markFlag (r .store .mark) ∷ markPlace (r .store .mark) ∷ [])) waitsAt (waitsNumber (r .armed) ∷ [])) knownAt
+    (markFlag (r .previous) ∷ markPlace (r .previous) ∷ r .place ∷ r .kept ∷ [])
 
 abbrev pub recorderNumbers : Recorder → List ℕ → List ℕ
 recorderNumbers r old = pushedNumbers r (fixedNumbers r old)

@@ -2,7 +2,9 @@
 pub mod recorder;
 
 use capture::Capture;
-use capture::Mark;
+use capture::mark_flag;
+use capture::mark_in;
+use capture::mark_place;
 use capture::record;
 use feeder::Armed;
 use feeder::Feeder;
@@ -10,19 +12,10 @@ use lines::Mask;
 use terms::Masks;
 use terms::Previous;
 ghost use mathlib.Core.Path.{_≡_};
-ghost use Rattle.capture.specs.Record.{markOf};
+ghost use Rattle.rules.specs.Refusal.{markFlag, markPlace};
 ghost use Rattle.terms.specs.Terms.{asMasks, previousOf};
 ghost use Rattle.feeder.specs.Record.{armedAs, recorderOf};
-ghost use Rattle.feeder_numbers.specs.Numbers.{markIn, maskIn, masksIn, armedIn, previousIn, feederFrom, markedNumber, markNumber, waitsNumber, masksOf, pushedNumbers, recorderNumbers};
-
-fn mark_in(marked: usize, mark: usize) -> Mark
-    ensures { λ r. ⌜ r ≡ markIn marked mark ⌝ }
-{
-    if marked == 0 {
-        return Mark::Absent;
-    }
-    Mark::At(mark)
-}
+ghost use Rattle.feeder_numbers.specs.Numbers.{maskIn, masksIn, armedIn, previousIn, feederFrom, waitsNumber, masksOf, pushedNumbers, recorderNumbers};
 
 // The lines of a number: what is above them is dropped.
 fn mask_in(n: usize) -> Mask
@@ -91,25 +84,6 @@ pub fn feeder_in(numbers: &[usize; 17]) -> Feeder
     }
 }
 
-// Whether there is a mark, and where.
-fn marked(m: Mark) -> usize
-    ensures { λ r. ⌜ r ≡ markedNumber (markOf m) ⌝ }
-{
-    match m {
-        Mark::Absent => 0,
-        Mark::At(_) => 1,
-    }
-}
-
-fn mark_place(m: Mark) -> usize
-    ensures { λ r. ⌜ r ≡ markNumber (markOf m) ⌝ }
-{
-    match m {
-        Mark::Absent => 0,
-        Mark::At(k) => k,
-    }
-}
-
 // Whether it waits, and for what.
 fn waits(a: Armed) -> usize
     ensures { λ r. ⌜ r ≡ waitsNumber (armedAs a) ⌝ }
@@ -131,7 +105,7 @@ fn masks_of(a: Armed) -> Masks
 
 // Whether there is a previous sample, and which.
 fn known(p: Previous) -> usize
-    ensures { λ r. ⌜ r ≡ markedNumber (previousOf p) ⌝ }
+    ensures { λ r. ⌜ r ≡ markFlag (previousOf p) ⌝ }
 {
     match p {
         Previous::Nothing => 0,
@@ -140,7 +114,7 @@ fn known(p: Previous) -> usize
 }
 
 fn sample_of(p: Previous) -> usize
-    ensures { λ r. ⌜ r ≡ markNumber (previousOf p) ⌝ }
+    ensures { λ r. ⌜ r ≡ markPlace (previousOf p) ⌝ }
 {
     match p {
         Previous::Nothing => 0,
@@ -157,7 +131,7 @@ pub fn put_pushed(numbers: &mut [usize; 17], f: Feeder)
     let armed = f.masks;
     let prev = f.prev;
     numbers[record::LEN] = c.len;
-    numbers[record::MARKED] = marked(mark);
+    numbers[record::MARKED] = mark_flag(mark);
     numbers[record::MARK] = mark_place(mark);
     numbers[recorder::WAITS] = waits(armed);
     numbers[recorder::KNOWN] = known(prev);

@@ -12,7 +12,7 @@ use lib.Seq.{sets, set-getD, paste}
 use Rattle.rules.specs.Sample.{UnitSize, sampleOf, sampleCount, samplesOf}
 use Rattle.rules.specs.Trigger as rule
 use Rattle.rules.specs.Selection.{going-on}
-use Rattle.rules.specs.Refusal.{Store, Lent, Recorder, recorderRefusal}
+use Rattle.rules.specs.Refusal.{Store, Lent, Recorder, recorderRefusal, markFlag, markPlace}
 use Rattle.rules.proofs.Refusal.{Sound, SoundRecorder}
 use Rattle.rules.proofs.Sample.{list-length}
 use Rattle.rules.proofs.Trigger.{fire-le}
@@ -25,13 +25,13 @@ use Rattle.feeder_ring.proofs.Place.{place-ahead}
 use Rattle.feeder_ring.proofs.Runs.{one-run, run-room}
 use Rattle.capture.specs.declared.Mark.{Mark}
 use Rattle.capture.specs.declared.Mark.the-variants.{Absent}
-use Rattle.capture.specs.Record.{markOf, storeOf}
+use Rattle.capture.specs.Record.{markOf, storeOf, markIn}
 use Rattle.capture.specs.Numbers.{lenAt, markedAt, markAt, unitIn, capacityIn, markedIn, markPlaceIn}
 use Rattle.terms.specs.Terms.{asMasks, previousOf}
 use Rattle.feeder_scan.proofs.Last.{last-some}
 use Rattle.feeder.specs.Record.{armedAs, recorderOf}
 use Rattle.feeder.proofs.Rows.{sound-recorder}
-use Rattle.feeder_numbers.specs.Numbers.{waitsAt, knownAt, preIn, knownIn, previousSampleIn, ringPlaceIn, keptIn, markIn, armedIn, previousIn, feederFrom, markedNumber, markNumber, waitsNumber, pushedNumbers}
+use Rattle.feeder_numbers.specs.Numbers.{waitsAt, knownAt, preIn, knownIn, previousSampleIn, ringPlaceIn, keptIn, armedIn, previousIn, feederFrom, waitsNumber, pushedNumbers}
 use Rattle.rules.specs.Push.{leftOf}
 use Rattle.feeder_lists.proofs.Left.{left-is}
 use Rattle.feeder_wait.specs.Wait.{Waiting, masksOf, fireOf, CopyRoom, FewRoom, FewWent, Untouched, FewAfter, waitedOf, ShortWent, ShortAfter}
@@ -109,9 +109,9 @@ module _ (r : List ℕ) (lent : Lent) (g b : List ℕ) (w : Waiting r lent (leng
   free = sound-recorder c lent (length g) sound
 
   -- ---- the numbers that it leaves as they are
-  same-2 : sets r lenAt (c .store .len ∷ markedNumber (c .store .mark) ∷ markNumber (c .store .mark) ∷ []) ≡ r
+  same-2 : sets r lenAt (c .store .len ∷ markFlag (c .store .mark) ∷ markPlace (c .store .mark) ∷ []) ≡ r
   same-2 =
-      ap (λ (st : Store). sets r lenAt (st .len ∷ markedNumber (st .mark) ∷ markNumber (st .mark) ∷ [])) store-is
+      ap (λ (st : Store). sets r lenAt (st .len ∷ markFlag (st .mark) ∷ markPlace (st .mark) ∷ [])) store-is
       ∙ (λ i. sets r lenAt (sym (w .len) i ∷ sym (w .unmarked) i ∷ sym (w .mark) i ∷ []))
       ∙ ap (λ (x : List ℕ). set (set x markedAt (markedIn r)) markAt (markPlaceIn r)) (set-getD r lenAt 0)
       ∙ ap (λ (x : List ℕ). set x markAt (markPlaceIn r)) (set-getD r markedAt 0)
@@ -145,7 +145,7 @@ module _ (r : List ℕ) (lent : Lent) (g b : List ℕ) (w : Waiting r lent (leng
     numbers : new ≡ pushedNumbers (waitedOf r b) r
     numbers =
         d .numbers-are
-        ∙ (λ i. sets r knownAt (markedNumber (previous i) ∷ markNumber (previous i) ∷ place i ∷ kept i ∷ []))
+        ∙ (λ i. sets r knownAt (markFlag (previous i) ∷ markPlace (previous i) ∷ place i ∷ kept i ∷ []))
         ∙ ap (λ (x : List ℕ). put x) (sym (ap (λ (x : List ℕ). sets x waitsAt (waitsNumber (c .armed) ∷ [])) same-2 ∙ same-7))
       where
         previous : some (sampleOf u b (n - 1)) ≡ rule.lastOf (c .previous) (samplesOf u b)
@@ -160,7 +160,7 @@ module _ (r : List ℕ) (lent : Lent) (g b : List ℕ) (w : Waiting r lent (leng
         put : List ℕ → List ℕ
         put x =
             sets x knownAt
-            (markedNumber (rule.lastOf (c .previous) (samplesOf u b)) ∷ markNumber (rule.lastOf (c .previous) (samplesOf u b)) ∷ placeAfter (preIn r) (ringPlaceIn r) (length (samplesOf u b)) ∷ min (preIn r) (keptIn r + length (samplesOf u b)) ∷ [])
+            (markFlag (rule.lastOf (c .previous) (samplesOf u b)) ∷ markPlace (rule.lastOf (c .previous) (samplesOf u b)) ∷ placeAfter (preIn r) (ringPlaceIn r) (length (samplesOf u b)) ∷ min (preIn r) (keptIn r + length (samplesOf u b)) ∷ [])
 
     went : ShortWent r lent g b new g′
     went = record { left-is = left; numbers-are = numbers }

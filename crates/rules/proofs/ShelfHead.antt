@@ -11,9 +11,9 @@ use lib.Seq.{take-at, drop-at, drop-cons, drop-drop, drop-append-le, length-take
 use borrow.Author.Tests.{ltb-false, le-ltb, leb-true, le-leb, eqb-true, eq-eqb, ne-eqb, not-true}
 use Rattle.rules.specs.Sample.{UnitSize, little}
 use Rattle.rules.specs.SampleBytes.{sampleBytes, Bytes}
-use Rattle.rules.specs.Refusal.{mostSamples, unitWrong, markWrong}
+use Rattle.rules.specs.Refusal.{mostSamples, markFlag, markPlace, unitWrong, markWrong}
 use Rattle.rules.specs.Block.{blockSize, payloadAt, payloadMost, zeros, blockOf, sameBytes, goodBlock}
-use Rattle.rules.specs.Shelf.{Heading, markFlag, markPlace, headSize, headBytes, flagIn, headingIn, headingWrong, markBytesRight, headTest}
+use Rattle.rules.specs.Shelf.{Heading, headSize, headBytes, flagIn, headingIn, headingWrong, markBytesRight, headTest}
 use Rattle.rules.proofs.Sample.{little-same}
 use Rattle.rules.proofs.SampleBytes.{sample-bytes-length, little-back, bytes-again, bytes-more, bytes-append, sample-are}
 use Rattle.rules.proofs.ShelfBlocks.{drop-take}
@@ -45,7 +45,7 @@ pub head-length : (h : Heading) → length (headBytes h) ≡ headSize
 unfolding headBytes
 head-length h = ap (λ (n : ℕ). suc (suc n)) (length-append (sampleBytes 8 (h .len)) (sampleBytes 8 (markPlace (h .mark))) ∙ ap₂ _+_ (sample-bytes-length 8 (h .len)) (sample-bytes-length 8 (markPlace (h .mark))))
 
-flag-small : (m : Option ℕ) → markFlag m < 256
+pub flag-small : (m : Option ℕ) → markFlag m < 256
 flag-small none = omega arith
 flag-small (some k) = omega arith
 

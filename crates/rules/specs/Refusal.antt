@@ -24,6 +24,15 @@ pub record Store : Type 0 where
 abbrev pub mostSamples : ℕ
 mostSamples = 67108864
 
+-- a mark as two numbers: "1 if there is a mark else 0" (02, CR 7), and its place, 0 where there is none; a previous sample too
+abbrev pub markFlag : Option ℕ → ℕ
+markFlag none = 0
+markFlag (some k) = 1
+
+abbrev pub markPlace : Option ℕ → ℕ
+markPlace none = 0
+markPlace (some k) = k
+
 -- the lengths of the lent slices
 pub record Lent : Type 0 where
   pub samples : ℕ

@@ -8,7 +8,7 @@ use lib.Dec.{ltb, leb, eqb}
 use lib.ListN.{length, getD, take, drop}
 use Rattle.rules.specs.Sample.{little}
 use Rattle.rules.specs.SampleBytes.{sampleBytes, Bytes}
-use Rattle.rules.specs.Refusal.{Store, mostSamples, unitWrong, markWrong, storeWrong, samplesNeed}
+use Rattle.rules.specs.Refusal.{Store, mostSamples, markFlag, markPlace, unitWrong, markWrong, storeWrong, samplesNeed}
 use Rattle.rules.specs.Block.{blockSize, payloadAt, payloadMost, zeros, blockOf, sameBytes, field, goodBlock}
 
 -- ---- what is filed
@@ -31,16 +31,6 @@ abbrev pub filedOf : Store → List ℕ → Filed
 filedOf st samples = record { heading = headingOf st; bytes = take (st .len * st .unit) samples }
 
 -- ---- the file
--- "1 if there is a mark else 0"
-abbrev pub markFlag : Option ℕ → ℕ
-markFlag none = 0
-markFlag (some k) = 1
-
--- "0 if none"
-abbrev pub markPlace : Option ℕ → ℕ
-markPlace none = 0
-markPlace (some k) = k
-
 -- "Block 0 holds 18 bytes: unit, 1 if there is a mark else 0, len in 8 bytes, mark in 8 (0 if none)."
 abbrev pub headSize : ℕ
 headSize = 18

@@ -11,6 +11,8 @@ use lib.ListN.{length, getD, set, take, drop, length-append, length-drop, drop-o
 use lib.Seq.{take-at, getD-take, getD-drop}
 use borrow.Author.Tests.{leb-true, le-leb, lt-leb, not-true, not-false}
 use Rattle.rules.specs.Sample.{little}
+use Rattle.capture.specs.declared.Mark.the-variants.{Absent, At}
+use Rattle.capture.specs.Record.{markOf, markIn}
 use Rattle.rules.specs.SampleBytes.{sampleBytes}
 use Rattle.rules.specs.Block.{blockSize, payloadAt, field, goodBlock}
 use Rattle.rules.specs.Shelf.{Heading, headSize, flagIn, headingIn, headingWrong, markBytesRight, headTest}
@@ -94,6 +96,14 @@ number-at file a = little-same 8 (field a (a + 8) file) file 0 a (λ i h. stands
     stands i h = ap₂ (λ (n k : ℕ). getD (take n (drop a file)) k 0) eight (none i) ∙ getD-take 8 (drop a file) i 0 h ∙ getD-drop a file i 0
 
 -- ---- what block 0 says
+-- a mark by its two numbers
+pub mark-read : (flag place : ℕ) → markOf (markIn flag place) ≡ cond (eqb flag 0) none (some place)
+mark-read flag place = go (eqb flag 0)
+  where
+    go : (b : Bool) → markOf (cond b Absent (At place)) ≡ cond b none (some place)
+    go true = refl
+    go false = refl
+
 pub said : (file : List ℕ) (unit len flag place : ℕ) (mark : Option ℕ)
     → unit ≡ getD file payloadAt 0 → len ≡ little 8 file 14 → flag ≡ flagIn file → place ≡ little 8 file 22 → mark ≡ cond (eqb flag 0) none (some place)
     → _≡_ {A = Heading} (record { unit = unit; mark = mark; len = len }) (headingIn file)

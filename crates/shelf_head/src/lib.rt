@@ -1,6 +1,9 @@
 // Block 0 of a shelf file: what it says of a capture, written and read, and how long the file is. 02: CR 7.
 use capture::Capture;
 use capture::Mark;
+use capture::mark_flag;
+use capture::mark_in;
+use capture::mark_place;
 use capture::mark_wrong;
 use capture::record_wrong;
 use capture::unit_wrong;
@@ -12,18 +15,16 @@ use shelf_block::is_at;
 use shelf_block::put_at;
 use shelf_block::put_block;
 ghost use mathlib.Core.Path.{_≡_};
-ghost use mathlib.Core.Bool.{Bool, cond};
+ghost use mathlib.Core.Bool.{Bool};
 ghost use mathlib.Core.List.{_∷_, _++_};
-ghost use mathlib.Core.Option.{none, some};
 ghost use Prim.Native.Nat.{_+_, _*_, _^_, _≤_, _<_};
-ghost use lib.Dec.{eqb};
 ghost use lib.ListN.{length};
 ghost use Rattle.rules.specs.Sample.{little};
 ghost use Rattle.rules.specs.SampleBytes.{sampleBytes};
 ghost use Rattle.rules.specs.Block.{blockSize, blockOf};
-ghost use Rattle.rules.specs.Shelf.{headingOf, markFlag, markPlace, headSize, headBytes, blocksFor, headingIn, headingWrong, markBytesRight, headTest};
+ghost use Rattle.rules.specs.Shelf.{headingOf, headSize, headBytes, blocksFor, headingIn, headingWrong, markBytesRight, headTest};
 ghost use Rattle.rules.specs.ShelfCalls.{lengthAnswer, saysAnswer};
-ghost use Rattle.capture.specs.Record.{markOf, storeOf};
+ghost use Rattle.capture.specs.Record.{storeOf};
 ghost use Rattle.shelf_head.specs.Head.{headingAs, lengthOf, saidOf};
 
 // What block 0 says of a capture.
@@ -76,24 +77,6 @@ pub fn file_len(c: Capture) -> FileLength
     FileLength::Bytes(file_size(c.len * c.unitsize))
 }
 
-fn mark_flag(m: Mark) -> u8
-    ensures { λ r. ⌜ r ≡ markFlag (markOf m) ⌝ }
-{
-    match m {
-        Mark::Absent => 0,
-        Mark::At(_) => 1,
-    }
-}
-
-fn mark_place(m: Mark) -> usize
-    ensures { λ r. ⌜ r ≡ markPlace (markOf m) ⌝ }
-{
-    match m {
-        Mark::Absent => 0,
-        Mark::At(k) => k,
-    }
-}
-
 // The eighteen bytes that block 0 holds.
 fn put_numbers(head: &mut [u8], unit: u8, flag: u8, len: usize, place: usize)
     requires { ⌜ length (now head) ≡ headSize ⌝ }
@@ -115,7 +98,7 @@ pub fn put_head(block: &mut [u8], h: Heading)
     put_numbers(
         &mut head,
         h.unitsize as u8,
-        mark_flag(mark),
+        mark_flag(mark) as u8,
         h.len,
         mark_place(mark),
     );
@@ -142,16 +125,6 @@ fn number_in(part: &[u8]) -> usize
     value
 }
 
-// The mark that a flag and a place say.
-fn mark_in(flag: u8, place: usize) -> Mark
-    ensures { λ r. ⌜ markOf r ≡ cond (eqb flag 0) none (some place) ⌝ }
-{
-    if flag == 0 {
-        return Mark::Absent;
-    }
-    Mark::At(place)
-}
-
 // What block 0 says, whatever it holds.
 pub fn heading_in(file: &[u8]) -> Heading
     requires { ⌜ blockSize ≤ length (now file) ⌝ }
@@ -160,7 +133,7 @@ pub fn heading_in(file: &[u8]) -> Heading
     Heading {
         unitsize: wide(file[12]),
         len: number_in(&file[14..22]),
-        trigger: mark_in(file[13], number_in(&file[22..30])),
+        trigger: mark_in(wide(file[13]), number_in(&file[22..30])),
     }
 }
 

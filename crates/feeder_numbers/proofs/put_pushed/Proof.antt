@@ -8,8 +8,8 @@ use Rattle.feeder_numbers.proofs.put_pushed.Tie as tie
 element-write-numbers : tie.Need-element-write-numbers
 element-write-numbers c = search needs
 
-marked-requires : tie.Need-marked-requires
-marked-requires c κs = search needs
+mark-flag-requires : tie.Need-mark-flag-requires
+mark-flag-requires c κs = search needs
 
 element-write-numbers-2 : tie.Need-element-write-numbers-2
 element-write-numbers-2 c = search needs
@@ -47,14 +47,14 @@ element-write-numbers-8 c = search needs
 returns : tie.Need-returns
 returns c =
     let a = c .before .before .before .before .before .before .args in
-    written (a .f) (now (a .numbers)) (c .before .before .before .before .marked .ensures) (c .before .before .before .mark-place .ensures) (c .before .before .waits .ensures) (c .before .known .ensures) (c .sample-of .ensures)
+    written (a .f) (now (a .numbers)) (c .before .before .before .before .mark-flag .ensures) (c .before .before .before .mark-place .ensures) (c .before .before .waits .ensures) (c .before .known .ensures) (c .sample-of .ensures)
 
 pub put-pushed-spec : {M : Type 1} → statement M
 put-pushed-spec =
     tie.close
     (tie.spec
     element-write-numbers
-    marked-requires
+    mark-flag-requires
     element-write-numbers-2
     mark-place-requires
     element-write-numbers-3

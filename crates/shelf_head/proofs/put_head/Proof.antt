@@ -2,10 +2,13 @@
 use Prim.Native.Nat.{ℕ}
 use mathlib.Core.Path.{ap, ap₂, _∙_}
 use mathlib.Core.List.{_∷_, _++_}
+use native.Mathlib.Omega.{arith}
 use borrow.Author.Needs.{needs}
 use Rattle.rules.specs.SampleBytes.{sampleBytes}
 use Rattle.rules.specs.Block.{blockOf}
 use Rattle.rules.specs.Shelf.{headBytes}
+use Rattle.rules.proofs.ShelfHead.{flag-small}
+use Rattle.capture.specs.Record.{markOf}
 use Rattle.shelf_head.proofs.put_head.Statement.{statement}
 use Rattle.shelf_head.proofs.put_head.Tie as tie
 
@@ -17,6 +20,9 @@ cast-put-numbers c = search needs
 
 mark-flag-requires : tie.Need-mark-flag-requires
 mark-flag-requires c κs = search needs
+
+cast-put-numbers-2 : tie.Need-cast-put-numbers-2
+cast-put-numbers-2 c = record { fits = omega (arith, c .mark-flag .ensures, flag-small (markOf (c .before .before .before .before .args .h .trigger))) }
 
 mark-place-requires : tie.Need-mark-place-requires
 mark-place-requires c κs = search needs
@@ -53,6 +59,7 @@ put-head-spec =
     slice-aggregate-put-numbers
     cast-put-numbers
     mark-flag-requires
+    cast-put-numbers-2
     mark-place-requires
     put-numbers-requires
     slice-aggregate-put-block

@@ -1,7 +1,7 @@
--- `feeder_numbers::mark_in` meets its contract. Assumes nothing.
+-- `capture::mark_in` meets its contract. Assumes nothing.
 use borrow.Author.Tests.{eq-eqb, ne-eqb}
-use Rattle.feeder_numbers.proofs.mark_in.Statement.{statement}
-use Rattle.feeder_numbers.proofs.mark_in.Tie as tie
+use Rattle.capture.proofs.mark_in.Statement.{statement}
+use Rattle.capture.proofs.mark_in.Tie as tie
 
 returns : tie.Need-returns
 returns c = simp (eq-eqb _ _ (c .if1 .taken))
