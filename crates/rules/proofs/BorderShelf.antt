@@ -24,7 +24,7 @@ unfolding blockOf bodyOf weigh sampleBytes
 block = (refl, refl)
 
 -- ---- files
-abbrev filed : ℕ → Option ℕ → ℕ → List ℕ → Filed
+abbrev pub filed : ℕ → Option ℕ → ℕ → List ℕ → Filed
 filed unit mark len bytes = record { heading = record { unit = unit; mark = mark; len = len }; bytes = bytes }
 
 -- "500 each, the last 1 to 500": an empty capture has block 0 alone
@@ -52,10 +52,10 @@ unfolding fileTest headTest headingIn goodBlocks goodBlock sameBytes fileOf bloc
 accepted = (refl, refl, refl)
 
 -- the file of two samples, a byte of it changed and the checks made right again
-abbrev two : List ℕ
+abbrev pub two : List ℕ
 two = fileOf (filed 1 none 2 (0 ∷ 0 ∷ []))
 
-abbrev sealed : List ℕ → List ℕ
+abbrev pub sealed : List ℕ → List ℕ
 sealed b = sampleBytes 2 (checkOf (drop 2 b)) ++ drop 2 b
 
 abbrev changed : ℕ → ℕ → Bool
@@ -100,7 +100,7 @@ says = (refl, refl, refl, refl)
 abbrev small : ℕ → Store
 small capacity = record { unit = 1; capacity = capacity; len = 2; mark = none }
 
-abbrev enough : ℕ → Lent
+abbrev pub enough : ℕ → Lent
 enough samples = record { samples = samples; level = λ l. 5 }
 
 -- "15 an output too short, after 2"

@@ -35,7 +35,11 @@ pub mod BorderRows
 pub mod BorderStart
 pub mod BorderMill
 pub mod BorderEncoder
+pub mod Stretches
+pub mod Salvage
+pub mod SalvageRead
 pub mod BorderShelf
+pub mod BorderSalvage
 pub mod BorderNode
 pub mod BorderWalk
 pub mod BorderBurst

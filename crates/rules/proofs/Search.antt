@@ -1,9 +1,9 @@
 -- Next is the smallest changed place after a place, previous the largest up to it, and each is none exactly when there is none.
 use Prim.Native.Nat.{ℕ, zero, suc, _+_, _-_, _≤_, _<_, min}
-use mathlib.Core.Path.{_≡_, refl, sym, ap, ap₂, _∙_, subst, subst⁻¹}
-use mathlib.Core.Bool.{Bool, true, false, cond, false≢true}
+use mathlib.Core.Path.{_≡_, refl, sym, ap, _∙_}
+use mathlib.Core.Bool.{Bool, true, false, cond}
 use mathlib.Core.Logic.{_↔_}
-use mathlib.Core.Option.{Option, none, some}
+use mathlib.Core.Option.{none, some}
 use native.Mathlib.Nat.{not-suc-le-zero, zero-lt-suc, add-zero, zero-add, suc-add}
 use native.Mathlib.Omega.{arith}
 use Rattle.rules.specs.Search.{changed, seek, higher, lower, next, previous}

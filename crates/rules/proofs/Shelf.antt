@@ -3,7 +3,7 @@ use mathlib.Core.Path.{_≡_, sym, ap, ap₂, _∙_, subst, subst⁻¹}
 use mathlib.Core.Bool.{true, false, _&&_}
 use mathlib.Core.List.{List, _++_}
 use mathlib.Core.Logic.{_↔_}
-use Prim.Native.Nat.{ℕ, zero, suc, _+_, _-_, _*_, _/_, _%_, _≤_, _<_, max}
+use Prim.Native.Nat.{ℕ, zero, suc, _+_, _*_, _/_, _%_, _≤_, _<_, max}
 use native.Mathlib.Nat.{div-add-mod', mod-lt, mul-le-mul-right, le-trans}
 use native.Mathlib.Omega.{arith}
 use lib.Dec.{eqb}
@@ -13,7 +13,7 @@ use borrow.Author.Tests.{eqb-true, eq-eqb, le-ltb, ne-eqb}
 use Rattle.rules.specs.SampleBytes.{Bytes}
 use Rattle.rules.specs.Refusal.{Store, mostSamples, storeWrong, samplesNeed}
 use Rattle.rules.specs.Block.{blockSize, zeros, blockOf}
-use Rattle.rules.specs.Shelf.{Heading, Filed, headingOf, filedOf, headBytes, blocksFor, blocksOf, fileOf, bytesFor, fileLen, HasFile, headingIn, payloads, bytesIn, filedIn, headTest, goodBlocks, fileTest}
+use Rattle.rules.specs.Shelf.{Heading, Filed, headingOf, filedOf, headBytes, blocksFor, blocksOf, fileOf, bytesFor, fileLen, HasFile, Begins, headingIn, payloads, bytesIn, filedIn, headTest, goodBlocks, fileTest}
 use Rattle.rules.specs.ShelfCalls.{storeIn}
 use Rattle.rules.proofs.SampleBytes.{bytes-append, take-are, drop-are}
 use Rattle.rules.proofs.Refusal.{neither, unit-right, ranged, mark-right}
@@ -131,13 +131,20 @@ bytes-in-length f e =
     length-take-le (bytesFor (headingIn f)) (payloads (blocksFor (bytesFor (headingIn f))) (drop blockSize f))
     (omega (arith, payloads-length (blocksFor (bytesFor (headingIn f))) (drop blockSize f) (simp length-drop (omega (arith, e))), blocks-hold (bytesFor (headingIn f))))
 
+pub passed : (f : List ℕ) → fileTest f ≡ true → (headTest f ≡ true) × (length f ≡ fileLen (headingIn f)) × (goodBlocks (blocksFor (bytesFor (headingIn f))) 1 (bytesFor (headingIn f)) (drop blockSize f) ≡ true)
+unfolding fileTest
+passed f e =
+    let n = bytesFor (headingIn f) in
+    let t = both (headTest f) (eqb (length f) (fileLen (headingIn f)) && goodBlocks (blocksFor n) 1 n (drop blockSize f)) .0 e in
+    let u = both (eqb (length f) (fileLen (headingIn f))) (goodBlocks (blocksFor n) 1 n (drop blockSize f)) .0 (t .1) in
+    (t .0, eqb-true (length f) (fileLen (headingIn f)) (u .0), u .1)
+
 module _ (f : List ℕ) (b : Bytes f) (e : fileTest f ≡ true) where
   abbrev n : ℕ
   n = bytesFor (headingIn f)
 
   told : (headTest f ≡ true) × (length f ≡ fileLen (headingIn f)) × (goodBlocks (blocksFor n) 1 n (drop blockSize f) ≡ true)
-  unfolding fileTest
-  told = let t = both (headTest f) (eqb (length f) (fileLen (headingIn f)) && goodBlocks (blocksFor n) 1 n (drop blockSize f)) .0 e in let u = both _ _ .0 (t .1) in (t .0, eqb-true _ _ (u .0), u .1)
+  told = passed f e
 
   said : Says f
   said = head-says f b (told .0)
@@ -228,12 +235,6 @@ pub has-file : (f : List ℕ) → Bytes f → (fileTest f ≡ true) ↔ HasFile 
 has-file f b = (λ e. subst HasFile (file-again f b e) (filed-has (filedIn f) (holds-capture f b e)), λ h. subst (λ (l : List ℕ). fileTest l ≡ true) (h .file-is) (file-passes (capture-fileable h .filled)))
 
 -- and the test of block 0 passes exactly the 512 bytes that some capture's file begins with
-pub record Begins (f : List ℕ) : Type 0 where
-  pub file : List ℕ
-  pub has : HasFile file
-  pub room : blockSize ≤ length f
-  pub same : take blockSize file ≡ take blockSize f
-
 pub begins : (f : List ℕ) → Bytes f → (headTest f ≡ true) ↔ Begins f
 begins f b = (there, back)
   where

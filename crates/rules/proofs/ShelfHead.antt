@@ -159,6 +159,10 @@ mark-said flag v l e = go (eqb flag 0) refl
     go true f t = (eqb-true flag 0 f, same-is l (zeros 8) t ∙ sym (zeros-are 8))
     go false f t = (eqb-true flag 1 t, e)
 
+pub heading-headed : (f : List ℕ) → headTest f ≡ true → Headed (headingIn f)
+unfolding headTest
+heading-headed f e = headed (headingIn f) (not-true (headingWrong (headingIn f)) (four (leb blockSize (length f)) (goodBlock 0 headSize (take blockSize f)) (markBytesRight f) (not (headingWrong (headingIn f))) e .3))
+
 pub record Says (f : List ℕ) : Type 0 where
   pub room : blockSize ≤ length f
   pub heading : Headed (headingIn f)
@@ -168,7 +172,7 @@ pub head-says : (f : List ℕ) → Bytes f → headTest f ≡ true → Says f
 unfolding headTest headingIn headBytes
 head-says f b e = record {
   room = room;
-  heading = headed (headingIn f) (not-true _ (told .3));
+  heading = heading-headed f e;
   block = good-block 0 headSize (take blockSize f) (length-take-le blockSize f room) (omega arith) (told .1) ∙ ap (blockOf 0) eighteen;
 }
   where

@@ -22,4 +22,6 @@ pub mod Encoder
 pub mod Block
 pub mod Shelf
 pub mod ShelfCalls
+pub mod Stretches
+pub mod Salvage
 pub mod Mill

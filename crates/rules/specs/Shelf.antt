@@ -68,6 +68,13 @@ pub record HasFile (file : List ℕ) : Type 0 where
   pub bytes : Bytes samples
   pub file-is : fileOf (filedOf store samples) ≡ file
 
+-- some capture's file begins with these 512 bytes: the test of block 0 decides it (rules.proofs.Shelf.begins)
+pub record Begins (f : List ℕ) : Type 0 where
+  pub file : List ℕ
+  pub has : HasFile file
+  pub room : blockSize ≤ length f
+  pub same : take blockSize file ≡ take blockSize f
+
 -- ---- what a file says, whatever it holds
 -- the fields of block 0 stand from place 12 on
 abbrev pub flagIn : List ℕ → ℕ

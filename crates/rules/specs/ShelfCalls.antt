@@ -52,12 +52,16 @@ capacityWrong capacity = eqb capacity 0 || ltb mostSamples capacity
 abbrev pub storeIn : ℕ → Heading → Store
 storeIn capacity h = record { unit = h .unit; capacity = capacity; len = h .len; mark = h .mark }
 
--- "15, in place of 2, covers memory short for it and a len above it"; "with 16 a file that no capture has, ahead of 15"
+-- "15, in place of 2, covers memory short for it and a len above it"
+abbrev pub storeShort : ℕ → Lent → Heading → Bool
+storeShort capacity lent h = ltb capacity (h .len) || lentShort (storeIn capacity h) lent
+
+-- "with 16 a file that no capture has, ahead of 15"
 abbrev pub readRefusal : ℕ → Lent → List ℕ → ℕ
 readRefusal capacity lent file = firstOf (
     record { number = 1; holds = capacityWrong capacity }
     ∷ record { number = 16; holds = not (fileTest file) }
-    ∷ record { number = 15; holds = ltb capacity (headingIn file .len) || lentShort (storeIn capacity (headingIn file)) lent }
+    ∷ record { number = 15; holds = storeShort capacity lent (headingIn file) }
     ∷ [])
 
 abbrev pub readAnswer : ℕ → Lent → List ℕ → Answer Store

@@ -1,31 +1,25 @@
 -- A file is tested, and then the rows of a reading, in order.
-use mathlib.Core.Path.{_≡_, sym, ap₂, _∙_}
-use mathlib.Core.Bool.{Bool, true, false, cond, not, _&&_, _||_}
+use mathlib.Core.Path.{_≡_, sym, ap, ap₂, _∙_}
+use mathlib.Core.Bool.{Bool, true, false, cond, not, _||_}
 use mathlib.Core.List.{List}
 use Prim.Native.Nat.{ℕ, _^_, _≤_, _<_}
 use native.Mathlib.Nat.{mul-le-mul}
 use native.Mathlib.Omega.{arith}
-use lib.Dec.{ltb, leb, eqb}
-use lib.ListN.{length, take, drop}
-use borrow.Author.Tests.{eqb-true, eqb-false, eq-eqb, ne-eqb, lt-ltb, le-ltb, ltb-false, not-true, not-false}
-use Rattle.rules.specs.Block.{blockSize, goodBlock}
-use Rattle.rules.specs.Refusal.{Lent, mostSamples, lentShort}
-use Rattle.rules.specs.Shelf.{Heading, headSize, blocksFor, bytesFor, fileLen, headingIn, headingWrong, markBytesRight, headTest, goodBlocks, fileTest}
-use Rattle.rules.specs.ShelfCalls.{capacityWrong, storeIn, readRefusal}
+use lib.Dec.{ltb, eqb}
+use lib.ListN.{length, drop}
+use borrow.Author.Tests.{eqb-false, eq-eqb, ne-eqb, ltb-false, not-true, not-false}
+use Rattle.rules.specs.Block.{blockSize}
+use Rattle.rules.specs.Refusal.{Store, Lent, mostSamples, lentShort}
+use Rattle.rules.specs.Shelf.{Heading, blocksFor, bytesFor, fileLen, headingIn, headTest, goodBlocks, fileTest}
+use Rattle.rules.specs.ShelfCalls.{capacityWrong, storeIn, storeShort, readRefusal}
 use Rattle.rules.proofs.Refusal.{row-passed, neither}
-use Rattle.rules.proofs.Block.{both, four}
-use Rattle.rules.proofs.ShelfHead.{Headed, headed}
+use Rattle.rules.proofs.ShelfHead.{heading-headed}
 
 -- ---- the tests of a file
 module _ (file : List ℕ) where
-  -- a heading that passed
-  pub heading-headed : headTest file ≡ true → Headed (headingIn file)
-  unfolding headTest
-  heading-headed e = headed (headingIn file) (not-true (headingWrong (headingIn file)) (four (leb blockSize (length file)) (goodBlock 0 headSize (take blockSize file)) (markBytesRight file) (not (headingWrong (headingIn file))) e .3))
-
   pub bytes-few : headTest file ≡ true → bytesFor (headingIn file) < 2 ^ 32
   bytes-few e =
-      let h = heading-headed e in
+      let h = heading-headed file e in
       omega (arith, mul-le-mul {n₁ = headingIn file .len} {m₁ = headingIn file .unit} {n₂ = mostSamples} {m₂ = 2} (h .len-most) (h .unit-size .most))
 
   pub head-fails : {x : Bool} → x ≡ headTest file → not x ≡ true → false ≡ fileTest file
@@ -41,19 +35,13 @@ module _ (file : List ℕ) where
     unfolding fileTest
     by-blocks s {r} {n} {l} n-is l-is t = rw (sym e ∙ not-false x f, eq-eqb _ _ s) (t ∙ ap₂ (λ (m : ℕ) (b : List ℕ). goodBlocks (blocksFor m) 1 m b) n-is l-is)
 
-  -- a file that passed
-  pub passed-head : fileTest file ≡ true → headTest file ≡ true
-  unfolding fileTest
-  passed-head e = both _ _ .0 e .0
-
-  pub passed-length : fileTest file ≡ true → length file ≡ fileLen (headingIn file)
-  unfolding fileTest
-  passed-length e =
-      eqb-true (length file) (fileLen (headingIn file))
-      (both (eqb (length file) (fileLen (headingIn file))) (goodBlocks (blocksFor (bytesFor (headingIn file))) 1 (bytesFor (headingIn file)) (drop blockSize file)) .0 (both (headTest file) (eqb (length file) (fileLen (headingIn file)) && goodBlocks (blocksFor (bytesFor (headingIn file))) 1 (bytesFor (headingIn file)) (drop blockSize file)) .0 e .1) .0)
+-- ---- the new store
+-- what the record's own numbers say of it
+pub short-is : (capacity : ℕ) (lent : Lent) (h : Heading) {st : Store} → st ≡ storeIn capacity h → {z : Bool} → z ≡ (ltb (st .capacity) (st .len) || lentShort st lent) → z ≡ storeShort capacity lent h
+short-is capacity lent h e m = m ∙ ap (λ (x : Store). ltb (x .capacity) (x .len) || lentShort x lent) e
 
 -- ---- the rows of a reading
-capacity-right : (capacity : ℕ) → capacityWrong capacity ≡ false → (1 ≤ capacity) × (capacity ≤ mostSamples)
+pub capacity-right : (capacity : ℕ) → capacityWrong capacity ≡ false → (1 ≤ capacity) × (capacity ≤ mostSamples)
 capacity-right capacity e =
     let t = neither (eqb capacity 0) (ltb mostSamples capacity) .0 e in
     (omega (arith, eqb-false capacity 0 (t .0)), ltb-false mostSamples capacity (t .1))
@@ -73,15 +61,12 @@ module _ (capacity : ℕ) (lent : Lent) (file : List ℕ) where
     row-16 {y} g k = rw (sym e ∙ f, sym g ∙ not-true y k)
 
     module _ {y : Bool} (g : y ≡ fileTest file) (k : not y ≡ false) where
-      pub row-15 : capacity < h .len → 15 ≡ readRefusal capacity lent file
-      row-15 l = rw (sym e ∙ f, sym g ∙ not-false y k, lt-ltb capacity (h .len) l)
-
-      module _ (l : h .len ≤ capacity) {z : Bool} (m : z ≡ lentShort (storeIn capacity h) lent) where
-        pub row-15-memory : z ≡ true → 15 ≡ readRefusal capacity lent file
-        row-15-memory t = rw (sym e ∙ f, sym g ∙ not-false y k, le-ltb capacity (h .len) l, sym m ∙ t)
+      module _ {z : Bool} (m : z ≡ storeShort capacity lent h) where
+        pub row-15 : z ≡ true → 15 ≡ readRefusal capacity lent file
+        row-15 t = rw (sym e ∙ f, sym g ∙ not-false y k, sym m ∙ t)
 
         pub no-row : z ≡ false → 0 ≡ readRefusal capacity lent file
-        no-row t = rw (sym e ∙ f, sym g ∙ not-false y k, le-ltb capacity (h .len) l, sym m ∙ t)
+        no-row t = rw (sym e ∙ f, sym g ∙ not-false y k, sym m ∙ t)
 
   -- what no row refuses
   pub record LetIn : Type 0 where
@@ -93,9 +78,9 @@ module _ (capacity : ℕ) (lent : Lent) (file : List ℕ) where
 
   pub let-in : readRefusal capacity lent file ≡ 0 → LetIn
   let-in e =
-      let t1 = row-passed 1 (cond (not (fileTest file)) 16 (cond (ltb capacity (h .len) || lentShort (storeIn capacity h) lent) 15 0)) (capacityWrong capacity) (omega arith) .0 e in
-      let t2 = row-passed 16 (cond (ltb capacity (h .len) || lentShort (storeIn capacity h) lent) 15 0) (not (fileTest file)) (omega arith) .0 (t1 .1) in
-      let t3 = row-passed 15 0 (ltb capacity (h .len) || lentShort (storeIn capacity h) lent) (omega arith) .0 (t2 .1) in
+      let t1 = row-passed 1 (cond (not (fileTest file)) 16 (cond (storeShort capacity lent h) 15 0)) (capacityWrong capacity) (omega arith) .0 e in
+      let t2 = row-passed 16 (cond (storeShort capacity lent h) 15 0) (not (fileTest file)) (omega arith) .0 (t1 .1) in
+      let t3 = row-passed 15 0 (storeShort capacity lent h) (omega arith) .0 (t2 .1) in
       let t4 = neither (ltb capacity (h .len)) (lentShort (storeIn capacity h) lent) .0 (t3 .0) in
       let c = capacity-right capacity (t1 .0) in
       record { capacity-least = c .0; capacity-most = c .1; passed = not-false _ (t2 .0); len-most = ltb-false capacity (h .len) (t4 .0); enough = t4 .1 }

@@ -17,15 +17,17 @@ use shelf_head::heading_in;
 use store::copy_at;
 use store::rebuild_levels;
 ghost use mathlib.Core.Path.{_≡_};
-ghost use mathlib.Core.Bool.{Bool};
+ghost use mathlib.Core.Bool.{_||_};
 ghost use Prim.Native.Nat.{_*_, _≤_};
+ghost use lib.Dec.{ltb};
 ghost use lib.ListN.{length, take};
 ghost use lib.Seq.{paste};
+ghost use Rattle.rules.specs.Refusal.{lentShort};
 ghost use Rattle.rules.specs.Shelf.{blocksFor, payloads, goodBlocks, fileTest};
 ghost use Rattle.rules.specs.ShelfCalls.{capacityWrong, storeIn, readRefusal};
 ghost use Rattle.store.specs.Stored.{Stored};
 ghost use Rattle.node.specs.Memory.{levelOf};
-ghost use Rattle.capture.specs.Record.{storeOf, lentOf};
+ghost use Rattle.capture.specs.Record.{Small, storeOf, lentOf};
 ghost use Rattle.shelf_head.specs.Head.{headingAs, BlocksRoom};
 ghost use Rattle.shelf_read.specs.Read.{TakeRoom, bytesBehind, Reads};
 
@@ -66,7 +68,7 @@ fn file_good(file: &[u8]) -> bool
 }
 
 // n bytes of samples go from the blocks to the start of sample memory.
-fn gather(samples: &mut [u8], blocks: &[u8], n: usize)
+pub fn gather(samples: &mut [u8], blocks: &[u8], n: usize)
     requires { ⌜ BlocksRoom (length (now blocks)) n × (n ≤ length (now samples)) ⌝ }
     ensures { λ _. ⌜ now (samples .exit) ≡ paste (now (samples .entry)) 0 (take n (payloads (blocksFor n) (now (blocks .entry)))) n ⌝ }
 {
@@ -82,7 +84,7 @@ fn gather(samples: &mut [u8], blocks: &[u8], n: usize)
 }
 
 // No store has this capacity.
-fn capacity_wrong(capacity: usize) -> bool
+pub fn capacity_wrong(capacity: usize) -> bool
     ensures { λ r. ⌜ r ≡ capacityWrong capacity ⌝ }
 {
     if capacity == 0 {
@@ -92,7 +94,7 @@ fn capacity_wrong(capacity: usize) -> bool
 }
 
 // The record of a new store with what a file says.
-fn new_store(h: Heading, capacity: usize) -> Capture
+pub fn new_store(h: Heading, capacity: usize) -> Capture
     ensures { λ c. ⌜ storeOf c ≡ storeIn capacity (headingAs h) ⌝ }
 {
     let trigger = h.trigger;
@@ -102,6 +104,24 @@ fn new_store(h: Heading, capacity: usize) -> Capture
         len: h.len,
         trigger,
     }
+}
+
+// The new store does not hold its samples, or memory is short for it.
+pub fn store_short<'a>(
+    c: Capture,
+    samples: &[u8],
+    l1: &'a [Mask],
+    l2: &'a [Mask],
+    l3: &'a [Mask],
+    l4: &'a [Mask],
+) -> bool
+    requires { ⌜ Small c ⌝ }
+    ensures { λ r. ⌜ r ≡ (ltb (c .capacity) (c .len) || lentShort (storeOf c) (lentOf (now (samples .entry)) (levelOf (now (l1 .entry)) (now (l2 .entry)) (now (l3 .entry)) (now (l4 .entry))))) ⌝ }
+{
+    if c.capacity < c.len {
+        return true;
+    }
+    memory_short(c, samples, l1, l2, l3, l4)
 }
 
 // The number of the first row that refuses a reading, or 0. Nothing is written before this is settled.
@@ -123,10 +143,7 @@ fn read_refusal<'a>(
         return 16;
     }
     let c = new_store(heading_in(file), capacity);
-    if capacity < c.len {
-        return 15;
-    }
-    if memory_short(c, samples, l1, l2, l3, l4) {
+    if store_short(c, samples, l1, l2, l3, l4) {
         return 15;
     }
     0

@@ -6,10 +6,11 @@ use borrow.Author.Needs.{needs}
 use denote.Ref.{now}
 use Rattle.rules.specs.Shelf.{headingIn}
 use Rattle.rules.specs.ShelfCalls.{storeIn}
+use Rattle.rules.proofs.Shelf.{passed}
 use Rattle.node.specs.Memory.{levelOf}
 use Rattle.capture.specs.Record.{storeOf, lentOf}
 use Rattle.shelf_head.proofs.Head.{head-room}
-use Rattle.shelf_read.proofs.Tested.{LetIn, let-in, passed-head}
+use Rattle.shelf_read.proofs.Tested.{LetIn, let-in}
 use Rattle.shelf_read.proofs.Taken.{take-room, reads-refused, reads-done}
 use Rattle.shelf_read.proofs.read.Statement.{statement}
 use Rattle.shelf_read.proofs.read.Tie as tie
@@ -67,7 +68,7 @@ returns c =
     reads-refused (s f .args .capacity) (file f) (samples f) (levels f) (f .read-refusal .ensures) (c .if1 .taken)
 
 heading-in-requires : tie.Need-heading-in-requires
-heading-in-requires c κs = let f = c .before in head-room (file f) (passed-head (file f) (entered c .passed))
+heading-in-requires c κs = let f = c .before in head-room (file f) (passed (file f) (entered c .passed) .0)
 
 new-store-requires : tie.Need-new-store-requires
 new-store-requires c κs = search needs

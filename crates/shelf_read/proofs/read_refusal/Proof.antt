@@ -3,18 +3,19 @@ use Prim.Native.Nat.{ℕ, _≤_}
 use mathlib.Core.Path.{_≡_, sym, ap, _∙_, subst⁻¹}
 use mathlib.Core.Bool.{true}
 use mathlib.Core.List.{List}
-use native.Mathlib.Omega.{arith}
 use borrow.Author.Needs.{needs}
 use borrow.Author.Tests.{not-false}
 use denote.Ref.{now}
 use Rattle.rules.specs.Sample.{UnitSize}
-use Rattle.rules.specs.Refusal.{Store, Lent, mostSamples, lentShort}
+use Rattle.rules.specs.Refusal.{Store, Lent, mostSamples}
 use Rattle.rules.specs.Shelf.{headingIn, fileTest}
 use Rattle.rules.specs.ShelfCalls.{storeIn}
+use Rattle.rules.proofs.ShelfHead.{heading-headed}
+use Rattle.rules.proofs.Shelf.{passed}
 use Rattle.node.specs.Memory.{levelOf}
 use Rattle.capture.specs.Record.{storeOf, lentOf}
 use Rattle.shelf_head.proofs.Head.{head-room}
-use Rattle.shelf_read.proofs.Tested.{heading-headed, passed-head, capacity-most, row-1, row-16, row-15, row-15-memory, no-row}
+use Rattle.shelf_read.proofs.Tested.{capacity-most, short-is, row-1, row-16, row-15, no-row}
 use Rattle.shelf_read.proofs.read_refusal.Statement.{statement}
 use Rattle.shelf_read.proofs.read_refusal.Tie as tie
 
@@ -39,9 +40,6 @@ module _ (n : tie.After-new-store) where
   store-is : storeOf (n .new-store .result) ≡ storeIn (s first .args .capacity) (headingIn (file first))
   store-is = n .new-store .ensures ∙ ap (storeIn (s first .args .capacity)) (n .before .heading-in .ensures)
 
-  len-is : n .new-store .result .len ≡ headingIn (file first) .len
-  len-is = ap (λ (x : Store). x .len) store-is
-
   passes : fileTest (file first) ≡ true
   passes = sym (test .before .file-good .ensures) ∙ not-false _ (test .if2 .left)
 
@@ -60,42 +58,34 @@ returns-2 c =
     row-16 (s f .args .capacity) (lent f) (file f) (f .capacity-wrong .ensures) (c .before .before .if1 .left) (c .before .file-good .ensures) (c .if2 .taken)
 
 heading-in-requires : tie.Need-heading-in-requires
-heading-in-requires c κs = let f = c .before .before .before in head-room (file f) (passed-head (file f) (sym (c .before .file-good .ensures) ∙ not-false _ (c .if2 .left)))
+heading-in-requires c κs = let f = c .before .before .before in head-room (file f) (passed (file f) (sym (c .before .file-good .ensures) ∙ not-false _ (c .if2 .left)) .0)
 
 new-store-requires : tie.Need-new-store-requires
 new-store-requires c κs = search needs
+
+store-short-requires : tie.Need-store-short-requires
+store-short-requires c κs =
+    let f = first c in
+    record {
+      unit-size = subst⁻¹ (λ (x : Store). UnitSize (x .unit)) (store-is c) (heading-headed (file f) (passed (file f) (passes c) .0) .unit-size);
+      capacity = subst⁻¹ (λ (x : Store). x .capacity ≤ mostSamples) (store-is c) (capacity-most (s f .args .capacity) (lent f) (file f) (f .capacity-wrong .ensures) (test c .before .before .if1 .left));
+    }
 
 returns-3 : tie.Need-returns-3
 returns-3 c =
     let n = c .before .before in
     let t = test n in
     let f = first n in
-    row-15 (s f .args .capacity) (lent f) (file f) (f .capacity-wrong .ensures) (t .before .before .if1 .left) (t .before .file-good .ensures) (t .if2 .left) (omega (arith, c .if3 .taken, len-is n))
-
-memory-short-requires : tie.Need-memory-short-requires
-memory-short-requires c κs =
-    let n = c .before .before in
-    let f = first n in
-    record {
-      unit-size = subst⁻¹ (λ (x : Store). UnitSize (x .unit)) (store-is n) (heading-headed (file f) (passed-head (file f) (passes n)) .unit-size);
-      capacity = subst⁻¹ (λ (x : Store). x .capacity ≤ mostSamples) (store-is n) (capacity-most (s f .args .capacity) (lent f) (file f) (f .capacity-wrong .ensures) (test n .before .before .if1 .left));
-    }
+    row-15 (s f .args .capacity) (lent f) (file f) (f .capacity-wrong .ensures) (t .before .before .if1 .left) (t .before .file-good .ensures) (t .if2 .left)
+    (short-is (s f .args .capacity) (lent f) (headingIn (file f)) (store-is n) (c .before .store-short .ensures)) (c .if3 .taken)
 
 returns-4 : tie.Need-returns-4
 returns-4 c =
-    let n = c .before .before .before .before in
+    let n = c .before .before in
     let t = test n in
     let f = first n in
-    row-15-memory (s f .args .capacity) (lent f) (file f) (f .capacity-wrong .ensures) (t .before .before .if1 .left) (t .before .file-good .ensures) (t .if2 .left) (omega (arith, c .before .before .if3 .left, len-is n))
-    (c .before .memory-short .ensures ∙ ap (λ (x : Store). lentShort x (lent f)) (store-is n)) (c .if4 .taken)
-
-returns-5 : tie.Need-returns-5
-returns-5 c =
-    let n = c .before .before .before .before in
-    let t = test n in
-    let f = first n in
-    no-row (s f .args .capacity) (lent f) (file f) (f .capacity-wrong .ensures) (t .before .before .if1 .left) (t .before .file-good .ensures) (t .if2 .left) (omega (arith, c .before .before .if3 .left, len-is n))
-    (c .before .memory-short .ensures ∙ ap (λ (x : Store). lentShort x (lent f)) (store-is n)) (c .if4 .left)
+    no-row (s f .args .capacity) (lent f) (file f) (f .capacity-wrong .ensures) (t .before .before .if1 .left) (t .before .file-good .ensures) (t .if2 .left)
+    (short-is (s f .args .capacity) (lent f) (headingIn (file f)) (store-is n) (c .before .store-short .ensures)) (c .if3 .left)
 
 pub read-refusal-spec : {M : Type 1} → statement M
 read-refusal-spec =
@@ -107,7 +97,6 @@ read-refusal-spec =
     returns-2
     heading-in-requires
     new-store-requires
+    store-short-requires
     returns-3
-    memory-short-requires
-    returns-4
-    returns-5)
+    returns-4)

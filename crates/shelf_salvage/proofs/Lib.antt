@@ -1,0 +1,4 @@
+pub mod Gathered
+pub mod Blanking
+pub mod Filled
+pub mod Opening

@@ -1,0 +1,5 @@
+pub mod Told
+pub mod Surveying
+pub mod Blocks
+pub mod Known
+pub mod Enough
