@@ -56,13 +56,14 @@ enum lc_recorder {
 };
 
 /* Which is which behind an out pointer that takes several: the sizes of lc_needs, a node, the ends of lc_burst_at, the
- * counts of lc_encoder, the jumps of lc_mill_burst_at, and what lc_file_says says. The numbers of a node begin so in level
- * memory too. */
+ * counts of lc_encoder, the jumps of lc_mill_burst_at, what lc_file_says says, and the counts of lc_salvage. The numbers of a
+ * node begin so in level memory too. */
 enum lc_out {
     LC_SIZE_SAMPLES = 0, LC_SIZE_LEVEL_1 = 1, LC_SIZE_LEVEL_2 = 2, LC_SIZE_LEVEL_3 = 3, LC_SIZE_LEVEL_4 = 4,
     LC_NODE_FIRST = 0, LC_NODE_LAST = 1, LC_NODE_TOGGLES = 2, LC_BURST_FIRST = 0, LC_BURST_LAST = 1, LC_BURST_JUMPS_END = 2,
     LC_BURST_JUMPS_START = 3, LC_ENCODER_FORWARD = 0, LC_ENCODER_BACKWARD = 1, LC_ENCODER_SKIPPED = 2,
-    LC_MILL_JUMPS_END = 0, LC_MILL_JUMPS_START = 1, LC_SAID_UNIT = 0, LC_SAID_LEN = 1, LC_SAID_MARKED = 2, LC_SAID_MARK = 3
+    LC_MILL_JUMPS_END = 0, LC_MILL_JUMPS_START = 1, LC_SAID_UNIT = 0, LC_SAID_LEN = 1, LC_SAID_MARKED = 2, LC_SAID_MARK = 3,
+    LC_SALVAGED_STRETCHES = 0, LC_SALVAGED_REPLACED = 1
 };
 
 /* Lent memory in one value: the samples, the levels 1 to 4, and how many elements of each are lent, in lc_needs' order. */
@@ -192,6 +193,23 @@ uint32_t lc_write(const size_t record[5], LC_CONST_MEMORY, uint8_t *output, size
  * leaves. Refuses with 1 (the capacity); 16 where no capture has the file; and 15 where its len is above the capacity, or
  * lent memory is shorter than lc_needs says of the capacity and the file's unit. */
 uint32_t lc_read(size_t capacity, const uint8_t *file, size_t file_len, LC_MEMORY, size_t record[5]);
+
+/* Reads a file with bad blocks, as off a bad disk, into a new store of a capacity. A block is good where it is wholly there,
+ * its check holds, its number is its place in the file, and its count, the zeros at 8 to 11 and those behind its payload are
+ * as block 0 calls for. Samples in good blocks land at their own places; all others are unknown, and stored as 0. Blocks
+ * missing at the end are bad, a torn one too, and bytes after the last block that block 0 calls for are passed over.
+ *
+ * record becomes the new store's numbers, with the file's unit, len and mark, and the lent memory what lc_append of these
+ * samples to a store with nothing in it leaves. stretches becomes the list of unknown stretches, two numbers for each, its
+ * first place and its count of samples: they rise, and none touches the next; what the list holds behind them stays. counts
+ * becomes the number of stretches and that of samples replaced. A file that lc_read takes has no stretch, and both leave the
+ * same.
+ *
+ * Refuses with 1 (the capacity); 17 where no capture's file begins with the first 512 bytes, or file_len is below 512; and
+ * 15 as lc_read does, and where the list has fewer than two numbers for each stretch. One number for each block that block 0
+ * calls for, block 0 among them, is always enough. */
+uint32_t lc_salvage(size_t capacity, const uint8_t *file, size_t file_len, LC_MEMORY,
+                    size_t *stretches, size_t stretches_len, size_t record[5], size_t counts[2]);
 
 /* A mill's reader: the calls lc_mill_*, for whoever may see some lines only. Each takes a grant, a mask of lines, and tells
  * nothing of the others: to it, two captures of equal length, mark and granted lines look alike, refusals too, each with its

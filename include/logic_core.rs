@@ -49,6 +49,8 @@ pub mod out {
     pub const SAID_LEN: usize = 1;
     pub const SAID_MARKED: usize = 2;
     pub const SAID_MARK: usize = 3;
+    pub const SALVAGED_STRETCHES: usize = 0;
+    pub const SALVAGED_REPLACED: usize = 1;
 }
 
 exports! {
@@ -179,6 +181,12 @@ exports! {
         l1: *const u16, l1_len: usize, l2: *const u16, l2_len: usize,
         l3: *const u16, l3_len: usize, l4: *const u16, l4_len: usize, start: f64, spp: f64,
         width: usize, output: *mut u16, output_len: usize
+    ) -> u32;
+    fn lc_salvage(
+        capacity: usize, file: *const u8, file_len: usize, samples: *mut u8, samples_len: usize,
+        l1: *mut u16, l1_len: usize, l2: *mut u16, l2_len: usize, l3: *mut u16, l3_len: usize,
+        l4: *mut u16, l4_len: usize, stretches: *mut usize, stretches_len: usize,
+        record: *mut [usize; 5], counts: *mut [usize; 2]
     ) -> u32;
     fn lc_samples(
         record: *const [usize; 5], samples: *const u8, samples_len: usize,

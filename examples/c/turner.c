@@ -1,6 +1,6 @@
 /* Records the lines of a log turner through a trigger, searches and draws what was recorded, replays its encoder to see that
- * the log came home, writes its file and reads that again, and checks each answer by a plain scan. Prints the answers; exits
- * with 1 at the first that is wrong. */
+ * the log came home, writes its file and reads that again, damages it and salvages what is good, and checks each answer by a
+ * plain scan. Prints the answers; exits with 1 at the first that is wrong. */
 #include "logic_core.h"
 
 #include <inttypes.h>
@@ -245,6 +245,32 @@ int main(void) {
     printf("a capacity below len, and a changed byte: refused with %u and %u\n", (unsigned)small, (unsigned)damaged);
     must(small == 15 && damaged == 16 && again[LC_LEN] == len, "a file's refusals");
 
+    /* That file off a bad disk, which lost its end too: samples in good blocks are read, the others are 0, and the list says
+     * where these are. As many numbers as there are blocks are enough for it. */
+    const size_t torn = file_len - 100, blocks = file_len / 512;
+    size_t *list = lend(blocks * sizeof *list), found[2];
+    must(lc_salvage(room, file, torn, LC_LEND(r), list, blocks, again, found) == 0, "salvage");
+    printf("salvaged: %zu samples unknown, in %zu stretches", found[LC_SALVAGED_REPLACED], found[LC_SALVAGED_STRETCHES]);
+    for (size_t s = 0; s < found[LC_SALVAGED_STRETCHES]; s++)
+        printf(", %zu from %zu on", list[2 * s + 1], list[2 * s]);
+    printf("\n");
+    must(again[LC_LEN] == len && again[LC_MARK] == mark, "the salvaged length and mark");
+    size_t unknown = 0;
+    for (size_t i = 0, s = 0; i < len; i++) {
+        while (s < found[LC_SALVAGED_STRETCHES] && i >= list[2 * s] + list[2 * s + 1])
+            s++;
+        const int known = s == found[LC_SALVAGED_STRETCHES] || i < list[2 * s];
+        must(r.samples[i] == (known ? m.samples[i] : 0), "the salvaged samples");
+        unknown += !known;
+    }
+    must(unknown == found[LC_SALVAGED_REPLACED], "the samples replaced");
+    must(lc_whole(again, LC_LEND(r), &level, &number) == 0, "the levels of what was salvaged");
+    const uint32_t no_list = lc_salvage(room, file, torn, LC_LEND(r), list, 3, again, found);
+    file[0] ^= 1;
+    const uint32_t no_block_0 = lc_salvage(room, file, torn, LC_LEND(r), list, blocks, again, found);
+    printf("a list too short, and a damaged block 0: refused with %u and %u\n", (unsigned)no_list, (unsigned)no_block_0);
+    must(no_list == 15 && no_block_0 == 17 && found[LC_SALVAGED_REPLACED] == unknown, "a salvage's refusals");
+
     /* A refusal has a number, and changes nothing. */
     uint16_t value = 77;
     const uint32_t refused = lc_get(record, LC_LEND(m), len, &value);
@@ -255,5 +281,6 @@ int main(void) {
     give_back(r);
     free(ring);
     free(file);
+    free(list);
     return 0;
 }

@@ -9,7 +9,7 @@ mod table;
 mod work;
 
 use table::Table;
-use work::{Appends, Bursts, Encoder, Filing, Pushes, Ranges, Row, Samples, Wait, Walk};
+use work::{Appends, Bursts, Encoder, Filing, Pushes, Ranges, Row, Salvaging, Samples, Wait, Walk};
 
 const CHUNK: u64 = 1_048_576;
 
@@ -167,7 +167,22 @@ fn files(table: &mut Table) {
             |side| side.read(&work),
             |side| side.append_and_check(&work),
         );
+        salvage(table, &format!("salvage of {name}"), Salvaging { filing: &work, every: None });
+        if len == LEN {
+            let name = format!("salvage of {name}, every second block bad");
+            salvage(table, &name, Salvaging { filing: &work, every: Some(2) });
+        }
     }
+}
+
+/// A file with bad blocks, beside the reading of the file that it was.
+fn salvage(table: &Table, name: &str, work: Salvaging) {
+    table.line_beside(
+        [name, "read"],
+        "sample",
+        |side| side.salvage(&work),
+        |side| side.read(work.filing),
+    );
 }
 
 /// How cost grows with the capture: a lone change in its middle, all of it as a row of pixels, and bursts in it.

@@ -1,4 +1,5 @@
-//! A shelf file by a plain writer, block by block, and the check of one. The Rust has neither.
+//! A shelf file by a plain writer, block by block, and the check of one, which fails where a block is spoiled. The Rust has
+//! neither.
 
 const BLOCK: usize = 512;
 const HEAD: usize = 12;
@@ -47,4 +48,14 @@ fn check(block: &[u8]) -> u16 {
 pub fn checked(file: &[u8]) -> usize {
     let right = |block: &&[u8]| check(block) == u16::from_le_bytes([block[0], block[1]]);
     file.chunks(BLOCK).filter(right).count()
+}
+
+/// Changes a byte of every so many-th block, so that its check fails, and gives how many these are.
+pub fn spoil(file: &mut [u8], every: usize) -> usize {
+    let mut bad = 0;
+    for block in file.chunks_mut(BLOCK).step_by(every).skip(1) {
+        block[HEAD] ^= 1;
+        bad += 1;
+    }
+    bad
 }

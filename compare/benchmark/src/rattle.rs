@@ -4,7 +4,7 @@
 use crate::plain_file;
 use crate::side::{filed, timed, turned, Side, Timed};
 use crate::work::{
-    Appends, Bursts, Encoder, Filing, Pushes, Ranges, Row, Samples, Wait, Walk, GRANT,
+    Appends, Bursts, Encoder, Filing, Pushes, Ranges, Row, Salvaging, Samples, Wait, Walk, GRANT,
 };
 use port::{file, mill, out, record, Asked, Feeder, Lent, LentMut, Record, Settings};
 use std::cell::RefCell;
@@ -56,6 +56,16 @@ impl Capture {
         let lent = LentMut { samples: &mut self.samples, levels: [l1, l2, l3, l4] };
         let capacity = self.record[record::CAPACITY];
         assert_eq!(file::read(capacity, file, lent, &mut self.record), 0);
+    }
+
+    /// How many stretches are unknown.
+    fn salvage(&mut self, file: &[u8], stretches: &mut [usize]) -> usize {
+        let [l1, l2, l3, l4] = &mut self.levels;
+        let lent = LentMut { samples: &mut self.samples, levels: [l1, l2, l3, l4] };
+        let (capacity, mut counts) = (self.record[record::CAPACITY], [0; 2]);
+        let code = file::salvage(capacity, file, lent, stretches, &mut self.record, &mut counts);
+        assert_eq!(code, 0);
+        counts[out::SALVAGED_STRETCHES]
     }
 
     /// A recorder over this memory that keeps `pre` samples while it waits.
@@ -280,6 +290,20 @@ impl Side for Rattle {
                 assert_eq!(plain_file::checked(black_box(&file)), file.len() / 512);
             }
             (work.count(), capture.record[record::LEN] as u64)
+        })
+    }
+
+    fn salvage(&self, work: &Salvaging) -> Option<Timed> {
+        let filing = work.filing;
+        let mut capture = self.appended.borrow_mut();
+        let mut file = self.prepared(filing, &mut capture)?;
+        let bad = work.every.map_or(0, |every| plain_file::spoil(&mut file, every));
+        let mut stretches = vec![0xA5; 2 * bad];
+        timed(LENT, || {
+            for _ in 0..filing.times {
+                assert_eq!(capture.salvage(black_box(&file), &mut stretches), bad);
+            }
+            (filing.count(), capture.record[record::LEN] as u64)
         })
     }
 

@@ -1,7 +1,9 @@
 //! A side of the benchmark. Each function does one work and says how long it took;
 //! a side that lacks an operation leaves its function as it stands here.
 
-use crate::work::{Appends, Bursts, Encoder, Filing, Pushes, Ranges, Row, Samples, Walk};
+use crate::work::{
+    Appends, Bursts, Encoder, Filing, Pushes, Ranges, Row, Salvaging, Samples, Walk,
+};
 use std::time::{Duration, Instant};
 
 pub struct Timed {
@@ -71,6 +73,11 @@ pub trait Side {
 
     /// Its samples appended to a new store, and one plain pass of the check over the file.
     fn append_and_check(&self, work: &Filing) -> Option<Timed> {
+        None
+    }
+
+    /// That file with bad blocks, into a new store.
+    fn salvage(&self, work: &Salvaging) -> Option<Timed> {
         None
     }
 

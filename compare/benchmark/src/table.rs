@@ -63,9 +63,11 @@ impl Table {
             return;
         }
         let [work, other] = best([&|| work(&self.rattle), &|| other(&self.rattle)]);
-        let ratio = |work: &Timed, other: &Timed| each(work) / each(other);
-        let ratio = work.as_ref().zip(other.as_ref()).map(|(work, other)| ratio(work, other));
-        let note = ratio.map_or(String::new(), |ratio| format!(" ({ratio:.2} of {beside})"));
+        let both = work.as_ref().zip(other.as_ref());
+        let note = both.map_or(String::new(), |(work, other)| {
+            let (ratio, other) = (each(work) / each(other), each(other));
+            format!(" ({ratio:.2} of {beside}, which took {other:.2})")
+        });
         self.print(name, per, None, work, &note);
     }
 

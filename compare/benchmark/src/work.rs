@@ -152,6 +152,12 @@ impl Filing<'_> {
     }
 }
 
+/// Such a file to be salvaged, as it is or with every so many-th block bad.
+pub struct Salvaging<'a> {
+    pub filing: &'a Filing<'a>,
+    pub every: Option<usize>,
+}
+
 /// One row of pixels.
 pub struct Row {
     pub start: f64,

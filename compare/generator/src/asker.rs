@@ -81,8 +81,8 @@ impl Asker {
         };
         let refused = ruled.is_err() || self.document.refuses();
         let own = if refused { None } else { self.rust.take(op) };
-        // It reads no files: what was read is given to it.
-        if let (Op::Read { .. }, Ok(_)) = (op, &ruled) {
+        // It reads no files: what was read or salvaged is given to it.
+        if let (Op::Read { .. } | Op::Salvage { .. }, Ok(_)) = (op, &ruled) {
             self.rust.hold(self.document.store(), self.document.samples());
         }
         self.count(op, own.is_some(), refused);

@@ -11,6 +11,7 @@ use crate::mill::Mills;
 use crate::noise::Noise;
 use crate::op::Op;
 use crate::port::Port;
+use crate::salvages::Salvages;
 use crate::shapes::{line, mask, Size, CHUNK};
 use crate::side::Side;
 use crate::unfinished::Unfinished;
@@ -98,9 +99,11 @@ fn random(seconds: u64, seed: u64) -> bool {
     let mut noise = Noise::default();
     let mut encoders = Encoders::default();
     let mut files = Files::default();
+    let mut salvages = Salvages::default();
     let mut longs = 0;
     encoders.sweep(&mut list, &mut rng);
     files.sweep(&mut list, &mut rng);
+    salvages.sweep(&mut list, &mut rng);
     let begun = Instant::now();
     while begun.elapsed() < Duration::from_secs(seconds) && list.asker().differences.len() < MANY {
         let group = &GROUPS[rng.below(GROUPS.len() as u64) as usize];
@@ -116,6 +119,9 @@ fn random(seconds: u64, seed: u64) -> bool {
         mills.ask(&mut list, &mut rng);
         if rng.once_in(4) {
             files.ask(&mut list, &mut rng);
+        }
+        if rng.once_in(4) {
+            salvages.ask(&mut list, &mut rng);
         }
         unfinished.ask(&mut list, &mut rng);
         noise.ask(&mut list, &mut rng);
@@ -169,6 +175,14 @@ fn random(seconds: u64, seed: u64) -> bool {
         reads + noise.port.reads,
         files.twice,
         files.changed,
+    );
+    let made = asker.port().map_or(0, |port| port.salvages);
+    println!(
+        "{} files salvaged, {} of them over memory that no call made; {} beside one that agrees outside some blocks; {} with one byte changed",
+        made + salvages.other.salvages + noise.port.salvages,
+        noise.port.salvages,
+        salvages.twice,
+        salvages.changed,
     );
     asker.differences.is_empty()
 }

@@ -5,6 +5,7 @@ use crate::document::refusals::{need, MOST};
 use crate::feed::Feed;
 use crate::list::List;
 use crate::op::{Op, Store};
+use rng::Rng;
 
 /// A capture to be filed, in a store that is just full or has room for one sample. Its memory is enough for either unit.
 #[derive(Clone)]
@@ -56,6 +57,22 @@ pub fn noise(unit: u64, len: u64, mark: Option<u64>) -> Filed {
 /// A capture in which all is 0.
 pub fn quiet(unit: u64, len: u64) -> Filed {
     Filed { feed: Feed::Runs(vec![(len, 0)]), ..noise(unit, len, None) }
+}
+
+/// A capture in which all is 0 but the first and the last sample of each block.
+pub fn spotted(unit: u64, len: u64, mark: Option<u64>) -> Filed {
+    let each = PAYLOAD as u64 / unit;
+    let spot = |number: u64| (1, number as u16 * if unit == 1 { 1 } else { 257 });
+    let mut runs = Vec::new();
+    for block in 0..len.div_ceil(each) {
+        let count = each.min(len - block * each);
+        runs.push(spot(2 * block + 1));
+        if count > 1 {
+            runs.extend([(count - 2, 0), spot(2 * block + 2)]);
+        }
+    }
+    runs.retain(|run| run.0 > 0);
+    Filed { feed: Feed::Runs(runs), ..noise(unit, len, mark) }
 }
 
 /// A change in a block of a file: from this place on these bytes.
@@ -136,6 +153,19 @@ pub fn changes(filed: &Filed) -> Vec<Change> {
         add(0, place, &[1]);
     }
     all
+}
+
+/// Other values for a byte.
+pub fn other_bytes(rng: &mut Rng, byte: u8) -> Vec<u8> {
+    let [more, less] = [1, 255].map(|n| byte.wrapping_add(n));
+    let [one, two] = [rng.number(), rng.number()].map(|n| n as u8);
+    let mut others = Vec::new();
+    for value in [more, less, byte ^ 1, byte ^ 0x80, !byte, 0, 255, one, two] {
+        if value != byte && !others.contains(&value) {
+            others.push(value);
+        }
+    }
+    others
 }
 
 /// Captures whose last block's check is below 15, and their files with 65,521 more there, which 16 bits hold.

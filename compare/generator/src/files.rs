@@ -3,10 +3,10 @@
 //! exchanged, and of random bytes; and of the captures that the random run holds.
 
 use crate::document::file::{length, mend, BLOCK};
-use crate::document::refusals::{need, MOST};
-use crate::filed::{changes, checks_above, next_block, paddings, Filed};
+use crate::document::refusals::need;
+use crate::filed::{changes, checks_above, next_block, other_bytes, paddings, Filed};
 use crate::groups::file::there_and_back;
-use crate::groups::refused::short_slices;
+use crate::groups::refused::each_memory;
 use crate::list::{append, List};
 use crate::op::{Op, Store};
 use crate::port::Port;
@@ -93,14 +93,8 @@ impl Files {
             let (file, capacity) = (filed.file(), filed.store.capacity);
             let count = file.len() as u64;
             for (at, &byte) in file.iter().enumerate() {
-                let [more, less] = [1, 255].map(|n| byte.wrapping_add(n));
-                let [one, two] = [rng.number(), rng.number()].map(|n| n as u8);
-                let values = [more, less, byte ^ 1, byte ^ 0x80, !byte, 0, 255, one, two];
                 filed.write(list);
-                for (i, value) in values.into_iter().enumerate() {
-                    if value == byte || values[..i].contains(&value) {
-                        continue;
-                    }
+                for value in other_bytes(rng, byte) {
                     list.say(Op::PutFile { at: at as u64, byte: value });
                     list.say(Op::Says { count });
                     list.say(Op::Read { capacity, count });
@@ -152,8 +146,6 @@ fn capacities(list: &mut List, rng: &mut Rng, unit: u64) {
     for len in [0, 1, 2, 32, 33, 249, 250, 251, 1_024, 1_025, 33_000] {
         let filed = random(rng, unit, len, Some(len / 2));
         let count = filed.length();
-        let mut capacities = vec![len, len + 1, len + 31, len + 32, len + 1_500];
-        capacities.retain(|&capacity| capacity > 0);
         for bad in [false, true] {
             filed.write(list);
             if bad {
@@ -161,22 +153,7 @@ fn capacities(list: &mut List, rng: &mut Rng, unit: u64) {
                 let byte = !list.asker().document().files().at(at as usize);
                 list.say(Op::PutFile { at, byte });
             }
-            for capacity in [0, len.saturating_sub(1), len / 2, MOST, MOST + 1, 1 << 63, u64::MAX] {
-                list.say(Op::Read { capacity, count });
-            }
-            for &capacity in &capacities {
-                let enough = need(unit, capacity);
-                let shorts = short_slices(enough).into_iter().chain([need(unit, len)]);
-                for short in shorts {
-                    list.lend(short);
-                    list.say(Op::Read { capacity, count });
-                }
-                list.lend(enough);
-                list.say(Op::Read { capacity, count });
-                list.lend(need(2, capacity + 70));
-                list.say(Op::Read { capacity, count });
-                list.say(Op::Run);
-            }
+            each_memory(list, unit, len, |capacity| Op::Read { capacity, count });
         }
     }
 }

@@ -45,6 +45,7 @@ impl Op {
             Op::Read { capacity, count } => vec![61, *capacity, *count],
             Op::Says { count } => vec![62, *count],
             Op::FileLen => vec![63],
+            Op::Salvage { capacity, count, list } => vec![64, *capacity, *count, *list],
             Op::Mill(mill) => mill_numbers(mill),
         }
     }
@@ -101,6 +102,7 @@ impl Op {
             61 => Op::Read { capacity: next()?, count: next()? },
             62 => Op::Says { count: next()? },
             63 => Op::FileLen,
+            64 => Op::Salvage { capacity: next()?, count: next()?, list: next()? },
             _ => return None,
         })
     }

@@ -21,8 +21,10 @@ mod noise;
 mod op;
 mod port;
 mod rust;
+mod salvages;
 mod shapes;
 mod side;
+mod spoiled;
 mod unfinished;
 mod write;
 

@@ -44,8 +44,10 @@ impl Noise {
         }
         densities(&mut self.port, list, rng);
         encoders(&mut self.port, list, rng);
-        if rng.once_in(4) {
-            files(&mut self.port, list, rng);
+        match rng.below(8) {
+            0..=1 => files(&mut self.port, list, rng),
+            2..=3 => salvages(&mut self.port, list, rng),
+            _ => {}
         }
     }
 
@@ -152,6 +154,29 @@ fn files(port: &mut Port, list: &mut List, rng: &mut Rng) {
         Op::Read { capacity, count },
         Op::Whole,
     ] {
+        port.take(&op);
+        for fault in port.faults() {
+            list.asker().differs(&format!("memory that no call made: {op:?}: {fault}"));
+        }
+    }
+}
+
+/// Writes the file of what memory holds, and salvages it over the same memory with some bytes changed: then the levels are
+/// right.
+fn salvages(port: &mut Port, list: &mut List, rng: &mut Rng) {
+    let (unit, len) = (port.unit(), port.len());
+    let count = file::length(unit, len);
+    let capacity = (len + rng.below(3)).max(1);
+    let mut ops = vec![Op::Write { output: count }, Op::Lend(need(unit, capacity))];
+    for _ in 0..rng.below(4) {
+        let (at, byte) = (rng.below(count), rng.number() as u8);
+        ops.push(Op::PutFile { at, byte });
+    }
+    let end = count - rng.pick(&[0, 0, 1, 512]);
+    for (capacity, list) in [(len.saturating_sub(1), 8), (capacity, 1), (capacity, 8)] {
+        ops.push(Op::Salvage { capacity, count: end, list });
+    }
+    for op in ops {
         port.take(&op);
         for fault in port.faults() {
             list.asker().differs(&format!("memory that no call made: {op:?}: {fault}"));

@@ -135,6 +135,7 @@ pub enum Op {
     // Files: all in the first bytes of file memory.
     Write { output: u64 },
     Read { capacity: u64, count: u64 },
+    Salvage { capacity: u64, count: u64, list: u64 },
     Says { count: u64 },
     FileLen,
     // A mill's. They stand in no list: the Rust has no such reader.

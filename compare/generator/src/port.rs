@@ -5,6 +5,7 @@ mod file;
 mod memory;
 mod mill;
 mod recorder;
+mod salvage;
 mod walk;
 
 use crate::digest::digest;
@@ -55,6 +56,9 @@ pub struct Port {
     /// Files written, and files read.
     pub writes: u64,
     pub reads: u64,
+    /// Files salvaged, and the numbers that the last one left in the list.
+    pub salvages: u64,
+    stretches: Vec<usize>,
     calls: u64,
     faults: Vec<String>,
 }
@@ -97,8 +101,11 @@ impl Side for Port {
                 self.read = None;
                 let before = (self.record, self.own);
                 let answer = self.answer(op)?;
-                let changes =
-                    op.begins() || matches!(op, Op::Append(_) | Op::Push(_) | Op::Read { .. });
+                let changes = op.begins()
+                    || matches!(
+                        op,
+                        Op::Append(_) | Op::Push(_) | Op::Read { .. } | Op::Salvage { .. }
+                    );
                 if !(changes && answer.is_ok()) {
                     self.same("record", before, (self.record, self.own));
                 }
@@ -155,6 +162,7 @@ impl Port {
             Op::Write { output } => self.write(output),
             Op::Read { capacity, count } => self.read(capacity, count),
             Op::Says { count } => self.says(count),
+            Op::Salvage { capacity, count, list } => self.salvage(capacity, count, list),
             Op::Run => self.run(),
             Op::Get(i) => {
                 let mut value = 0xA5C3;

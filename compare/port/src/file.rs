@@ -24,3 +24,23 @@ pub fn write(record: &Record, lent: Lent, output: &mut [u8], len: &mut usize) ->
 pub fn read(capacity: usize, file: &[u8], lent: LentMut, record: &mut Record) -> u32 {
     lent!(lc_read, (capacity, file.as_ptr(), file.len()), lent, as_mut_ptr, (record))
 }
+
+/// A file with bad blocks. The counts have names, [`out`](crate::out).
+#[inline]
+pub fn salvage(
+    capacity: usize,
+    file: &[u8],
+    lent: LentMut,
+    stretches: &mut [usize],
+    record: &mut Record,
+    counts: &mut [usize; 2],
+) -> u32 {
+    let (to, room) = (stretches.as_mut_ptr(), stretches.len());
+    lent!(
+        lc_salvage,
+        (capacity, file.as_ptr(), file.len()),
+        lent,
+        as_mut_ptr,
+        (to, room, record, counts)
+    )
+}

@@ -2,10 +2,9 @@
 use mathlib.Core.Path.{_≡_, refl, sym, ap, _∙_, subst, subst⁻¹}
 use mathlib.Core.List.{List, []}
 use mathlib.Core.Option.{Option, none, some}
-use Prim.Native.Nat.{ℕ, zero, suc, _+_, _*_}
+use Prim.Native.Nat.{ℕ, zero, suc, _+_}
 use native.Mathlib.Omega.{arith}
 use lib.ListN.{length, take}
-use lib.Seq.{paste}
 use Rattle.rules.specs.Sample.{sampleOf, listFrom}
 use Rattle.rules.specs.Answer.{Answer, given, unless}
 use Rattle.rules.specs.Refusal.{Store}
@@ -13,8 +12,6 @@ use Rattle.rules.specs.Shelf.{headingOf, headingIn, bytesIn, fileLen}
 use Rattle.rules.specs.ShelfCalls.{writeRefusal, writeOutput, storeIn, readRefusal, readCount}
 use Rattle.rules.proofs.Sample.{list-same}
 use Rattle.rules.proofs.SampleBytes.{list-whole}
-use Rattle.rebuild.specs.Rebuild.{levelAfter}
-use Rattle.store.specs.Stored.{Stored}
 use Rattle.capture.specs.declared.Mark.{Mark}
 use Rattle.capture.specs.declared.Mark.the-variants.{Absent, At}
 use Rattle.capture.specs.declared.Capture.{Capture}
@@ -26,9 +23,9 @@ use Rattle.shelf_head.specs.declared.FileLength.{FileLength}
 use Rattle.shelf_head.specs.declared.FileLength.the-variants as length-of
 use Rattle.shelf_head.specs.Head.{lengthOf}
 use Rattle.claim_alike.specs.Alike.{AreWords}
-use Rattle.claim_captures.specs.Words.{Memory, levels, at, Same}
+use Rattle.claim_captures.specs.Words.{Memory, at, Same}
 use Rattle.claim_captures.specs.Claim.{Held}
-use Rattle.claim_captures.proofs.Answers.{anywhere, somewhere, four-levels}
+use Rattle.claim_captures.proofs.Answers.{anywhere, somewhere}
 use Rattle.claim_captures.proofs.Alike.{captures-alike}
 use Rattle.claim_recording.specs.Claim.{run, mark, store}
 use Rattle.claim_recording.proofs.Selection.{selection}
@@ -36,14 +33,15 @@ use Rattle.claim_shelf.specs.Files.{runIn, Enough}
 use Rattle.claim_shelf.specs.Files as Read
 use Rattle.claim_shelf.specs.Claim.{Writes, Reads, FilesUndone, FiledAlike, RecordingsFiled}
 use Rattle.claim_shelf.proofs.Written.{lentIn, Wrote}
+use Rattle.claim_shelf.proofs.NewStore.{filled-with, filled-is}
 use Rattle.claim_shelf.proofs.Taken.{WasRead}
 use Rattle.claim_shelf.proofs.Files.{read-same, files}
 
-wrote : (st : Store) (m : Memory) (output : List ℕ) (answer : Answer ℕ) (output′ : List ℕ) → Writes st m output answer output′ → Wrote st m output answer output′
+pub wrote : (st : Store) (m : Memory) (output : List ℕ) (answer : Answer ℕ) (output′ : List ℕ) → Writes st m output answer output′ → Wrote st m output answer output′
 wrote st m output answer output′ (c, v, c-is, (κs, p, o, promised), v-is) =
     subst (λ (x : Store). Wrote x m output answer output′) c-is (record { answer-is = sym v-is ∙ promised .answer-is; output-is = promised .output-is })
 
-was-read : (capacity : ℕ) (file : List ℕ) (m : Memory) (answer : Answer Store) (m′ : Memory) → Reads capacity file m answer m′ → WasRead capacity file m answer m′
+pub was-read : (capacity : ℕ) (file : List ℕ) (m : Memory) (answer : Answer Store) (m′ : Memory) → Reads capacity file m answer m′ → WasRead capacity file m answer m′
 was-read capacity file m answer m′ (v, (κs, p, f, promised), v-is) = record { answer-is = sym v-is ∙ promised .answer-is; memory = promised .memory }
 
 -- ---- there is always an answer
@@ -73,32 +71,17 @@ may-write st m output =
       (c .0, v .0, c .1, (([], ([], ([], tt))), somewhere, anywhere, record { answer-is = v .1; output-is = refl }), refl),
     )
 
--- the memory that a reading leaves
 module _ (capacity : ℕ) (file : List ℕ) (m : Memory) where
-  abbrev n : ℕ
-  n = readCount capacity (lentIn m) file
-
-  abbrev unit : ℕ
-  unit = headingIn file .unit
-
-  abbrev samples : List ℕ
-  samples = paste (m .samples) (0 * unit) (bytesIn file) (n * unit)
-
-  abbrev level : ℕ → List ℕ
-  level l = levelAfter (sampleOf unit samples) (levels m l) 0 n l
-
-  abbrev pub after : Memory
-  after = record { samples = samples; l1 = level 1; l2 = level 2; l3 = level 3; l4 = level 4 }
-
-  pub level-after : Stored unit 0 n (bytesIn file) (m .samples) (levels m) (after .samples) (levels after)
-  level-after = record { samples-are = refl; levels-are = four-levels level }
+  -- the memory that a reading leaves
+  abbrev pub read-leaves : Memory
+  read-leaves = filled-with (headingIn file .unit) (readCount capacity (lentIn m) file) (bytesIn file) m
 
   may-read : (answer : Answer Store) × (m′ : Memory) × Reads capacity file m answer m′
   may-read =
       let v = started-for (readRefusal capacity (lentIn m) file) (storeIn capacity (headingIn file)) in (
         startedOf (v .0),
-        after,
-        (v .0, (([], ([], ([], ([], ([], ([], tt)))))), somewhere, anywhere, record { answer-is = v .1; memory = level-after }), refl),
+        read-leaves,
+        (v .0, (([], ([], ([], ([], ([], ([], tt)))))), somewhere, anywhere, record { answer-is = v .1; memory = filled-is (headingIn file .unit) (readCount capacity (lentIn m) file) (bytesIn file) m }), refl),
       )
 
 pub files-undone : FilesUndone

@@ -2,7 +2,7 @@
 use mathlib.Core.Path.{_≡_, sym, ap, ap₂, _∙_, subst, subst⁻¹}
 use mathlib.Core.Bool.{Bool, true, false, cond}
 use mathlib.Core.List.{List, [], _∷_, _++_}
-use Prim.Native.Nat.{ℕ, _+_, _*_, _≤_, _<_}
+use Prim.Native.Nat.{ℕ, _*_, _≤_, _<_}
 use native.Mathlib.Nat.{zero-add, mul-le-mul-right, pow-le-pow-right}
 use native.Mathlib.Decide.{ℕ-discrete}
 use native.Mathlib.Omega.{arith}
@@ -17,14 +17,14 @@ use Rattle.rules.specs.Shelf.{Heading, Filed, headingOf, filedOf, fileOf, fileL
 use Rattle.rules.specs.ShelfCalls.{outputRow, writeRefusal, writtenTo, capacityWrong, storeIn, readRefusal}
 use Rattle.rules.proofs.Sample.{list-length, list-at, sample-take, sample-lt}
 use Rattle.rules.proofs.Refusal.{ranged, rows-rest}
-use Rattle.rules.proofs.Shelf.{file-passes, filed-back, file-bytes, file-length, file-again, filed-has, never-passes}
-use Rattle.shelf_read.proofs.Tested.{passed-length}
+use Rattle.rules.proofs.Shelf.{passed, file-passes, filed-back, file-bytes, file-length, file-again, filed-has, never-passes}
 use Rattle.claim_alike.specs.Alike.{AreWords}
 use Rattle.claim_captures.specs.Words.{Memory, at}
 use Rattle.claim_captures.specs.Claim.{Held}
 use Rattle.claim_shelf.specs.Files.{runIn, StoredBytes, Enough, Same, Files}
 use Rattle.claim_shelf.proofs.Written.{lentIn, Wrote, in-range, given-length, written-filled, file-in, same-file}
-use Rattle.claim_shelf.proofs.Taken.{WasRead, sixteen, refused-leaves, entered, store-is, passes, stored-bytes, read-held}
+use Rattle.claim_shelf.proofs.NewStore.{passes, stored-bytes, new-held}
+use Rattle.claim_shelf.proofs.Taken.{WasRead, sixteen, refused-leaves, entered, store-is, new-store}
 
 -- ---- the samples that a store holds
 module _ (st : Store) (m : Memory) where
@@ -51,13 +51,13 @@ module _ {st : Store} {m : Memory} {output : List ℕ} {n : ℕ} {output′ : Li
   abbrev file : List ℕ
   file = take n output′
 
-  said : headingIn file ≡ headingOf st
+  pub said : headingIn file ≡ headingOf st
   said = ap headingIn (file-in w) ∙ ap (λ (x : Filed). x .heading) (filed-back (written-filled w))
 
-  holds : bytesIn file ≡ c .bytes
+  pub holds : bytesIn file ≡ c .bytes
   holds = ap bytesIn (file-in w) ∙ ap (λ (x : Filed). x .bytes) (filed-back (written-filled w))
 
-  test : fileTest file ≡ true
+  pub test : fileTest file ≡ true
   test = ap fileTest (file-in w) ∙ file-passes (written-filled w)
 
   module _ {capacity : ℕ} {m₂ : Memory} {answer : Answer Store} {m₂′ : Memory} (e : Enough capacity st m₂) (r : WasRead capacity file m₂ answer m₂′) where
@@ -76,7 +76,7 @@ module _ {st : Store} {m : Memory} {output : List ℕ} {n : ℕ} {output′ : Li
       answer-is = answered;
       held = λ d d-is.
           subst (λ (h : Heading). Held (runIn st m) (h .mark) d m₂′) said
-          (read-held (subst (λ (a : Answer Store). WasRead capacity file m₂ a m₂′) answered r) (runIn st m) (run-length st m ∙ sym (ap (λ (h : Heading). h .len) said)) sampled words d d-is);
+          (new-held (new-store (subst (λ (a : Answer Store). WasRead capacity file m₂ a m₂′) answered r)) (runIn st m) (run-length st m ∙ sym (ap (λ (h : Heading). h .len) said)) sampled words d (d-is ∙ ap (storeIn capacity) (sym said)));
     }
 
 -- ---- read, then written
@@ -85,20 +85,20 @@ module _ {capacity : ℕ} {file : List ℕ} {m : Memory} {st : Store} {m′ : Me
   h = headingIn file
 
   filed-is : filedOf st (m′ .samples) ≡ filedIn file
-  filed-is = ap (λ (x : Store). filedOf x (m′ .samples)) (store-is r) ∙ (λ i. record { heading = h; bytes = stored-bytes r i })
+  filed-is = ap (λ (x : Store). filedOf x (m′ .samples)) (store-is r) ∙ (λ i. record { heading = h; bytes = stored-bytes (new-store r) i })
 
   file-is : fileOf (filedOf st (m′ .samples)) ≡ file
   file-is = ap fileOf filed-is ∙ file-again file b (entered r .passed)
 
   len-is : fileLen (headingOf st) ≡ length file
-  len-is = ap (λ (x : Store). fileLen (headingOf x)) (store-is r) ∙ sym (passed-length file (entered r .passed))
+  len-is = ap (λ (x : Store). fileLen (headingOf x)) (store-is r) ∙ sym (passed file (entered r .passed) .1)
 
   module _ {output : List ℕ} {answer : Answer ℕ} {output′ : List ℕ} (room : length file ≤ length output) (w : Wrote st m′ output answer output′) where
     unrefused-is : writeRefusal st (lentIn m′) (length output) ≡ 0
     unrefused-is =
         ap (λ (x : Store). writeRefusal x (lentIn m′) (length output)) (store-is r)
-        ∙ rows-rest (storeIn capacity h) (lentIn m′) (passes r .0) (passes r .1) (outputRow (storeIn capacity h) (length output) ∷ [])
-        ∙ ap (λ (t : Bool). cond t 15 0) (le-ltb (length output) (fileLen h) (omega (arith, room, passed-length file (entered r .passed))))
+        ∙ rows-rest (storeIn capacity h) (lentIn m′) (passes (new-store r) .0) (passes (new-store r) .1) (outputRow (storeIn capacity h) (length output) ∷ [])
+        ∙ ap (λ (t : Bool). cond t 15 0) (le-ltb (length output) (fileLen h) (omega (arith, room, passed file (entered r .passed) .1)))
 
     pub written-again : (answer ≡ given (length file)) × (output′ ≡ file ++ drop (length file) output)
     written-again = (
@@ -109,7 +109,7 @@ module _ {capacity : ℕ} {file : List ℕ} {m : Memory} {st : Store} {m′ : Me
     )
 
 -- ---- one changed byte
-bytes-set : (l : List ℕ) (i x : ℕ) → Bytes l → i < length l → x < 256 → Bytes (set l i x)
+pub bytes-set : (l : List ℕ) (i x : ℕ) → Bytes l → i < length l → x < 256 → Bytes (set l i x)
 bytes-set l i x b h s k = go (ℕ-discrete k i)
   where
     go : Dec (k ≡ i) → getD (set l i x) k 0 < 256

@@ -1,4 +1,5 @@
 pub mod Written
+pub mod NewStore
 pub mod Taken
 pub mod Files
 pub mod Claim

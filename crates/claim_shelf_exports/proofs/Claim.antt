@@ -5,8 +5,8 @@ use Prim.Native.Nat.{ℕ, zero, suc}
 use lib.ListN.{length, take}
 use Rattle.rules.specs.Answer.{Answer, given, unless}
 use Rattle.rules.specs.Refusal.{Store}
-use Rattle.rules.specs.Shelf.{headingOf, headingIn, fileLen}
-use Rattle.rules.specs.ShelfCalls.{writeRefusal, writeOutput, storeIn, readRefusal}
+use Rattle.rules.specs.Shelf.{headingOf, headingIn, bytesIn, fileLen}
+use Rattle.rules.specs.ShelfCalls.{writeRefusal, writeOutput, storeIn, readRefusal, readCount}
 use Rattle.capture.specs.Record.{storeOf}
 use Rattle.codes.specs.Code.{plain, Out}
 use Rattle.codes.specs.Record.{captureIn, number, storeNumbers}
@@ -19,7 +19,8 @@ use Rattle.claim_exports.proofs.Recordings.{recording-held}
 use Rattle.claim_shelf.proofs.Written.{lentIn, Wrote}
 use Rattle.claim_shelf.proofs.Taken.{WasRead}
 use Rattle.claim_shelf.proofs.Files.{files}
-use Rattle.claim_shelf.proofs.Claim.{itself, after, level-after, held-again}
+use Rattle.claim_shelf.proofs.NewStore.{filled-is}
+use Rattle.claim_shelf.proofs.Claim.{itself, read-leaves, held-again}
 use Rattle.claim_shelf_exports.specs.Claim.{Writes, Reads, FilesUndone, FiledAlike, RecordingsFiled}
 
 -- what stands behind a pointer, read, is what the code says
@@ -29,7 +30,7 @@ told write read zero x {code} {old} {new} o back =
     ap (λ (k : ℕ). unless k (read new)) (o .code-is) ∙ ap given (ap read (o .value-is) ∙ back)
 told write read (suc n) x {code} {old} {new} o back = ap (λ (k : ℕ). unless k (read new)) (o .code-is)
 
-wrote : (st : Store) (m : Memory) (output : List ℕ) (answer : Answer ℕ) (output′ : List ℕ) → Writes st m output answer output′ → Wrote st m output answer output′
+pub wrote : (st : Store) (m : Memory) (output : List ℕ) (answer : Answer ℕ) (output′ : List ℕ) → Writes st m output answer output′ → Wrote st m output answer output′
 wrote st m output answer output′ (numbers, old, code, new, st-is, (κs, n, p, o, k, promised), told-is) =
     subst (λ (x : Store). Wrote x m output answer output′) st-is
     (record {
@@ -37,7 +38,7 @@ wrote st m output answer output′ (numbers, old, code, new, st-is, (κs, n, p, 
       output-is = promised .output-is;
     })
 
-was-read : (capacity : ℕ) (file : List ℕ) (m : Memory) (answer : Answer Store) (m′ : Memory) → Reads capacity file m answer m′ → WasRead capacity file m answer m′
+pub was-read : (capacity : ℕ) (file : List ℕ) (m : Memory) (answer : Answer Store) (m′ : Memory) → Reads capacity file m answer m′ → WasRead capacity file m answer m′
 was-read capacity file m answer m′ (numbers, five, code, numbers′, (κs, p, f, n, promised), told-is) = record {
   answer-is = sym told-is ∙ told storeNumbers (λ l. storeOf (captureIn l)) (readRefusal capacity (lentIn m) file) (storeIn capacity (headingIn file)) (promised .record-is) (store-back numbers five (storeIn capacity (headingIn file)));
   memory = promised .memory;
@@ -66,8 +67,8 @@ may-read : (capacity : ℕ) (file : List ℕ) (m : Memory) → (answer : Answer 
 may-read capacity file m =
     let v = code-for storeNumbers (readRefusal capacity (lentIn m) file) (storeIn capacity (headingIn file)) blank in (
       unless (v .0) (storeOf (captureIn (v .1))),
-      after capacity file m,
-      (blank, refl, v .0, v .1, (([], ([], ([], ([], ([], ([], ([], tt))))))), somewhere, anywhere, anywhere, record { record-is = v .2; memory = level-after capacity file m }), refl),
+      read-leaves capacity file m,
+      (blank, refl, v .0, v .1, (([], ([], ([], ([], ([], ([], ([], tt))))))), somewhere, anywhere, anywhere, record { record-is = v .2; memory = filled-is (headingIn file .unit) (readCount capacity (lentIn m) file) (bytesIn file) m }), refl),
     )
 
 pub files-undone : FilesUndone

@@ -73,7 +73,7 @@ pub fn capture_in(numbers: &[usize; 5]) -> Capture
 }
 
 // The numbers of a record become a capture's.
-fn put_capture(numbers: &mut [usize; 5], c: Capture)
+pub fn put_capture(numbers: &mut [usize; 5], c: Capture)
     ensures { λ _. ⌜ now (numbers .exit) ≡ storeNumbers (storeOf c) (now (numbers .entry)) ⌝ }
 {
     numbers[record::UNIT] = c.unitsize;

@@ -41,3 +41,7 @@ pub const SAID_LEN: usize = 1;
 pub const SAID_MARKED: usize = 2;
 
 pub const SAID_MARK: usize = 3;
+// what was salvaged of a file: how many stretches are unknown, and how many samples were replaced
+pub const SALVAGED_STRETCHES: usize = 0;
+
+pub const SALVAGED_REPLACED: usize = 1;

@@ -3,6 +3,7 @@ use mathlib.Core.Path.{_≡_, subst}
 use mathlib.Core.List.{List}
 use Prim.Native.Nat.{ℕ}
 use Rattle.rules.specs.Answer.{Answer}
+use Rattle.rules.specs.Salvage as rule
 use Rattle.capture.specs.declared.Capture.{Capture}
 use Rattle.capture.specs.declared.Started.{Started}
 use Rattle.capture.specs.Record.{storeOf}
@@ -13,7 +14,10 @@ use Rattle.shelf_head.specs.declared.FileLength.{FileLength}
 use Rattle.shelf_head.specs.Head.{lengthOf}
 use Rattle.shelf_write.specs.Write.{Writes}
 use Rattle.shelf_read.specs.Read.{Reads}
-use Rattle.logic_core.specs.Files.{WritesOut, ReadsOut}
+use Rattle.shelf_salvage.specs.declared.SalvageResult.{SalvageResult}
+use Rattle.shelf_salvage.specs.Salvage.{salvageOf, Salvages}
+use Rattle.shelf_codes.specs.Salvaged.{SalvagedOut}
+use Rattle.logic_core.specs.Files.{WritesOut, ReadsOut, SalvagesOut}
 
 -- an answer told as what it is
 pub out-same : {A B : Type 0} (write : A → B → B) {a b : Answer A} {code : ℕ} {old new : B} → a ≡ b → Out write (plain a) code old new → Out write (plain b) code old new
@@ -28,3 +32,9 @@ pub reads-told : {capacity : ℕ} {file samples : List ℕ} {levels : ℕ → Li
     → Reads capacity file samples levels r samples′ levels′ → Out storeNumbers (plain (startedOf r)) code numbers numbers′
     → ReadsOut capacity file samples levels code numbers numbers′ samples′ levels′
 reads-told r d o = record { record-is = out-same storeNumbers (d .answer-is) o; memory = d .memory }
+
+pub salvages-told : {capacity : ℕ} {file samples : List ℕ} {levels : ℕ → List ℕ} {list : List ℕ} {code : ℕ} {numbers numbers′ counts counts′ samples′ : List ℕ} {levels′ : ℕ → List ℕ} {list′ : List ℕ} (r : SalvageResult)
+    → Salvages capacity file samples levels list r samples′ levels′ list′ → SalvagedOut (salvageOf r) code numbers numbers′ counts counts′
+    → SalvagesOut capacity file samples levels list code numbers numbers′ counts counts′ samples′ levels′ list′
+salvages-told {code = code} {numbers = numbers} {numbers′ = numbers′} {counts = counts} {counts′ = counts′} r d o =
+    record { answer-is = subst (λ (x : Answer rule.Salvaged). SalvagedOut x code numbers numbers′ counts counts′) (d .answer-is) o; memory = d .memory; list-is = d .list-is }

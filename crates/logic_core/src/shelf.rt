@@ -1,4 +1,4 @@
-// Shelf files (02: CR 7): a capture's file is measured, written and read. Mills get none of it.
+// Shelf files (02: CR 7): a capture's file is measured, written and read, or salvaged (CR 8). Mills get none of it.
 use codes::capture_in;
 use codes::started_code;
 use lines::Mask;
@@ -8,7 +8,7 @@ ghost use Rattle.capture.specs.Record.{storeOf};
 ghost use Rattle.codes.specs.Record.{captureIn, number};
 ghost use Rattle.codes.specs.Code.{plain, Out};
 ghost use Rattle.shelf_codes.specs.Said.{saidNumbers};
-ghost use Rattle.logic_core.specs.Files.{WritesOut, ReadsOut};
+ghost use Rattle.logic_core.specs.Files.{WritesOut, ReadsOut, SalvagesOut};
 
 // How long a capture's file is, in bytes. Refuses with 1.
 #[no_mangle]
@@ -64,4 +64,25 @@ pub extern "C" fn lc_read(
 {
     let answer = shelf_read::read(capacity, file, samples, l1, l2, l3, l4);
     started_code(answer, numbers)
+}
+
+// A capture from a file with bad blocks, into a new store of a capacity (02: CR 8): its record, the unknown stretches, and
+// how many there are and how many samples were replaced; levels are built afresh. Refuses with 1 (the capacity), 17 and 15.
+#[no_mangle]
+pub extern "C" fn lc_salvage(
+    capacity: usize,
+    file: &[u8],
+    samples: &mut [u8],
+    l1: &mut [Mask],
+    l2: &mut [Mask],
+    l3: &mut [Mask],
+    l4: &mut [Mask],
+    stretches: &mut [usize],
+    numbers: &mut [usize; 5],
+    counts: &mut [usize; 2],
+) -> u32
+    ensures { λ r. ⌜ SalvagesOut capacity (now (file .entry)) (now (samples .entry)) (levelOf (now (l1 .entry)) (now (l2 .entry)) (now (l3 .entry)) (now (l4 .entry))) (now (stretches .entry)) r (now (numbers .entry)) (now (numbers .exit)) (now (counts .entry)) (now (counts .exit)) (now (samples .exit)) (levelOf (now (l1 .exit)) (now (l2 .exit)) (now (l3 .exit)) (now (l4 .exit))) (now (stretches .exit)) ⌝ }
+{
+    let answer = shelf_salvage::salvage(capacity, file, samples, l1, l2, l3, l4, stretches);
+    shelf_codes::salvaged_code(answer, numbers, counts)
 }

@@ -1,4 +1,4 @@
-// The lines that write, read and ask about files. All files stand at the start of one memory.
+// The lines that write, read, salvage and ask about files. All files stand at the start of one memory.
 use capture::Capture;
 use capture::Mark;
 use capture::Started;
@@ -13,10 +13,13 @@ use replay_text::answers::given;
 use replay_text::answers::one;
 use replay_text::answers::refused;
 use replay_text::digests::digest_of_bytes;
+use replay_text::digests::digest_of_numbers;
 use replay_text::numbers::byte_of;
 use replay_text::operations::Operation;
 use shelf_head::FileLength;
 use shelf_head::Says;
+use shelf_salvage::SalvageResult;
+use shelf_salvage::Salvaged;
 
 // ---- what a call answered
 
@@ -67,6 +70,33 @@ fn stored(f: Feeder, r: Started, next: usize) -> Change {
     }
 }
 
+// Unit and len, the stretches, the samples replaced, and the digest of the list.
+fn reported(s: Salvaged, list: &[usize]) -> Answer {
+    let new = s.store;
+    let e = 2 * lesser(s.stretches, list.len() / 2);
+    given(
+        5,
+        [
+            new.unitsize,
+            new.len,
+            s.stretches,
+            s.replaced,
+            digest_of_numbers(&list[0..e]),
+        ],
+    )
+}
+
+// What was salvaged is a store alone.
+fn salvaged(f: Feeder, r: SalvageResult, list: &[usize], next: usize) -> Change {
+    match r {
+        SalvageResult::Refused(n) => leaves(f, refused(n), next),
+        SalvageResult::Salvaged(s) => {
+            let new = s.store;
+            leaves(plain(new), reported(s, list), next)
+        }
+    }
+}
+
 // ---- the lines
 
 // 5, put in a file.
@@ -104,10 +134,29 @@ fn same_store<'a>(
     }
 }
 
+// 64, salvage.
+fn salvage(
+    o: Operation,
+    f: Feeder,
+    samples: &mut [u8],
+    l1: &mut [Mask],
+    l2: &mut [Mask],
+    l3: &mut [Mask],
+    l4: &mut [Mask],
+    file: &[u8],
+    list: &mut [usize],
+) -> Change {
+    let a = o.arguments;
+    let e = lesser(a[1], file.len());
+    let n = lesser(a[2], list.len());
+    let r = shelf_salvage::salvage(a[0], &file[0..e], samples, l1, l2, l3, l4, &mut list[0..n]);
+    salvaged(f, r, &list[..], o.next)
+}
+
 // A code whose line is about files.
 pub fn about_files(code: usize) -> bool {
     match code {
-        5 | 60..=63 => true,
+        5 | 60..=64 => true,
         _ => false,
     }
 }
@@ -128,6 +177,11 @@ pub fn file_line(
         let e = lesser(a[1], file.len());
         let r = shelf_read::read(a[0], &file[0..e], samples, l1, l2, l3, l4);
         return stored(f, r, o.next);
+    }
+    if o.code == 64 {
+        // The list has room for more stretches than file memory has.
+        let mut list: [usize; 256] = [0; 256];
+        return salvage(o, f, samples, l1, l2, l3, l4, &file[..], &mut list[..]);
     }
     let c = f.capture;
     let answer = same_store(o, c, &samples[..], &l1[..], &l2[..], &l3[..], &l4[..], file);

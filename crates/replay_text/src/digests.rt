@@ -2,6 +2,7 @@
 use crate::numbers::value_of;
 use crate::numbers::wide;
 use lines::Mask;
+use number::lesser;
 ghost use mathlib.Core.Path.{_≡_};
 ghost use Prim.Native.Nat.{_<_};
 ghost use Rattle.replay_text.specs.Digests.{prime, digestWith, digestOf};
@@ -35,6 +36,19 @@ pub fn digest_of_bytes(bytes: &[u8]) -> usize
     let mut i = 0;
     while i < bytes.len() {
         d = digest_with(d, wide(bytes[i]));
+        i += 1;
+    }
+    d
+}
+
+// The digest of numbers; one above 65,535, which no list has, counts as that.
+pub fn digest_of_numbers(numbers: &[usize]) -> usize
+    ensures { λ r. ⌜ r < prime ⌝ }
+{
+    let mut d = 0;
+    let mut i = 0;
+    while i < numbers.len() {
+        d = digest_with(d, lesser(numbers[i], 65535));
         i += 1;
     }
     d

@@ -1,7 +1,7 @@
 -- Salvaging: a place is known by its own block alone, files that agree in blocks agree in their samples, and what is read is salvaged whole. 02: CR 8.
 use mathlib.Core.Path.{_≡_, refl, sym, ap, ap₂, _∙_, subst, subst⁻¹}
 use mathlib.Core.Bool.{Bool, true, false, cond, not, _&&_}
-use mathlib.Core.List.{List, _++_}
+use mathlib.Core.List.{List, [], _∷_, _++_}
 use mathlib.Core.Logic.{_⊎_, inl, inr}
 use mathlib.Core.Option.{none, some}
 use Prim.Native.Nat.{ℕ, zero, suc, _+_, _-_, _*_, _/_, _%_, _≤_, _<_}
@@ -9,18 +9,20 @@ use native.Mathlib.Nat.{div-add-mod', mod-lt, add-zero, mul-le-mul-right}
 use native.Mathlib.Decide.{decLt}
 use native.Mathlib.Omega.{arith}
 use lib.Dec.{leb, eqb}
-use lib.ListN.{length, getD, take, drop, length-take, length-drop, List·getD-append}
+use lib.ListN.{length, getD, take, drop, length-take, length-drop, List·getD-append, List·getD-eq-default}
 use lib.Seq.{length-take-le, take-take, take-all, getD-take, getD-drop, getD-append-add, ext-getD}
-use borrow.Author.Tests.{eqb-true, le-leb}
+use borrow.Author.Tests.{eqb-true, ne-eqb, le-leb}
 use Rattle.rules.specs.Sample.{UnitSize, little, sampleOf, listFrom}
+use Rattle.rules.specs.SampleBytes.{Bytes}
 use Rattle.rules.specs.Block.{blockSize, payloadAt, payloadMost, zeros, sameBytes, field, goodBlock}
 use Rattle.rules.specs.Shelf.{Heading, headSize, blocksFor, bytesFor, headingIn, payloads, bytesIn, headingWrong, markBytesRight, headTest}
-use Rattle.rules.specs.Stretches.{covers, apart}
-use Rattle.rules.specs.Salvage.{AgreeOutside, blockIn, countIn, goodIn, goodAt, blockOfByte, blockOfSample, knownAt, salvagedByte, salvagedBytes, stretchesOf}
+use Rattle.rules.specs.Stretches.{Stretch, joined, stretchesIn, covers, apart}
+use Rattle.rules.specs.Salvage.{AgreeOutside, blockIn, countIn, goodIn, goodAt, blockOfByte, blockOfSample, knownAt, salvagedByte, salvagedBytes, stretchesOf, listNeed}
 use Rattle.rules.proofs.Sample.{unit-cases, list-length, list-at, little-same}
+use Rattle.rules.proofs.SampleBytes.{take-are, drop-are}
 use Rattle.rules.proofs.Block.{both}
-use Rattle.rules.proofs.ShelfBlocks.{blocks-hold}
-use Rattle.rules.proofs.Stretches.{among-yes, among-behind, in-stretch, stretches-apart}
+use Rattle.rules.proofs.ShelfBlocks.{payloads-bytes, blocks-hold}
+use Rattle.rules.proofs.Stretches.{among-yes, among-behind, in-stretch, stretches-apart, all-unknown}
 
 -- ---- "wholly within": a sample's bytes are in one block, as 500 is even
 two-bytes : (i j : ℕ) → j < 2 → (i * 2 + j) / payloadMost ≡ i * 2 / payloadMost
@@ -174,6 +176,22 @@ module _ (file : List ℕ) (r : UnitSize (headingIn file .unit)) where
       go true e = little-same u (salvagedBytes file) (bytesIn file) (i * u) (i * u) e
       go false e = little-zeros u (salvagedBytes file) (i * u) e
 
+-- they are bytes where the file's are
+pub salvaged-are : (file : List ℕ) → Bytes file → Bytes (salvagedBytes file)
+unfolding salvagedBytes bytesIn
+salvaged-are file b k = go (decLt k n)
+  where
+    n : ℕ
+    n = headingIn file .len * headingIn file .unit
+
+    one : (g : Bool) (v : ℕ) → v < 256 → cond g v 0 < 256
+    one true v h = h
+    one false v h = omega arith
+
+    go : Dec (k < n) → getD (listFrom (salvagedByte file) 0 n) k 0 < 256
+    go (yes l) = subst⁻¹ (λ (v : ℕ). v < 256) (list-at (salvagedByte file) 0 n k l) (one (goodAt file (blockOfByte (0 + k))) (getD (bytesIn file) (0 + k) 0) (take-are n (payloads (blocksFor n) (drop blockSize file)) (payloads-bytes (blocksFor n) (drop blockSize file) (drop-are blockSize file b)) (0 + k)))
+    go (no l) = subst⁻¹ (λ (v : ℕ). v < 256) (List·getD-eq-default (listFrom (salvagedByte file) 0 n) 0 (omega (arith, l, list-length (salvagedByte file) 0 n))) (omega arith)
+
 -- ---- which places the stretches have
 module _ (file : List ℕ) where
   -- Statement 1: a place below len is unknown exactly when it lies in a stretch,
@@ -192,6 +210,22 @@ module _ (file : List ℕ) where
     where
       from-0 : 0 + headingIn file .len ≡ headingIn file .len
       from-0 = omega arith
+
+  -- Bad blocks side by side are one stretch, which ends with the samples and takes two numbers: with block 0 alone, all of them.
+  module _ (alone : length file ≡ blockSize) (some-samples : 0 < headingIn file .len) where
+    nothing-known : (i : ℕ) → knownAt file i ≡ false
+    unfolding goodIn
+    nothing-known i = ap (λ (b : Bool). b && goodBlock k (countIn (bytesFor (headingIn file)) k) (blockIn k file)) (ne-eqb (length (blockIn k file)) blockSize (λ e. omega (arith, there-room k file e, alone)))
+      where
+        k : ℕ
+        k = i * headingIn file .unit / payloadMost + 1
+
+    pub one-stretch : stretchesOf file ≡ record { first = 0; count = headingIn file .len } ∷ []
+    unfolding stretchesOf stretchesIn joined
+    one-stretch = ap (stretchesIn (knownAt file) 0) (sym (add-zero (headingIn file .len))) ∙ all-unknown (knownAt file) 0 0 (headingIn file .len) some-samples (λ i l. nothing-known (0 + i))
+
+    pub two-numbers : listNeed file ≡ 2
+    two-numbers = ap (λ (ss : List Stretch). 2 * length ss) one-stretch
 
 -- ---- two files
 -- block 0 is looked at through its 512 bytes alone

@@ -198,7 +198,7 @@ module _ (f : List ℕ) (p x : ℕ) (inside-file : p < length f) where
           cut = omega (arith, l, place)
       go (no l) = ap (take blockSize) (drop-set-lt (blockSize * k) f p x (omega (arith, l, place, eqb-false k changed e, mod-lt p {m = blockSize} (omega arith))))
 
-  changed-agrees : (changed ≡ 0 → ⊥) → AgreeOutside (λ k. eqb k changed) (set f p x) f
+  pub changed-agrees : (changed ≡ 0 → ⊥) → AgreeOutside (λ k. eqb k changed) (set f p x) f
   changed-agrees h = record { head = ne-eqb 0 changed (λ z. h (sym z)); blocks = other-blocks }
 
   this-changed : blockIn changed (set f p x) ≡ set (blockIn changed f) (p % blockSize) x

@@ -12,6 +12,7 @@ use Rattle.rules.specs.Block.{blockSize}
 use Rattle.rules.specs.Refusal.{Store, Lent, mostSamples, lentShort}
 use Rattle.rules.specs.Shelf.{Heading, blocksFor, bytesFor, fileLen, headingIn, headTest, goodBlocks, fileTest}
 use Rattle.rules.specs.ShelfCalls.{capacityWrong, storeIn, storeShort, readRefusal}
+use Rattle.shelf_read.specs.Read.{fileRows}
 use Rattle.rules.proofs.Refusal.{row-passed, neither}
 use Rattle.rules.proofs.ShelfHead.{heading-headed}
 
@@ -40,33 +41,35 @@ module _ (file : List ℕ) where
 pub short-is : (capacity : ℕ) (lent : Lent) (h : Heading) {st : Store} → st ≡ storeIn capacity h → {z : Bool} → z ≡ (ltb (st .capacity) (st .len) || lentShort st lent) → z ≡ storeShort capacity lent h
 short-is capacity lent h e m = m ∙ ap (λ (x : Store). ltb (x .capacity) (x .len) || lentShort x lent) e
 
--- ---- the rows of a reading
+-- ---- the rows of a file: 1, that of the file, and 15
 pub capacity-right : (capacity : ℕ) → capacityWrong capacity ≡ false → (1 ≤ capacity) × (capacity ≤ mostSamples)
 capacity-right capacity e =
     let t = neither (eqb capacity 0) (ltb mostSamples capacity) .0 e in
     (omega (arith, eqb-false capacity 0 (t .0)), ltb-false mostSamples capacity (t .1))
 
+module _ (number : ℕ) (wrong good short : Bool) where
+  pub row-1 : wrong ≡ true → 1 ≡ fileRows number wrong good short
+  row-1 e = rw e
+
+  module _ (e : wrong ≡ false) where
+    pub row-file : not good ≡ true → number ≡ fileRows number wrong good short
+    row-file k = rw (e, not-true good k)
+
+    pub row-room : not good ≡ false → {r : ℕ} → r ≡ cond short 15 0 → r ≡ fileRows number wrong good short
+    row-room k d = rw (e, not-false good k) d
+
+  -- what no row refuses
+  pub none-refuses : 0 < number → fileRows number wrong good short ≡ 0 → (wrong ≡ false) × (good ≡ true) × (short ≡ false)
+  none-refuses h e =
+      let t1 = row-passed 1 (cond (not good) number (cond short 15 0)) wrong (omega arith) .0 e in
+      let t2 = row-passed number (cond short 15 0) (not good) h .0 (t1 .1) in
+      let t3 = row-passed 15 0 short (omega arith) .0 (t2 .1) in
+      (t1 .0, not-false good (t2 .0), t3 .0)
+
+-- ---- those of a reading
 module _ (capacity : ℕ) (lent : Lent) (file : List ℕ) where
   abbrev h : Heading
   h = headingIn file
-
-  pub row-1 : {x : Bool} → x ≡ capacityWrong capacity → x ≡ true → 1 ≡ readRefusal capacity lent file
-  row-1 e f = rw (sym e ∙ f)
-
-  module _ {x : Bool} (e : x ≡ capacityWrong capacity) (f : x ≡ false) where
-    pub capacity-most : capacity ≤ mostSamples
-    capacity-most = capacity-right capacity (sym e ∙ f) .1
-
-    pub row-16 : {y : Bool} → y ≡ fileTest file → not y ≡ true → 16 ≡ readRefusal capacity lent file
-    row-16 {y} g k = rw (sym e ∙ f, sym g ∙ not-true y k)
-
-    module _ {y : Bool} (g : y ≡ fileTest file) (k : not y ≡ false) where
-      module _ {z : Bool} (m : z ≡ storeShort capacity lent h) where
-        pub row-15 : z ≡ true → 15 ≡ readRefusal capacity lent file
-        row-15 t = rw (sym e ∙ f, sym g ∙ not-false y k, sym m ∙ t)
-
-        pub no-row : z ≡ false → 0 ≡ readRefusal capacity lent file
-        no-row t = rw (sym e ∙ f, sym g ∙ not-false y k, sym m ∙ t)
 
   -- what no row refuses
   pub record LetIn : Type 0 where
@@ -78,9 +81,7 @@ module _ (capacity : ℕ) (lent : Lent) (file : List ℕ) where
 
   pub let-in : readRefusal capacity lent file ≡ 0 → LetIn
   let-in e =
-      let t1 = row-passed 1 (cond (not (fileTest file)) 16 (cond (storeShort capacity lent h) 15 0)) (capacityWrong capacity) (omega arith) .0 e in
-      let t2 = row-passed 16 (cond (storeShort capacity lent h) 15 0) (not (fileTest file)) (omega arith) .0 (t1 .1) in
-      let t3 = row-passed 15 0 (storeShort capacity lent h) (omega arith) .0 (t2 .1) in
-      let t4 = neither (ltb capacity (h .len)) (lentShort (storeIn capacity h) lent) .0 (t3 .0) in
-      let c = capacity-right capacity (t1 .0) in
-      record { capacity-least = c .0; capacity-most = c .1; passed = not-false _ (t2 .0); len-most = ltb-false capacity (h .len) (t4 .0); enough = t4 .1 }
+      let t = none-refuses 16 (capacityWrong capacity) (fileTest file) (storeShort capacity lent h) (omega arith) e in
+      let u = neither (ltb capacity (h .len)) (lentShort (storeIn capacity h) lent) .0 (t .2) in
+      let c = capacity-right capacity (t .0) in
+      record { capacity-least = c .0; capacity-most = c .1; passed = t .1; len-most = ltb-false capacity (h .len) (u .0); enough = u .1 }

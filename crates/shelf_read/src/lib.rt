@@ -17,19 +17,19 @@ use shelf_head::heading_in;
 use store::copy_at;
 use store::rebuild_levels;
 ghost use mathlib.Core.Path.{_≡_};
-ghost use mathlib.Core.Bool.{_||_};
+ghost use mathlib.Core.Bool.{true, _||_};
 ghost use Prim.Native.Nat.{_*_, _≤_};
 ghost use lib.Dec.{ltb};
 ghost use lib.ListN.{length, take};
 ghost use lib.Seq.{paste};
-ghost use Rattle.rules.specs.Refusal.{lentShort};
-ghost use Rattle.rules.specs.Shelf.{blocksFor, payloads, goodBlocks, fileTest};
-ghost use Rattle.rules.specs.ShelfCalls.{capacityWrong, storeIn, readRefusal};
+ghost use Rattle.rules.specs.Refusal.{mostSamples, lentShort};
+ghost use Rattle.rules.specs.Shelf.{blocksFor, headingIn, payloads, headTest, goodBlocks, fileTest};
+ghost use Rattle.rules.specs.ShelfCalls.{capacityWrong, storeIn, storeShort};
 ghost use Rattle.store.specs.Stored.{Stored};
 ghost use Rattle.node.specs.Memory.{levelOf};
 ghost use Rattle.capture.specs.Record.{Small, storeOf, lentOf};
 ghost use Rattle.shelf_head.specs.Head.{headingAs, BlocksRoom};
-ghost use Rattle.shelf_read.specs.Read.{TakeRoom, bytesBehind, Reads};
+ghost use Rattle.shelf_read.specs.Read.{roomRefusal, fileRows, TakeRoom, bytesBehind, Reads};
 
 // Whether these are the good blocks of n bytes, from number 1 on.
 fn blocks_good(blocks: &[u8], n: usize) -> bool
@@ -107,7 +107,7 @@ pub fn new_store(h: Heading, capacity: usize) -> Capture
 }
 
 // The new store does not hold its samples, or memory is short for it.
-pub fn store_short<'a>(
+fn store_short<'a>(
     c: Capture,
     samples: &[u8],
     l1: &'a [Mask],
@@ -124,8 +124,8 @@ pub fn store_short<'a>(
     memory_short(c, samples, l1, l2, l3, l4)
 }
 
-// The number of the first row that refuses a reading, or 0. Nothing is written before this is settled.
-fn read_refusal<'a>(
+// 15 where no store of this capacity and this memory holds what block 0 says, or 0.
+fn room_refusal<'a>(
     capacity: usize,
     file: &[u8],
     samples: &[u8],
@@ -134,19 +134,39 @@ fn read_refusal<'a>(
     l3: &'a [Mask],
     l4: &'a [Mask],
 ) -> u8
-    ensures { λ r. ⌜ r ≡ readRefusal capacity (lentOf (now (samples .entry)) (levelOf (now (l1 .entry)) (now (l2 .entry)) (now (l3 .entry)) (now (l4 .entry)))) (now (file .entry)) ⌝ }
+    requires { ⌜ (capacity ≤ mostSamples) × (headTest (now file) ≡ true) ⌝ }
+    ensures { λ r. ⌜ r ≡ roomRefusal capacity (lentOf (now (samples .entry)) (levelOf (now (l1 .entry)) (now (l2 .entry)) (now (l3 .entry)) (now (l4 .entry)))) (headingIn (now (file .entry))) ⌝ }
 {
-    if capacity_wrong(capacity) {
-        return 1;
-    }
-    if !file_good(file) {
-        return 16;
-    }
     let c = new_store(heading_in(file), capacity);
     if store_short(c, samples, l1, l2, l3, l4) {
         return 15;
     }
     0
+}
+
+// The number of the first row that refuses a new store for a file, or 0: 1, the file's own number where it is not good, 15.
+// Nothing is written before this is settled.
+pub fn file_refusal<'a>(
+    capacity: usize,
+    good: bool,
+    number: u8,
+    file: &[u8],
+    samples: &[u8],
+    l1: &'a [Mask],
+    l2: &'a [Mask],
+    l3: &'a [Mask],
+    l4: &'a [Mask],
+) -> u8
+    requires { ⌜ (good ≡ true → headTest (now file) ≡ true) ⌝ }
+    ensures { λ r. ⌜ r ≡ fileRows number (capacityWrong capacity) good (storeShort capacity (lentOf (now (samples .entry)) (levelOf (now (l1 .entry)) (now (l2 .entry)) (now (l3 .entry)) (now (l4 .entry)))) (headingIn (now (file .entry)))) ⌝ }
+{
+    if capacity_wrong(capacity) {
+        return 1;
+    }
+    if !good {
+        return number;
+    }
+    room_refusal(capacity, file, samples, l1, l2, l3, l4)
 }
 
 // The samples of a good file go to the start of a new store's memory, and its levels are built.
@@ -179,8 +199,10 @@ pub fn read(
 ) -> Started
     ensures { λ r. ⌜ Reads capacity (now (file .entry)) (now (samples .entry)) (levelOf (now (l1 .entry)) (now (l2 .entry)) (now (l3 .entry)) (now (l4 .entry))) r (now (samples .exit)) (levelOf (now (l1 .exit)) (now (l2 .exit)) (now (l3 .exit)) (now (l4 .exit))) ⌝ }
 {
-    let wrong = read_refusal(
+    let wrong = file_refusal(
         capacity,
+        file_good(file),
+        16,
         file,
         &samples[..],
         &l1[..],

@@ -7,14 +7,14 @@ use native.Mathlib.Omega.{arith}
 use lib.Dec.{ltb}
 use lib.ListN.{length, take, drop, length-append, length-drop}
 use lib.Seq.{take-all, take-at}
-use borrow.Author.Tests.{ltb-false, not-true, not-false}
+use borrow.Author.Tests.{ltb-false}
 use Rattle.rules.specs.Answer.{given}
 use Rattle.rules.specs.Refusal.{Store, Lent, lentShort}
 use Rattle.rules.specs.Shelf.{Heading, headingOf, headingIn, headTest}
 use Rattle.rules.specs.ShelfCalls.{capacityWrong, storeIn, storeShort, writtenTo}
 use Rattle.rules.specs.Stretches.{pairsOf}
 use Rattle.rules.specs.Salvage as rule
-use Rattle.rules.proofs.Refusal.{row-passed, neither}
+use Rattle.rules.proofs.Refusal.{neither}
 use Rattle.rules.proofs.ShelfHead.{heading-headed}
 use Rattle.rules.proofs.Stretches.{pairs-length}
 use Rattle.store.specs.Room.{StoreRoom}
@@ -24,7 +24,7 @@ use Rattle.capture.specs.declared.Capture.{Capture}
 use Rattle.capture.specs.Record.{storeOf, lentOf}
 use Rattle.capture.proofs.Answer.{refused-is}
 use Rattle.capture.proofs.Calls.{unrefused-none}
-use Rattle.shelf_read.proofs.Tested.{capacity-right}
+use Rattle.shelf_read.proofs.Tested.{capacity-right, none-refuses}
 use Rattle.shelf_read.proofs.Taken.{new-room}
 use Rattle.shelf_stretches.specs.declared.Found.{Found}
 use Rattle.shelf_stretches.specs.declared.Finding.{Finding}
@@ -39,20 +39,6 @@ module _ (capacity : ℕ) (lent : Lent) (file : List ℕ) where
   abbrev h : Heading
   h = headingIn file
 
-  pub row-1 : {x : Bool} → x ≡ capacityWrong capacity → x ≡ true → 1 ≡ openRefusal capacity lent file
-  row-1 e f = rw (sym e ∙ f)
-
-  module _ {x : Bool} (e : x ≡ capacityWrong capacity) (f : x ≡ false) where
-    pub row-17 : {y : Bool} → y ≡ headTest file → not y ≡ true → 17 ≡ openRefusal capacity lent file
-    row-17 {y} g k = rw (sym e ∙ f, sym g ∙ not-true y k)
-
-    module _ {y : Bool} (g : y ≡ headTest file) (k : not y ≡ false) {z : Bool} (m : z ≡ storeShort capacity lent h) where
-      pub row-15 : z ≡ true → 15 ≡ openRefusal capacity lent file
-      row-15 t = rw (sym e ∙ f, sym g ∙ not-false y k, sym m ∙ t)
-
-      pub no-row : z ≡ false → 0 ≡ openRefusal capacity lent file
-      no-row t = rw (sym e ∙ f, sym g ∙ not-false y k, sym m ∙ t)
-
   -- what none of them refuses
   pub record LetIn : Type 0 where
     pub right : capacityWrong capacity ≡ false
@@ -61,10 +47,8 @@ module _ (capacity : ℕ) (lent : Lent) (file : List ℕ) where
 
   pub let-in : openRefusal capacity lent file ≡ 0 → LetIn
   let-in e =
-      let t1 = row-passed 1 (cond (not (headTest file)) 17 (cond (storeShort capacity lent h) 15 0)) (capacityWrong capacity) (omega arith) .0 e in
-      let t2 = row-passed 17 (cond (storeShort capacity lent h) 15 0) (not (headTest file)) (omega arith) .0 (t1 .1) in
-      let t3 = row-passed 15 0 (storeShort capacity lent h) (omega arith) .0 (t2 .1) in
-      record { right = t1 .0; head = not-false _ (t2 .0); enough = t3 .0 }
+      let t = none-refuses 17 (capacityWrong capacity) (headTest file) (storeShort capacity lent h) (omega arith) e in
+      record { right = t .0; head = t .1; enough = t .2 }
 
   -- the whole: where one of them refuses it is they, else the list's
   pub by-list : (list : ℕ) → LetIn → listRefusal list file ≡ rule.salvageRefusal capacity lent list file
@@ -84,7 +68,7 @@ module _ (capacity : ℕ) (lent : Lent) (file : List ℕ) where
 
 -- a store that is let in
 module _ (capacity : ℕ) (file samples : List ℕ) (levels : ℕ → List ℕ) (t : LetIn capacity (lentOf samples levels) file) where
-  parts : (headingIn file .len ≤ capacity) × (lentShort (storeIn capacity (headingIn file)) (lentOf samples levels) ≡ false)
+  pub parts : (headingIn file .len ≤ capacity) × (lentShort (storeIn capacity (headingIn file)) (lentOf samples levels) ≡ false)
   parts =
       let u = neither (ltb capacity (headingIn file .len)) (lentShort (storeIn capacity (headingIn file)) (lentOf samples levels)) .0 (t .enough) in
       (ltb-false capacity (headingIn file .len) (u .0), u .1)

@@ -1,6 +1,6 @@
 -- What salvaging answers and leaves. 02: CR 8.
 use mathlib.Core.Path.{_≡_}
-use mathlib.Core.Bool.{true, not}
+use mathlib.Core.Bool.{true}
 use mathlib.Core.List.{List, [], _∷_, _++_}
 use Prim.Native.Nat.{ℕ, _+_, _*_, _/_, _%_, _≤_, _<_}
 use lib.Dec.{ltb}
@@ -16,6 +16,7 @@ use Rattle.rules.specs.Stretches.{Stretch, apart, pairsOf, pairsIn}
 use Rattle.rules.specs.Salvage as rule
 use Rattle.store.specs.Stored.{Stored}
 use Rattle.capture.specs.Record.{storeOf, lentOf}
+use Rattle.shelf_read.specs.Read.{fileRows}
 use Rattle.shelf_salvage.specs.declared.Salvaged.{Salvaged}
 use Rattle.shelf_salvage.specs.declared.SalvageResult.{SalvageResult}
 use Rattle.shelf_salvage.specs.declared.SalvageResult.the-variants as salvage
@@ -65,11 +66,7 @@ pub record Listed (file : List ℕ) (stretches : ℕ) (list : List ℕ) : Type 0
 -- ---- the call
 -- the rows ahead of the stretches
 abbrev pub openRefusal : ℕ → Lent → List ℕ → ℕ
-openRefusal capacity lent file = firstOf (
-    record { number = 1; holds = capacityWrong capacity }
-    ∷ record { number = 17; holds = not (headTest file) }
-    ∷ record { number = 15; holds = storeShort capacity lent (headingIn file) }
-    ∷ [])
+openRefusal capacity lent file = fileRows 17 (capacityWrong capacity) (headTest file) (storeShort capacity lent (headingIn file))
 
 -- and the row that they decide: "a list too short for the stretches"
 abbrev pub listRefusal : ℕ → List ℕ → ℕ

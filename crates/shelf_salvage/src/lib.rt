@@ -9,10 +9,9 @@ use shelf_block::put_at;
 use shelf_head::blocks_for;
 use shelf_head::head_good;
 use shelf_head::heading_in;
-use shelf_read::capacity_wrong;
+use shelf_read::file_refusal;
 use shelf_read::gather;
 use shelf_read::new_store;
-use shelf_read::store_short;
 use shelf_stretches::Finding;
 use shelf_stretches::find;
 use store::rebuild_levels;
@@ -26,8 +25,8 @@ ghost use Rattle.rules.specs.Salvage.{salvagedBytes};
 ghost use Rattle.store.specs.Room.{StoreRoom};
 ghost use Rattle.store.specs.Stored.{Stored};
 ghost use Rattle.node.specs.Memory.{levelOf};
-ghost use Rattle.capture.specs.Record.{storeOf, lentOf};
-ghost use Rattle.shelf_salvage.specs.Salvage.{Gathers, blanked, BlankRoom, Opened, Listed, openRefusal, listRefusal, Leaves, Salvages};
+ghost use Rattle.capture.specs.Record.{storeOf};
+ghost use Rattle.shelf_salvage.specs.Salvage.{Gathers, blanked, BlankRoom, Opened, Listed, listRefusal, Leaves, Salvages};
 
 // The samples of the blocks that are wholly there go to the start of sample memory; there are n bytes of samples.
 fn gather_there(samples: &mut [u8], file: &[u8], n: usize)
@@ -79,31 +78,6 @@ fn fill_store(
 {
     fill_samples(c, file, list, stretches, samples);
     rebuild_levels(&samples[..], l1, l2, l3, l4, c.unitsize, 0, c.len);
-}
-
-// The number of the first row ahead of the stretches that refuses, or 0. Nothing is written before this is settled.
-fn open_refusal<'a>(
-    capacity: usize,
-    file: &[u8],
-    samples: &[u8],
-    l1: &'a [Mask],
-    l2: &'a [Mask],
-    l3: &'a [Mask],
-    l4: &'a [Mask],
-) -> u8
-    ensures { λ r. ⌜ r ≡ openRefusal capacity (lentOf (now (samples .entry)) (levelOf (now (l1 .entry)) (now (l2 .entry)) (now (l3 .entry)) (now (l4 .entry)))) (now (file .entry)) ⌝ }
-{
-    if capacity_wrong(capacity) {
-        return 1;
-    }
-    if !head_good(file) {
-        return 17;
-    }
-    let c = new_store(heading_in(file), capacity);
-    if store_short(c, samples, l1, l2, l3, l4) {
-        return 15;
-    }
-    0
 }
 
 pub struct Salvaged {
@@ -158,8 +132,10 @@ pub fn salvage(
 ) -> SalvageResult
     ensures { λ r. ⌜ Salvages capacity (now (file .entry)) (now (samples .entry)) (levelOf (now (l1 .entry)) (now (l2 .entry)) (now (l3 .entry)) (now (l4 .entry))) (now (stretches .entry)) r (now (samples .exit)) (levelOf (now (l1 .exit)) (now (l2 .exit)) (now (l3 .exit)) (now (l4 .exit))) (now (stretches .exit)) ⌝ }
 {
-    let wrong = open_refusal(
+    let wrong = file_refusal(
         capacity,
+        head_good(file),
+        17,
         file,
         &samples[..],
         &l1[..],

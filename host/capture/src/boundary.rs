@@ -253,6 +253,24 @@ pub fn read(capacity: usize, file: &[u8], memory: &mut Memory) -> Result<Record,
     answered(code).map(|_| record)
 }
 
+/// The record of what was salvaged, with the number of stretches, which stand at the list's start, and that of samples
+/// replaced.
+pub fn salvage(
+    capacity: usize,
+    file: &[u8],
+    memory: &mut Memory,
+    stretches: &mut [usize],
+) -> Result<(Record, usize, usize), Refusal> {
+    let (room, mut record, mut counts) = (stretches.len(), [0; 5], [0; 2]);
+    let code = call!(
+        lc_salvage,
+        (capacity, file.as_ptr(), file.len()),
+        memory.as_mut_ptr,
+        (stretches.as_mut_ptr(), room, &mut record, &mut counts)
+    );
+    answered(code).map(|_| (record, counts[out::SALVAGED_STRETCHES], counts[out::SALVAGED_REPLACED]))
+}
+
 pub fn mill_extent(record: &Record, memory: &Memory) -> Result<Extent, Refusal> {
     let (mut first, mut end, mut marked) = (0, 0, 0);
     let code = call!(lc_mill_extent, (record), memory.as_ptr, (&mut first, &mut end, &mut marked));

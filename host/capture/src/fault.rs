@@ -14,7 +14,7 @@ const SAID: usize = 18;
 /// The first thing that is wrong with a file, block by block, and in a block field by field.
 ///
 /// It explains [`Refusal::File`](crate::Refusal::File) and decides nothing: there is one exactly where the library refuses
-/// with that.
+/// with that. Where it is block 0 that is wrong, it explains [`Refusal::Block0`](crate::Refusal::Block0) too.
 ///
 /// ```
 /// use capture::{Capture, Fault, Refusal, Wrong};

@@ -57,8 +57,10 @@ impl Said {
 pub enum ReadError {
     /// The stream failed.
     Stream(io::Error),
-    /// What it gave was refused; with [`Refusal::File`], what is wrong with it.
+    /// What it gave was refused; with [`Refusal::File`] and [`Refusal::Block0`], what is wrong with it.
     Refused(Refusal, Option<Fault>),
+    /// Block 0 could not be read, which counts as one that is missing: [`Refusal::Block0`].
+    Block0(io::Error),
 }
 
 impl Capture {
@@ -134,10 +136,7 @@ impl Capture {
     /// ```
     pub fn read(file: &[u8], capacity: Option<usize>) -> Result<Capture, Refusal> {
         in_range(capacity)?;
-        let said = Said::of(file)?;
-        // A capture of no samples has room for one all the same: there is none without room.
-        let capacity = capacity.unwrap_or(said.len.max(1));
-        let mut memory = Memory::new(Needs::of(8 * said.unit, capacity)?);
+        let (capacity, mut memory) = room(&Said::of(file)?, capacity)?;
         let record = boundary::read(capacity, file, &mut memory)?;
         Ok(Capture { record, memory })
     }
@@ -180,8 +179,15 @@ impl Capture {
 }
 
 /// Refuses a capacity as the library does.
-fn in_range(capacity: Option<usize>) -> Result<(), Refusal> {
+pub(crate) fn in_range(capacity: Option<usize>) -> Result<(), Refusal> {
     capacity.map_or(Ok(()), |capacity| Needs::of(0, capacity).map(|_| ()))
+}
+
+/// The capacity that is asked for, or the smallest that holds the file, and the memory that it takes.
+pub(crate) fn room(said: &Said, capacity: Option<usize>) -> Result<(usize, Memory), Refusal> {
+    // A capture of no samples has room for one all the same: there is none without room.
+    let capacity = capacity.unwrap_or(said.len.max(1));
+    Ok((capacity, Memory::new(Needs::of(8 * said.unit, capacity)?)))
 }
 
 /// Reads until there are so many bytes, or no more.
@@ -210,6 +216,7 @@ impl fmt::Display for ReadError {
             ReadError::Stream(error) => write!(f, "{error}"),
             ReadError::Refused(refusal, None) => write!(f, "{refusal}"),
             ReadError::Refused(refusal, Some(fault)) => write!(f, "{refusal}: {fault}"),
+            ReadError::Block0(error) => write!(f, "{}: block 0: {error}", Refusal::Block0),
         }
     }
 }
@@ -217,7 +224,7 @@ impl fmt::Display for ReadError {
 impl Error for ReadError {
     fn source(&self) -> Option<&(dyn Error + 'static)> {
         match self {
-            ReadError::Stream(error) => Some(error),
+            ReadError::Stream(error) | ReadError::Block0(error) => Some(error),
             ReadError::Refused(refusal, _) => Some(refusal),
         }
     }

@@ -31,7 +31,8 @@
 //! ([`Counted`]). [`Capture::density`] says how many changes a stretch has, and [`Capture::encoder`] how far an encoder has
 //! turned.
 //!
-//! [`Capture::write`] gives a capture's file, and [`Capture::read`] the capture again, mark and all.
+//! [`Capture::write`] gives a capture's file, and [`Capture::read`] the capture again, mark and all. [`Capture::salvage`] reads
+//! what is good of a damaged one, and says which samples are unknown.
 //!
 //! [`Capture::mill`] gives a [`Mill`], a reader that sees some lines only and counts places from the mark.
 //!
@@ -53,6 +54,7 @@ mod mill;
 mod mode;
 mod recorder;
 mod refusal;
+mod salvage;
 mod settings;
 
 pub use answers::{Burst, Counted, Encoder, Extent, MillNode, Node, Pixel, View, WrongNode};
@@ -64,6 +66,7 @@ pub use memory::Needs;
 pub use mill::Mill;
 pub use recorder::{Pushed, Recorder};
 pub use refusal::Refusal;
+pub use salvage::{Salvaged, Stretch};
 pub use settings::{Condition, Settings, Term, Wish};
 
 /// Sixteen lines as bits, bit k for line k: a sample, or a mask of chosen lines.

@@ -53,10 +53,13 @@ pub enum Refusal {
     FileRoom,
     /// 16: no capture has such a file. [`Fault::of`](crate::Fault::of) says what is wrong with it.
     File,
+    /// 17: no capture's file has such a block 0, so that nothing of it can be salvaged. [`Fault::of`](crate::Fault::of) says
+    /// what is wrong with the block.
+    Block0,
 }
 
 /// Each refusal at its number less 1, with its words.
-const WORDS: [(Refusal, &str); 16] = [
+const WORDS: [(Refusal, &str); 17] = [
     (Refusal::Capacity, "a capacity is 1 to 67108864 samples"),
     (Refusal::Memory, "lent memory is too short"),
     (Refusal::Line, "a trigger's lines are 0 to 15"),
@@ -76,10 +79,11 @@ const WORDS: [(Refusal, &str); 16] = [
     (Refusal::EncoderLines, "an encoder's two lines are 0 to 15, and not the same"),
     (Refusal::FileRoom, "the file does not fit in the output, or its samples in the capacity"),
     (Refusal::File, "no capture has this file"),
+    (Refusal::Block0, "no capture's file begins like this"),
 ];
 
 impl Refusal {
-    /// The refusal's number in the library's header, 1 to 16.
+    /// The refusal's number in the library's header, 1 to 17.
     pub fn number(self) -> u32 {
         self as u32 + 1
     }
@@ -109,7 +113,7 @@ mod tests {
             assert_eq!(refusal as usize, index);
             assert_eq!(Refusal::of_number(refusal.number()), Some(refusal));
         }
-        for number in [0, 17, 100, u32::MAX] {
+        for number in [0, 18, 100, u32::MAX] {
             assert_eq!(Refusal::of_number(number), None);
         }
     }

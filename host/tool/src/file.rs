@@ -5,10 +5,16 @@ use crate::failure::{bad, Failure};
 use crate::note;
 use crate::number;
 use crate::source::Source;
-use capture::{Capture, ReadError, MOST_SAMPLES};
+use capture::{Capture, ReadError, Refusal, MOST_SAMPLES};
 
 /// Bytes of raw samples that are read at once, whole samples of either unit.
 const PART: usize = 1 << 20;
+
+/// The error of a disk that cannot give what is asked for.
+const EIO: i32 = 5;
+
+/// What helps where a file is damaged.
+const SALVAGE: &str = "; 'logic-capture salvage' reads what is good of it";
 
 /// Loads the file that a command is given: a shelf file, or raw samples where there is --unit.
 pub fn load(command: &str, args: &Args) -> Result<Capture, Failure> {
@@ -22,13 +28,19 @@ pub fn load(command: &str, args: &Args) -> Result<Capture, Failure> {
 }
 
 fn load_shelf(source: &mut Source, for_mill: bool) -> Result<Capture, Failure> {
-    Capture::read_from(&mut *source, None).map_err(|error| match error {
-        // What is wrong with a file may tell of every line.
-        ReadError::Refused(refusal, _) if for_mill => source.bad(&refusal.to_string()),
-        ReadError::Refused(_, Some(fault)) if fault.block == 0 => {
-            source.bad(&format!("{error}; for raw samples add --unit 1 or --unit 2"))
-        }
-        _ => source.bad(&error.to_string()),
+    Capture::read_from(&mut *source, None).map_err(|error| {
+        let hint = match &error {
+            // What is wrong with a file may tell of every line.
+            ReadError::Refused(refusal, _) if for_mill => return source.bad(&refusal.to_string()),
+            _ if for_mill => "",
+            ReadError::Refused(_, Some(fault)) if fault.block == 0 => {
+                "; for raw samples add --unit 1 or --unit 2"
+            }
+            ReadError::Refused(Refusal::File, _) => SALVAGE,
+            ReadError::Stream(error) if error.raw_os_error() == Some(EIO) => SALVAGE,
+            _ => "",
+        };
+        source.bad(&format!("{error}{hint}"))
     })
 }
 
@@ -78,7 +90,7 @@ mod tests {
 
         let refused = "test: refused, 16: no capture has this file";
         let block = "block 2: the file ends after 511 of its 512 bytes";
-        assert_eq!(said(&good[..1535], false), bad(format!("{refused}: {block}")));
+        assert_eq!(said(&good[..1535], false), bad(format!("{refused}: {block}{SALVAGE}")));
         assert_eq!(said(&good[..1535], true), bad(refused));
         let block = "block 0: the file ends after 3 of its 512 bytes";
         let raw = "for raw samples add --unit 1 or --unit 2";

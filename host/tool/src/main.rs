@@ -19,6 +19,7 @@ mod plain;
 mod progress;
 mod reader;
 mod source;
+mod stretches;
 mod svg;
 mod text;
 mod trigger;

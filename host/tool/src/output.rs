@@ -47,9 +47,68 @@ impl Output {
         let written = match self.to {
             To::Standard => return Ok(write(out)?),
             To::Itself(file) => written(&file, write),
-            To::Beside(beside) => written(&beside.file, write).and_then(|()| beside.put()),
+            To::Beside(beside) => beside.write(write).and_then(|()| beside.put()),
         };
         written.map_err(|error| failed(&self.path, &error))
+    }
+}
+
+/// A plain file, and a list that tells of it, beside it under its name with an ending.
+///
+/// Both are whole and on the disk before either is moved into its place, and the old list is moved aside first: whatever
+/// happens, no list stands beside a file that it does not tell of.
+pub struct Listed {
+    file: Target,
+    list: Target,
+}
+
+/// A file to be written beside its place, and its name.
+struct Target {
+    path: PathBuf,
+    beside: Beside,
+}
+
+impl Listed {
+    pub fn open(path: &OsStr, ending: &str) -> Result<Listed, Failure> {
+        let mut list = path.to_os_string();
+        list.push(ending);
+        Ok(Listed { file: Target::open(path)?, list: Target::open(&list)? })
+    }
+
+    pub fn write(
+        self,
+        file: impl FnOnce(&mut dyn Write) -> io::Result<()>,
+        list: impl FnOnce(&mut dyn Write) -> io::Result<()>,
+    ) -> Result<(), Failure> {
+        self.file.said(self.file.beside.write(file))?;
+        self.list.said(self.list.beside.write(list))?;
+        let aside = self.list.said(self.list.beside.set_aside())?;
+        if let Err(failure) = self.file.put() {
+            // The old file is still there. Where its list cannot be put back, there is one failure to tell all the same.
+            let _ = aside.map(Beside::put);
+            return Err(failure);
+        }
+        self.list.put()
+    }
+}
+
+impl Target {
+    fn open(path: &OsStr) -> Result<Target, Failure> {
+        let path = PathBuf::from(path);
+        match To::open(&path) {
+            Ok(To::Beside(beside)) => Ok(Target { path, beside }),
+            Ok(_) => Err(bad(format!("{}: not a plain file", path.display()))),
+            Err(error) => Err(failed(&path, &error)),
+        }
+    }
+
+    fn put(self) -> Result<(), Failure> {
+        self.beside.put().map_err(|error| failed(&self.path, &error))
+    }
+
+    /// What was done, or the failure with its name.
+    fn said<T>(&self, done: io::Result<T>) -> Result<T, Failure> {
+        done.map_err(|error| failed(&self.path, &error))
     }
 }
 
@@ -109,16 +168,37 @@ impl Beside {
         unreachable!("a folder has fewer files than there are numbers")
     }
 
-    /// Moves it into place, once it is on the disk.
+    /// Writes it, from the beginning, and has it on the disk.
+    fn write(&self, write: impl FnOnce(&mut dyn Write) -> io::Result<()>) -> io::Result<()> {
+        written(&self.file, write)?;
+        self.file.sync_all()
+    }
+
+    /// Moves what stands in its place aside, if anything does: from there it can be put back, or is taken away.
+    fn set_aside(&self) -> io::Result<Option<Beside>> {
+        let aside = Beside::new(self.place.clone())?;
+        match move_to(&self.place, &aside.path) {
+            Ok(()) => Ok(Some(aside)),
+            Err(error) if error.kind() == io::ErrorKind::NotFound => Ok(None),
+            Err(error) => Err(error),
+        }
+    }
+
+    /// Moves it into place.
     fn put(mut self) -> io::Result<()> {
-        self.file.sync_all()?;
-        fs::rename(&self.path, &self.place)?;
+        move_to(&self.path, &self.place)?;
         self.moved = true;
-        // The move itself. Not every folder can be synced; the file is whole either way.
-        let folder = self.place.parent().filter(|folder| !folder.as_os_str().is_empty());
-        let _ = File::open(folder.unwrap_or(Path::new("."))).and_then(|folder| folder.sync_all());
         Ok(())
     }
+}
+
+/// Moves a file within its folder.
+fn move_to(from: &Path, to: &Path) -> io::Result<()> {
+    fs::rename(from, to)?;
+    // The move itself. Not every folder can be synced; the file is whole either way.
+    let folder = to.parent().filter(|folder| !folder.as_os_str().is_empty());
+    let _ = File::open(folder.unwrap_or(Path::new("."))).and_then(|folder| folder.sync_all());
+    Ok(())
 }
 
 impl Drop for Beside {
@@ -127,5 +207,38 @@ impl Drop for Beside {
             // Where that fails a file is left over: nothing is lost.
             let _ = fs::remove_file(&self.path);
         }
+    }
+}
+
+#[cfg(test)]
+mod tests {
+    use super::*;
+    use std::env;
+
+    #[test]
+    fn a_file_that_cannot_be_moved_leaves_the_old_list() {
+        let folder = env::temp_dir().join(format!("logic-capture-listed-{}", process::id()));
+        let _ = fs::remove_dir_all(&folder);
+        fs::create_dir(&folder).unwrap();
+        let (file, list) = (folder.join("a"), folder.join("a.list"));
+        fs::write(&list, "old").unwrap();
+        let written = |text: &'static [u8]| move |to: &mut dyn Write| to.write_all(text);
+
+        let output = Listed::open(file.as_os_str(), ".list").unwrap();
+        fs::create_dir(&file).unwrap();
+        let failure = output.write(written(b"file"), written(b"list")).unwrap_err();
+        assert_eq!(failure, bad(format!("{}: Is a directory (os error 21)", file.display())));
+        assert_eq!(fs::read(&list).unwrap(), b"old");
+        assert_eq!(fs::read_dir(&folder).unwrap().count(), 2);
+
+        fs::remove_dir(&file).unwrap();
+        let output = Listed::open(file.as_os_str(), ".list").unwrap();
+        output.write(written(b"file"), written(b"list")).unwrap();
+        assert_eq!(
+            (fs::read(&file).unwrap(), fs::read(&list).unwrap()),
+            (b"file".into(), b"list".into())
+        );
+        assert_eq!(fs::read_dir(&folder).unwrap().count(), 2);
+        fs::remove_dir_all(&folder).unwrap();
     }
 }

@@ -4,25 +4,31 @@ use crate::failure::{bad, Failure};
 use crate::interrupt;
 use std::ffi::OsStr;
 use std::fs::File;
-use std::io::{self, Read};
+use std::io::{self, Read, Seek, SeekFrom};
+use std::os::fd::AsFd;
+
+/// What is read, from a place on where it has places: a pipe has none.
+trait Bytes: Read + Seek {}
+
+impl<T: Read + Seek> Bytes for T {}
 
 /// Bytes, and the name under which errors speak of them.
 pub struct Source {
     pub name: String,
-    bytes: Box<dyn Read>,
+    bytes: Box<dyn Bytes>,
 }
 
 impl Source {
     /// The file, or standard input where it is `-`.
     pub fn open(file: &OsStr) -> Result<Source, Failure> {
-        if file == "-" {
-            return Ok(Source {
-                name: "standard input".into(),
-                bytes: Box::new(io::stdin().lock()),
-            });
-        }
-        let name = file.to_string_lossy().into_owned();
-        match File::open(file) {
+        let (name, opened) = if file == "-" {
+            // Standard input may be a file with places, too.
+            let input = io::stdin().as_fd().try_clone_to_owned();
+            ("standard input".into(), input.map(File::from))
+        } else {
+            (file.to_string_lossy().into_owned(), File::open(file))
+        };
+        match opened {
             Ok(file) => Ok(Source { name, bytes: Box::new(file) }),
             Err(error) => Err(bad(format!("{name}: {error}"))),
         }
@@ -66,5 +72,11 @@ impl Source {
 impl Read for Source {
     fn read(&mut self, buffer: &mut [u8]) -> io::Result<usize> {
         self.bytes.read(buffer)
+    }
+}
+
+impl Seek for Source {
+    fn seek(&mut self, to: SeekFrom) -> io::Result<u64> {
+        self.bytes.seek(to)
     }
 }

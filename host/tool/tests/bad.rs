@@ -35,6 +35,14 @@ fn what_is_wrong_is_said() {
             "check zeros",
             " check: zeros: refused, 16: no capture has this file: block 0: its payload count is 0, and 18 is due; for raw samples add --unit 1 or --unit 2",
         ),
+        (
+            "check /proc/self/mem",
+            " check: /proc/self/mem: Input/output error (os error 5); 'logic-capture salvage' reads what is good of it",
+        ),
+        (
+            "info --grant 0 /proc/self/mem",
+            " info: /proc/self/mem: Input/output error (os error 5)",
+        ),
         ("info --grant 0 zeros", " info: zeros: refused, 16: no capture has this file"),
         ("info --unit 0 a.bin", " info: --unit 0: a unit is 1 or 2 bytes a sample"),
         ("info --rate 0 a.shelf", " info: --rate 0: a rate is above 0"),
@@ -56,6 +64,28 @@ fn what_is_wrong_is_said() {
             "shelf . --encoder 16,3",
             " shelf: --encoder 16,3: refused, 14: an encoder's two lines are 0 to 15, and not the same",
         ),
+        ("salvage a.shelf", " salvage: -o FILE is missing; see --help"),
+        ("salvage -o b.shelf", " salvage: which file? - is standard input"),
+        ("salvage a.shelf -o -", " salvage: --output -: standard output is taken; name a file"),
+        ("salvage a.shelf -o .", " salvage: .: Is a directory (os error 21)"),
+        ("salvage a.shelf -o /dev/null", " salvage: /dev/null: not a plain file"),
+        (
+            "salvage a.shelf -o no/b.shelf",
+            " salvage: no/b.shelf: No such file or directory (os error 2)",
+        ),
+        (
+            "salvage nowhere -o b.shelf",
+            " salvage: nowhere: No such file or directory (os error 2)",
+        ),
+        (
+            "salvage . -o b.shelf",
+            " salvage: .: refused, 17: no capture's file begins like this: block 0: Is a directory (os error 21)",
+        ),
+        (
+            "salvage a.bin -o b.shelf",
+            " salvage: a.bin: refused, 17: no capture's file begins like this: block 0: the file ends after 3 of its 512 bytes",
+        ),
+        ("salvage a.shelf --unit 1", " salvage: there is no option '--unit'; see --help"),
         ("next a.shelf --lines 8", " next: --lines 8: '8' is no line: lines are 0 to 7"),
         ("next a.shelf --lines 3-1", " next: --lines 3-1: '3-1' runs backward"),
         ("next a.shelf --lines", " next: --lines needs a value behind it"),
@@ -148,7 +178,7 @@ fn what_is_wrong_is_said() {
     ] {
         assert_eq!(folder.run(line).bad(), format!("logic-capture{what}"), "{line}");
     }
-    assert!(!folder.has("x.svg"));
+    assert!(!folder.has("x.svg") && !folder.has("b.shelf"));
 }
 
 #[test]
@@ -182,6 +212,7 @@ fn garbage_is_answered_or_refused() {
         "density",
         "encoder",
         "shelf",
+        "salvage",
         "help",
         "--help",
         "-h",
@@ -262,7 +293,7 @@ fn garbage_is_answered_or_refused() {
     ];
     let mut rng = Rng(9);
     for _ in 0..600 {
-        let mut line = vec![words[rng.below(13)]];
+        let mut line = vec![words[rng.below(14)]];
         line.extend((0..rng.below(7)).map(|_| rng.pick(&words)));
         let run = folder.run_words(&line, &[0, 1, 0, 1]);
         assert!((0..=2).contains(&run.status), "{line:?} {}", run.err);
@@ -300,10 +331,11 @@ fn garbage_files_are_refused() {
             let fault = Fault::of(&bad).unwrap();
             let what = format!("refused, 16: no capture has this file: {fault}");
             assert!(said.starts_with(&format!("logic-capture check: standard input: {what}")));
-            assert_eq!(
-                said.ends_with("; for raw samples add --unit 1 or --unit 2"),
-                fault.block == 0
-            );
+            let hint = match fault.block {
+                0 => "; for raw samples add --unit 1 or --unit 2",
+                _ => "; 'logic-capture salvage' reads what is good of it",
+            };
+            assert!(said.ends_with(hint), "{said}");
         }
     }
 }

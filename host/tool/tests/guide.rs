@@ -102,6 +102,7 @@ fn refusals_say_what_the_guide_says() {
         Refusal::EncoderLines,
         Refusal::FileRoom,
         Refusal::File,
+        Refusal::Block0,
     ];
     let rows = rows("| No. |");
     assert_eq!(rows.len(), refusals.len());

@@ -17,8 +17,8 @@ fn each_command_has_help() {
         .take_while(|line| !line.is_empty());
     let names: Vec<&str> = names.map(|line| line.split_whitespace().next().unwrap()).collect();
     let expected = [
-        "demo", "record", "info", "shelf", "next", "prev", "changes", "density", "burst",
-        "encoder", "summary", "samples", "render", "check",
+        "demo", "record", "info", "shelf", "salvage", "next", "prev", "changes", "density",
+        "burst", "encoder", "summary", "samples", "render", "check",
     ];
     assert_eq!(names, expected);
     for name in names {

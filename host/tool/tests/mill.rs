@@ -237,6 +237,10 @@ fn what_a_mill_may_not_ask_is_refused() {
         ("demo --grant 0", " demo: there is no option '--grant'; see --help"),
         ("shelf --grant 0 .", " shelf: --grant: the files of a folder are not shown to mills"),
         (
+            "salvage --grant 0 one.shelf -o x.shelf",
+            " salvage: --grant: files are not given to mills",
+        ),
+        (
             "encoder --grant 0,2 --a 16 --b 0 one.shelf",
             " encoder: --a 16: '16' is no line: lines are 0 to 15",
         ),

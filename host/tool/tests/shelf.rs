@@ -110,12 +110,12 @@ fn each_damage_has_its_line() {
         folder.write(&name, &bad);
         lines.push(format!("{name} bad {what}"));
 
-        let raw = if what.starts_with("block 0") {
-            "; for raw samples add --unit 1 or --unit 2"
+        let hint = if what.starts_with("block 0") {
+            "for raw samples add --unit 1 or --unit 2"
         } else {
-            ""
+            "'logic-capture salvage' reads what is good of it"
         };
-        let refused = format!("{name}: refused, 16: no capture has this file: {what}{raw}");
+        let refused = format!("{name}: refused, 16: no capture has this file: {what}; {hint}");
         for command in ["info", "check", "samples"] {
             let said = folder.run(&format!("{command} {name}")).bad();
             assert_eq!(said, format!("logic-capture {command}: {refused}"));

@@ -82,7 +82,7 @@ pub fn says(file: &[u8]) -> Option<Said> {
 }
 
 /// The payload of a block that has this number and this count, if all else in it is right.
-fn payload(block: &[u8], own: u64, count: usize) -> Option<&[u8]> {
+pub fn payload(block: &[u8], own: u64, count: usize) -> Option<&[u8]> {
     let right = block.len() == BLOCK
         && number(&block[0..2]) == check(block) as u64
         && number(&block[2..4]) == count as u64
@@ -124,7 +124,7 @@ fn first_block(Said { unit, len, mark }: Said) -> Vec<u8> {
     block(0, &payload)
 }
 
-fn block(number: u32, payload: &[u8]) -> Vec<u8> {
+pub fn block(number: u32, payload: &[u8]) -> Vec<u8> {
     let mut block = vec![0, 0];
     block.extend((payload.len() as u16).to_le_bytes());
     block.extend(number.to_le_bytes());

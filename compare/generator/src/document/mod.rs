@@ -4,6 +4,7 @@ pub mod file;
 mod mill;
 pub mod refusals;
 pub mod rules;
+pub mod salvage;
 
 use crate::digest::digest;
 use crate::feed::to_bytes;
@@ -13,8 +14,9 @@ use crate::op::{Lent, Op, Recorder, Settings, Store, Wish};
 use crate::side::{Answer, Side};
 use file::{Capture, Said};
 use rules::Turns;
+use salvage::Salvaged;
 
-/// Files up to this length are read in two ways.
+/// Files up to this length are read and salvaged in two ways.
 const SMALL: usize = 4_096;
 
 #[derive(Default)]
@@ -105,6 +107,7 @@ impl Document {
             }
             Op::Write { output } => self.write(*output),
             Op::Read { capacity, count } => self.read(*capacity, *count),
+            Op::Salvage { capacity, count, list } => self.salvage(*capacity, *count, *list),
             Op::Says { count } => {
                 let first = self.files.first(*count as usize);
                 let said = file::says(&first);
@@ -205,6 +208,24 @@ impl Document {
         self.begin(store);
         self.samples = rules::samples(&bytes, unit);
         Ok(said.values())
+    }
+
+    fn salvage(&mut self, capacity: u64, count: u64, list: u64) -> Answer {
+        refusals::capacity(capacity)?;
+        let first = self.files.first(count as usize);
+        let said = file::says(&first).ok_or(17u64)?;
+        let Said { unit, len, mark } = said;
+        let store = Store { unit, capacity, len, mark };
+        refusals::read(&store, &self.lent)?;
+        let salvaged = Salvaged::new(said, &first);
+        if first.len() <= SMALL {
+            assert!(salvaged.known_otherwise(&first), "two ways, one answer");
+        }
+        let stretches = salvaged.stretches();
+        refusals::salvage(stretches.len() as u64, list)?;
+        self.begin(store);
+        self.samples = salvaged.stored();
+        Ok(salvage::values(said, &stretches))
     }
 
     fn append(&mut self, bytes: &[u8]) -> Answer {

@@ -99,6 +99,11 @@ pub fn read(s: &Store, lent: &Lent) -> Result<(), u64> {
     first(&[(15, &|| s.len > s.capacity || row_2(s, lent, 0))])
 }
 
+/// Salvaging, after the same: the list that the stretches are reported in.
+pub fn salvage(stretches: u64, list: u64) -> Result<(), u64> {
+    first(&[(15, &|| list < 2 * stretches)])
+}
+
 /// A render, after the rows of every call.
 pub fn render(view: &View) -> Result<(), u64> {
     first(&[

@@ -19,7 +19,7 @@ pub fn write(list: &mut List, rng: &mut Rng) {
     marks(list);
     lengths(list);
     refusals(list);
-    capacities(list);
+    capacities(list, |capacity, count| Op::Read { capacity, count });
     changed_bytes(list, rng);
     changed_fields(list);
     other_lengths(list);
@@ -32,7 +32,7 @@ pub fn write(list: &mut List, rng: &mut Rng) {
 }
 
 /// What is asked of a capture that was read.
-fn questions(list: &mut List, len: u64) {
+pub fn questions(list: &mut List, len: u64) {
     list.say(Op::Run);
     list.say(Op::Whole);
     list.say(Op::Get(len.saturating_sub(1)));
@@ -119,8 +119,8 @@ fn refusals(list: &mut List) {
 }
 
 /// Capacities, and memory that is measured by them, for files with a bad block 0, with another bad block, and with none:
-/// 1 comes ahead of 16, and 16 ahead of 15.
-fn capacities(list: &mut List) {
+/// 1 comes ahead of the refusal of a file, and this ahead of 15.
+pub fn capacities(list: &mut List, op: impl Fn(u64, u64) -> Op) {
     for (unit, len) in [(1, 33), (2, 600)] {
         let filed = noise(unit, len, None);
         let count = filed.length();
@@ -133,14 +133,14 @@ fn capacities(list: &mut List) {
             list.put_file(0, &file);
             list.lend(need(unit, len));
             for capacity in [0, 1, len - 1, len, len + 1, MOST, MOST + 1, u64::MAX] {
-                list.say(Op::Read { capacity, count });
+                list.say(op(capacity, count));
             }
             list.say(Op::Run);
             for capacity in [len, len + 900] {
                 let enough = need(unit, capacity);
                 for lent in short_slices(enough).into_iter().chain([enough]) {
                     list.lend(lent);
-                    list.say(Op::Read { capacity, count });
+                    list.say(op(capacity, count));
                 }
             }
             list.say(Op::Run);
@@ -239,6 +239,12 @@ pub fn random(list: &mut List, rng: &mut Rng, size: Size) {
 }
 
 fn random_within(list: &mut List, rng: &mut Rng, size: Size, room: u64) {
+    marked(list, rng, size);
+    there_and_back(list, rng, room);
+}
+
+/// A random capture, which has a mark or none.
+pub fn marked(list: &mut List, rng: &mut Rng, size: Size) {
     let shape = Shape::random(rng, size);
     shape.build(list);
     let (unit, len) = (rules::unit(shape.channels), shape.len);
@@ -246,7 +252,6 @@ fn random_within(list: &mut List, rng: &mut Rng, size: Size, room: u64) {
         let mark = Some(rng.below(len + 1));
         list.say(Op::Record(Store { unit, capacity: shape.capacity, len, mark }));
     }
-    there_and_back(list, rng, room);
 }
 
 /// The capture that the list holds, written and read again: with bytes changed, with the check made right, and as it was.

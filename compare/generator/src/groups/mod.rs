@@ -6,6 +6,7 @@ pub mod file;
 mod recorder;
 pub mod refused;
 pub mod render;
+pub mod salvage;
 mod search;
 mod store;
 
@@ -21,7 +22,7 @@ pub struct Group {
     pub random: fn(&mut List, &mut Rng, Size),
 }
 
-pub const GROUPS: [Group; 7] = [
+pub const GROUPS: [Group; 8] = [
     Group { name: "store", write: store::write, random: store::random },
     Group { name: "search", write: search::write, random: search::random },
     Group { name: "burst", write: burst::write, random: burst::random },
@@ -29,6 +30,7 @@ pub const GROUPS: [Group; 7] = [
     Group { name: "recorder", write: recorder::write, random: recorder::random },
     Group { name: "encoder", write: encoder::write, random: encoder::random },
     Group { name: "file", write: file::write, random: file::random },
+    Group { name: "salvage", write: salvage::write, random: salvage::random },
 ];
 
 /// The captures of document 01's shelf examples.

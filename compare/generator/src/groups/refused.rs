@@ -1,5 +1,6 @@
-//! Rows 1 and 2 of document 01's table, for any call on a store.
+//! Rows 1 and 2 of document 01's table, for any call on a store; and the capacities and the memory of a new one.
 
+use crate::document::refusals::{need, MOST};
 use crate::list::List;
 use crate::op::{Lent, Op, Store};
 
@@ -65,4 +66,24 @@ pub fn short_slices(full: Lent) -> Vec<Lent> {
     }
     all.push(Lent { ring: full.ring, ..Lent::default() });
     all
+}
+
+/// Asks with capacities that are none, that are below len and from it on, and for the last with memory that is short by one,
+/// enough and more.
+pub fn each_memory(list: &mut List, unit: u64, len: u64, op: impl Fn(u64) -> Op) {
+    for capacity in [0, len.saturating_sub(1), len / 2, MOST, MOST + 1, 1 << 63, u64::MAX] {
+        list.say(op(capacity));
+    }
+    for capacity in [len, len + 1, len + 31, len + 32, len + 1_500] {
+        if capacity == 0 {
+            continue;
+        }
+        let enough = need(unit, capacity);
+        let shorts = short_slices(enough).into_iter().chain([need(unit, len)]);
+        for lent in shorts.chain([enough, need(2, capacity + 70)]) {
+            list.lend(lent);
+            list.say(op(capacity));
+        }
+        list.say(Op::Run);
+    }
 }

@@ -73,43 +73,52 @@ impl Port {
     }
 
     /// What a read must have left. Fresh is what memory held before.
-    fn taken(&mut self, capacity: u64, file: &[u8], mut fresh: Memory) {
+    fn taken(&mut self, capacity: u64, file: &[u8], fresh: Memory) {
         let Some(Capture { said, bytes }) = file::read(file) else {
             self.faults.push("a file is read that no capture has".into());
             return;
         };
         let Said { unit, len, mark } = said;
-        if refusals::read(&Store { unit, capacity, len, mark }, &self.lent).is_err() {
+        let store = Store { unit, capacity, len, mark };
+        if refusals::read(&store, &self.lent).is_err() {
             self.faults.push("a file is read into too little memory".into());
             return;
         }
-        self.right.append(unit as usize, 0, &bytes);
-        let mut appended: Record = [unit as usize, capacity as usize, 0, 0, 0];
-        let (lent, _) = fresh.lent_mut(&self.lent);
-        self.same("append's code", 0, port::append(&mut appended, lent, &bytes));
-        if let Some(mark) = mark {
-            (appended[record::MARKED], appended[record::MARK]) = (1, mark as usize);
-        }
-        self.same("record", appended, self.record);
-        let part = self.memory.part(&self.lent);
-        if part != fresh {
-            let place = part.first_difference(&fresh);
-            self.faults.push(format!("memory is not append's: {place}"));
-        }
-        let whole = port::whole(&self.record, self.lent(), &mut 0, &mut 0);
-        self.same("whole's code", 0, whole);
-        let (mut again, mut len) = (vec![0xA5; file.len()], UNMEASURED);
-        let code = port::file::write(&self.record, self.lent(), &mut again, &mut len);
-        self.same("writing again", (0, file.len()), (code, len));
-        self.same_file("written again", file, &again);
+        self.is_appended(store, &bytes, fresh);
+        self.is_written(file);
         let count = file.len() as u64;
         let (measured, told) = (self.file_len(), self.says(count));
         self.same("file's length", Ok(vec![count]), measured);
         self.same("what the file says", Ok(said.values()), told);
     }
 
+    /// The record is that of a store, and it and memory are what the port's own append of these bytes makes of a fresh one;
+    /// the levels are whole.
+    pub fn is_appended(&mut self, store: Store, bytes: &[u8], mut fresh: Memory) {
+        let Store { unit, capacity, mark, .. } = store;
+        self.right.append(unit as usize, 0, bytes);
+        let mut appended: Record = [unit as usize, capacity as usize, 0, 0, 0];
+        let (lent, _) = fresh.lent_mut(&self.lent);
+        self.same("append's code", 0, port::append(&mut appended, lent, bytes));
+        if let Some(mark) = mark {
+            (appended[record::MARKED], appended[record::MARK]) = (1, mark as usize);
+        }
+        self.same("record", appended, self.record);
+        self.same_memory("append's", &fresh);
+        let whole = port::whole(&self.record, self.lent(), &mut 0, &mut 0);
+        self.same("whole's code", 0, whole);
+    }
+
+    /// Writing what is held gives this file.
+    pub fn is_written(&mut self, file: &[u8]) {
+        let (mut again, mut len) = (vec![0xA5; file.len()], UNMEASURED);
+        let code = port::file::write(&self.record, self.lent(), &mut again, &mut len);
+        self.same("writing again", (0, file.len()), (code, len));
+        self.same_file("written again", file, &again);
+    }
+
     /// The first bytes of file memory, with what stands behind them.
-    fn lent_file(&self, count: u64) -> Vec<u8> {
+    pub fn lent_file(&self, count: u64) -> Vec<u8> {
         self.files.first(count as usize + GUARD)
     }
 
@@ -121,7 +130,15 @@ impl Port {
         file::file_of(unit as u64, mark, len as u64, &self.memory.samples[..len * unit])
     }
 
-    fn same_file(&mut self, which: &str, right: &[u8], is: &[u8]) {
+    pub fn same_memory(&mut self, whose: &str, right: &Memory) {
+        let part = self.memory.part(&self.lent);
+        if part != *right {
+            let place = part.first_difference(right);
+            self.faults.push(format!("memory is not {whose}: {place}"));
+        }
+    }
+
+    pub fn same_file(&mut self, which: &str, right: &[u8], is: &[u8]) {
         if right != is {
             let place = right.iter().zip(is).position(|(right, is)| right != is);
             let lengths = (right.len(), is.len());

@@ -1,15 +1,17 @@
 -- `shelf_read::read` meets its contract: the first row that holds, or the samples taken. Assumes nothing.
 use Prim.Native.Nat.{ℕ}
 use mathlib.Core.Path.{_≡_, sym, ap, _∙_}
+use mathlib.Core.Bool.{Bool}
 use mathlib.Core.List.{List}
 use borrow.Author.Needs.{needs}
 use denote.Ref.{now}
 use Rattle.rules.specs.Shelf.{headingIn}
-use Rattle.rules.specs.ShelfCalls.{storeIn}
+use Rattle.rules.specs.ShelfCalls.{capacityWrong, storeIn, storeShort, readRefusal}
 use Rattle.rules.proofs.Shelf.{passed}
 use Rattle.node.specs.Memory.{levelOf}
 use Rattle.capture.specs.Record.{storeOf, lentOf}
 use Rattle.shelf_head.proofs.Head.{head-room}
+use Rattle.shelf_read.specs.Read.{fileRows}
 use Rattle.shelf_read.proofs.Tested.{LetIn, let-in}
 use Rattle.shelf_read.proofs.Taken.{take-room, reads-refused, reads-done}
 use Rattle.shelf_read.proofs.read.Statement.{statement}
@@ -22,11 +24,12 @@ taken-at p =
     l2 .before .before .before .before .before
 
 -- the start from the first test's call, and the memory then
-module _ (f : tie.After-read-refusal) where
+module _ (f : tie.After-file-refusal) where
+  abbrev tested : tie.After-file-good
+  tested = f .before .before .before .before .before .before
+
   abbrev s : tie.Start
-  s =
-      let l1 = f .before .before .before .before .before .before in
-      l1 .before .before .before .before .before .before
+  s = tested .before .before .before .before .before .before .before
 
   abbrev file : List ℕ
   file = now (s .args .file)
@@ -37,15 +40,22 @@ module _ (f : tie.After-read-refusal) where
   abbrev levels : ℕ → List ℕ
   levels = levelOf (now (s .args .l1)) (now (s .args .l2)) (now (s .args .l3)) (now (s .args .l4))
 
+  -- the rows are a reading's
+  refusal-is : f .file-refusal .result ≡ readRefusal (s .args .capacity) (lentOf samples levels) file
+  refusal-is = f .file-refusal .ensures ∙ ap (λ (good : Bool). fileRows 16 (capacityWrong (s .args .capacity)) good (storeShort (s .args .capacity) (lentOf samples levels) (headingIn file))) (tested .file-good .ensures)
+
 -- past the first test no row holds
 entered : (t : tie.Else1) → LetIn (s (t .before) .args .capacity) (lentOf (samples (t .before)) (levels (t .before))) (file (t .before))
-entered t = let-in _ _ _ (sym (t .before .read-refusal .ensures) ∙ t .if1 .left)
+entered t = let-in _ _ _ (sym (refusal-is (t .before)) ∙ t .if1 .left)
 
 store-is : (n : tie.After-new-store) → let f = n .before .before .before in storeOf (n .new-store .result) ≡ storeIn (s f .args .capacity) (headingIn (file f))
 store-is n = n .new-store .ensures ∙ ap (storeIn (s (n .before .before .before) .args .capacity)) (n .before .heading-in .ensures)
 
-read-refusal-requires : tie.Need-read-refusal-requires
-read-refusal-requires c κs = search needs
+file-good-requires : tie.Need-file-good-requires
+file-good-requires c κs = search needs
+
+file-refusal-requires : tie.Need-file-refusal-requires
+file-refusal-requires c κs = λ e. let t = c .before .before .before .before .before in passed _ (sym (t .file-good .ensures) ∙ e) .0
 
 same-length : tie.Need-same-length
 same-length c = search needs
@@ -65,7 +75,7 @@ same-length-5 c = search needs
 returns : tie.Need-returns
 returns c =
     let f = c .before in
-    reads-refused (s f .args .capacity) (file f) (samples f) (levels f) (f .read-refusal .ensures) (c .if1 .taken)
+    reads-refused (s f .args .capacity) (file f) (samples f) (levels f) (refusal-is f) (c .if1 .taken)
 
 heading-in-requires : tie.Need-heading-in-requires
 heading-in-requires c κs = let f = c .before in head-room (file f) (passed (file f) (entered c .passed) .0)
@@ -101,13 +111,14 @@ returns-2 c =
     let n = taken .before .before .before .before .before .before in
     let t = n .before .before in
     let f = t .before in
-    reads-done (s f .args .capacity) (file f) (samples f) (levels f) (f .read-refusal .ensures) (t .if1 .left) (n .new-store .result) (store-is n) (taken .take-samples .ensures)
+    reads-done (s f .args .capacity) (file f) (samples f) (levels f) (refusal-is f) (t .if1 .left) (n .new-store .result) (store-is n) (taken .take-samples .ensures)
 
 pub read-spec : {M : Type 1} → statement M
 read-spec =
     tie.close
     (tie.spec
-    read-refusal-requires
+    file-good-requires
+    file-refusal-requires
     same-length
     same-length-2
     same-length-3

@@ -106,6 +106,15 @@ pub fn read(l: &Lent) -> u32 {
     lent!(l, lc_read, (l.given.capacity, l.file, l.given.file.len()), (l.begun.cast()))
 }
 
+pub fn salvage(l: &Lent) -> u32 {
+    lent!(
+        l,
+        lc_salvage,
+        (l.given.capacity, l.file, l.given.file.len()),
+        (l.stretches, l.given.stretches, l.begun.cast(), l.numbers.cast())
+    )
+}
+
 pub fn mill_extent(l: &Lent) -> u32 {
     lent!(l, lc_mill_extent, (l.store()), (l.mill_place(0), l.mill_place(1), l.number(0)))
 }

@@ -44,6 +44,8 @@ pub struct Given {
     pub file: Vec<u8>,
     /// The length of the output for a file.
     pub file_room: usize,
+    /// The length of the list of unknown stretches, in numbers.
+    pub stretches: usize,
 }
 
 /// The numbers of a node.
@@ -110,6 +112,7 @@ impl Given {
             mill_end: 15,
             file_room: file.len() + 9,
             file,
+            stretches: 4,
         }
     }
 
@@ -146,6 +149,7 @@ pub struct Lent {
     pub begun: *mut [usize; 17],
     pub output: *mut u16,
     pub file_output: *mut u8,
+    pub stretches: *mut usize,
     pub numbers: *mut [usize; 5],
     pub places: *mut [i64; 2],
     pub read: *mut usize,
@@ -165,6 +169,7 @@ impl Lent {
             begun: out.put(&[[77; 17]]),
             output: out.put(&vec![77; given.output]),
             file_output: out.put(&vec![77; given.file_room]),
+            stretches: out.put(&vec![77; given.stretches]),
             numbers: out.put(&[[77; 5]]),
             places: out.put(&[[77; 2]]),
             read: count.put(&[77]),

@@ -2,6 +2,7 @@
 
 mod calls;
 mod given;
+mod lists;
 mod modes;
 mod numbers;
 mod pages;

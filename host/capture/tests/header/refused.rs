@@ -75,6 +75,11 @@ fn exports() -> Vec<Tried> {
             calls::read,
             &[rows::CHANNELS, rows::BLOCK_0, rows::BLOCKS, rows::FILE_ROOM],
         ),
+        tried(
+            "lc_salvage",
+            calls::salvage,
+            &[rows::CHANNELS, rows::SALVAGE_BLOCK_0, rows::FILE_ROOM, rows::LIST],
+        ),
         question("lc_mill_extent", calls::mill_extent, &[]),
         question("lc_mill_get", calls::mill_get, &[rows::BEFORE, rows::MILL_PLACE]),
         question("lc_mill_samples", calls::mill_samples, &[rows::BEFORE, rows::OUTPUT]),
@@ -151,7 +156,7 @@ fn a_refused_call_stores_nothing() {
 fn the_first_row_that_holds_refuses() {
     let given = Given::new();
     let mut lines = Vec::new();
-    let named = ["lc_encoder", "lc_mill_encoder", "lc_write", "lc_read"];
+    let named = ["lc_encoder", "lc_mill_encoder", "lc_write", "lc_read", "lc_salvage"];
     for tried in exports().iter().filter(|tried| named.contains(&tried.name)) {
         for (at, &first) in tried.rows.iter().enumerate() {
             for &(_, other, also) in tried.rows[at + 1..].iter().copied().flatten() {
@@ -197,7 +202,7 @@ fn a_question_stores_behind_its_out_pointers_alone() {
     let given = Given::new();
     let mut lines = Vec::new();
     for tried in exports() {
-        if !["lc_append", "lc_push", "lc_read"].contains(&tried.name) {
+        if !["lc_append", "lc_push", "lc_read", "lc_salvage"].contains(&tried.name) {
             let ended = called(given.clone(), ReadOnly::Kept, tried.call);
             lines.extend(line(&tried.named(), "answered", 0, ended));
         }

@@ -140,22 +140,30 @@ fn put(g: &mut Given, place: usize, byte: u8) {
     g.file.chunks_exact_mut(BLOCK).for_each(seal);
 }
 
-/// A file's beginning that no capture has.
-pub const BLOCK_0: &[Row] = &[
-    (16, "no file", |g| g.file.clear()),
-    (16, "a file shorter than a block", |g| g.file.truncate(BLOCK - 1)),
-    (16, "a check that is not block 0's", |g| g.file[0] ^= 1),
-    (16, "a count that is not 18", |g| put(g, 2, 17)),
-    (16, "a number that is not 0", |g| put(g, 7, 1)),
-    (16, "no zeros at 8", |g| put(g, 8, 1)),
-    (16, "no zeros behind the payload", |g| put(g, 30, 1)),
-    (16, "unit 0 in the file", |g| put(g, 12, 0)),
-    (16, "unit 3 in the file", |g| put(g, 12, 3)),
-    (16, "flag 2", |g| put(g, 13, 2)),
-    (16, "a mark without its flag", |g| put(g, 13, 0)),
-    (16, "a len above the most", |g| put(g, 21, 1)),
-    (16, "a mark past len in the file", |g| put(g, 22, LEN as u8 + 1)),
-];
+/// A file's beginning that no capture has, by the number with which a call refuses it.
+const fn block_0(row: u32) -> [Row; 13] {
+    [
+        (row, "no file", |g| g.file.clear()),
+        (row, "a file shorter than a block", |g| g.file.truncate(BLOCK - 1)),
+        (row, "a check that is not block 0's", |g| g.file[0] ^= 1),
+        (row, "a count that is not 18", |g| put(g, 2, 17)),
+        (row, "a number that is not 0", |g| put(g, 7, 1)),
+        (row, "no zeros at 8", |g| put(g, 8, 1)),
+        (row, "no zeros behind the payload", |g| put(g, 30, 1)),
+        (row, "unit 0 in the file", |g| put(g, 12, 0)),
+        (row, "unit 3 in the file", |g| put(g, 12, 3)),
+        (row, "flag 2", |g| put(g, 13, 2)),
+        (row, "a mark without its flag", |g| put(g, 13, 0)),
+        (row, "a len above the most", |g| put(g, 21, 1)),
+        (row, "a mark past len in the file", |g| put(g, 22, LEN as u8 + 1)),
+    ]
+}
+
+/// Of what block 0 says, and of a read.
+pub const BLOCK_0: &[Row] = &block_0(16);
+
+/// Of a salvage.
+pub const SALVAGE_BLOCK_0: &[Row] = &block_0(17);
 
 /// What is behind the beginning.
 pub const BLOCKS: &[Row] = &[
@@ -171,7 +179,7 @@ pub const BLOCKS: &[Row] = &[
     (16, "no zeros behind the samples", |g| put(g, BLOCK + 92, 1)),
 ];
 
-/// Of a read: in place of 2.
+/// Of a read and of a salvage: in place of 2.
 pub const FILE_ROOM: &[Row] = &[
     (15, "a capacity below the file's len", |g| g.capacity = LEN - 1),
     (15, "a capacity that the memory is short for", |g| g.capacity = CAPACITY + 1),
@@ -183,4 +191,13 @@ pub const FILE_ROOM: &[Row] = &[
     (15, "level 3 too short", |g| shorten(&mut g.levels[2])),
     (15, "level 4 too short", |g| shorten(&mut g.levels[3])),
     (15, "no level 4", |g| g.levels[3].clear()),
+];
+
+/// Of a salvage of which block 1 is bad.
+pub const LIST: &[Row] = &[
+    (15, "no list for a stretch", |g| (g.file[BLOCK], g.stretches) = (g.file[BLOCK] ^ 1, 0)),
+    (15, "a list of one number for a stretch", |g| {
+        g.file.truncate(BLOCK);
+        g.stretches = 1;
+    }),
 ];

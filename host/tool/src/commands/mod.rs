@@ -11,6 +11,7 @@ mod next;
 mod prev;
 mod record;
 mod render;
+mod salvage;
 mod samples;
 mod shelf;
 mod summary;
@@ -34,11 +35,12 @@ pub struct Command {
     pub run: fn(&Args, &mut dyn Write) -> Result<Outcome, Failure>,
 }
 
-pub const COMMANDS: [Command; 14] = [
+pub const COMMANDS: [Command; 15] = [
     demo::COMMAND,
     record::COMMAND,
     info::COMMAND,
     shelf::COMMAND,
+    salvage::COMMAND,
     next::COMMAND,
     prev::COMMAND,
     changes::COMMAND,

@@ -1,0 +1,3 @@
+pub mod Salvaged
+pub mod Files
+pub mod Claim
