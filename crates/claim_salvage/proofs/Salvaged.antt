@@ -22,8 +22,8 @@ use Rattle.rules.proofs.Refusal.{row-passed, neither}
 use Rattle.rules.proofs.Sample.{list-at}
 use Rattle.rules.proofs.ShelfHead.{heading-headed}
 use Rattle.rules.proofs.Shelf.{begins}
-use Rattle.rules.proofs.Stretches.{pairs-length, pairs-back, stretches-places}
-use Rattle.rules.proofs.Salvage.{salvaged-length, salvaged-sample, salvaged-are, unknown-in, list-apart}
+use Rattle.rules.proofs.Stretches.{pairs-length, pairs-back}
+use Rattle.rules.proofs.Salvage.{salvaged-length, salvaged-sample, salvaged-are, unknown-in, list-apart, replaced-are}
 use Rattle.store.specs.Stored.{Stored}
 use Rattle.capture.specs.declared.Capture.{Capture}
 use Rattle.capture.specs.Record.{storeOf}
@@ -154,7 +154,6 @@ module _ {capacity : ℕ} {file : List ℕ} {m : Memory} {list : List ℕ} {s : 
   sample-is i l = stored-sample new-store i l
 
   pub reported : Reported capacity file list s m′ list′
-  unfolding rule.stretchesOf rule.replacedIn
   reported = subst (λ (x : rule.Salvaged). Reported capacity file list x m′ list′) (given-is .1) (record {
     store-is = refl;
     samples-are = λ i l. sample-is i l ∙ salvaged-sample file (heading-headed file (entered .head) .unit-size) i l;
@@ -162,7 +161,7 @@ module _ {capacity : ℕ} {file : List ℕ} {m : Memory} {list : List ℕ} {s : 
     unknown-are = λ i l. ap (λ (ss : List Stretch). covers ss i) told-is ∙ unknown-in file i l;
     in-order = subst⁻¹ (λ (ss : List Stretch). apart 0 (h .len) ss ≡ true) told-is (list-apart file);
     stretches-are = ap length told-is;
-    replaced-are = ap placesOf told-is ∙ stretches-places (rule.knownAt file) 0 (h .len);
+    replaced-are = ap placesOf told-is ∙ replaced-are file;
     room = ltb-false (length list) (rule.listNeed file) (let-in-both .1);
     behind = ap (drop (rule.listNeed file)) list-written ∙ drop-at (take (rule.listNeed file) (pairsOf (rule.stretchesOf file))) (drop (rule.listNeed file) list) (rule.listNeed file) front-size;
   })

@@ -122,10 +122,10 @@ pub rows : (salvageRefusal 0 (enough 0) 0 [] ≡ 1)
     × (salvageRefusal 2 (enough 2) 2 head ≡ 0)
     × (salvageRefusal 2 (enough 2) 0 two ≡ 0)
     × (salvageRefusal 33 (enough 33) 0 two ≡ 15)
-unfolding levelShort stretchesOf stretchesIn joined headTest headingIn goodIn goodBlock sameBytes fileOf blockOf bodyOf weigh sampleBytes headBytes blocksOf
+unfolding levelShort stretchesOf replacedIn stretchesIn unknownIn joined headTest headingIn goodIn goodBlock sameBytes fileOf blockOf bodyOf weigh sampleBytes headBytes blocksOf
 rows = (refl, refl, refl, refl, refl, refl, refl, refl, refl, refl)
 
 -- the list: the pairs, then what it held; all of that where 15 is given
 pub lists : (salvageList 2 (enough 2) (9 ∷ 9 ∷ 9 ∷ []) head ≡ 0 ∷ 2 ∷ 9 ∷ []) × (salvageList 2 (enough 2) (9 ∷ []) head ≡ 9 ∷ []) × (salvageList 2 (enough 2) (9 ∷ []) two ≡ 9 ∷ [])
-unfolding levelShort stretchesOf stretchesIn joined pairsOf headTest headingIn goodIn goodBlock sameBytes fileOf blockOf bodyOf weigh sampleBytes headBytes blocksOf
+unfolding levelShort stretchesOf replacedIn stretchesIn unknownIn joined pairsOf headTest headingIn goodIn goodBlock sameBytes fileOf blockOf bodyOf weigh sampleBytes headBytes blocksOf
 lists = (refl, refl, refl)

@@ -16,13 +16,13 @@ use Rattle.rules.specs.Sample.{UnitSize, little, sampleOf, listFrom}
 use Rattle.rules.specs.SampleBytes.{Bytes}
 use Rattle.rules.specs.Block.{blockSize, payloadAt, payloadMost, zeros, sameBytes, field, goodBlock}
 use Rattle.rules.specs.Shelf.{Heading, headSize, blocksFor, bytesFor, headingIn, payloads, bytesIn, headingWrong, markBytesRight, headTest}
-use Rattle.rules.specs.Stretches.{Stretch, joined, stretchesIn, covers, apart}
-use Rattle.rules.specs.Salvage.{AgreeOutside, blockIn, countIn, goodIn, goodAt, blockOfByte, blockOfSample, knownAt, salvagedByte, salvagedBytes, stretchesOf, listNeed}
+use Rattle.rules.specs.Stretches.{Stretch, joined, stretchesIn, covers, apart, placesOf}
+use Rattle.rules.specs.Salvage.{AgreeOutside, blockIn, countIn, goodIn, goodAt, blockOfByte, blockOfSample, knownAt, salvagedByte, salvagedBytes, stretchesOf, replacedIn, listNeed}
 use Rattle.rules.proofs.Sample.{unit-cases, list-length, list-at, little-same}
 use Rattle.rules.proofs.SampleBytes.{take-are, drop-are}
 use Rattle.rules.proofs.Block.{both}
 use Rattle.rules.proofs.ShelfBlocks.{payloads-bytes, blocks-hold}
-use Rattle.rules.proofs.Stretches.{among-yes, among-behind, in-stretch, stretches-apart, all-unknown}
+use Rattle.rules.proofs.Stretches.{among-yes, among-behind, in-stretch, stretches-apart, stretches-places, all-unknown}
 
 -- ---- "wholly within": a sample's bytes are in one block, as 500 is even
 two-bytes : (i j : ℕ) → j < 2 → (i * 2 + j) / payloadMost ≡ i * 2 / payloadMost
@@ -210,6 +210,11 @@ module _ (file : List ℕ) where
     where
       from-0 : 0 + headingIn file .len ≡ headingIn file .len
       from-0 = omega arith
+
+  -- the samples replaced are all places of the stretches
+  pub replaced-are : placesOf (stretchesOf file) ≡ replacedIn file
+  unfolding stretchesOf replacedIn
+  replaced-are = stretches-places (knownAt file) 0 (headingIn file .len)
 
   -- Bad blocks side by side are one stretch, which ends with the samples and takes two numbers: with block 0 alone, all of them.
   module _ (alone : length file ≡ blockSize) (some-samples : 0 < headingIn file .len) where

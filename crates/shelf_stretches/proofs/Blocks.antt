@@ -21,12 +21,13 @@ use Rattle.rules.proofs.Stretches.{stretches-places}
 use Rattle.shelf_head.specs.declared.Heading.{Heading}
 use Rattle.shelf_head.specs.Head.{headingAs}
 use Rattle.shelf_stretches.specs.declared.Run.{Run}
-use Rattle.shelf_stretches.specs.Told.{RunRoom, closed, closedList, stepped, steppedList, Measured, Surveyed}
+use Rattle.shelf_stretches.specs.declared.Outcome.the-variants as outcome
+use Rattle.shelf_stretches.specs.Told.{RunRoom, told, closed, closedList, stepped, steppedList, Measured, Counted, Surveys}
 use Rattle.shelf_stretches.proofs.Told.{told-length}
 use Rattle.shelf_stretches.proofs.Surveying.{Survey, fresh, survey-starts, closed-none, closed-one, known-on, unknown-on, survey-ends}
 
 -- how many samples a block holds
-abbrev perBlock : ℕ → ℕ
+abbrev pub perBlock : ℕ → ℕ
 perBlock u = payloadMost / u
 
 per-whole : {u : ℕ} → UnitSize u → perBlock u * u ≡ payloadMost
@@ -50,11 +51,17 @@ module _ (file : List ℕ) (r : UnitSize (headingIn file .unit)) where
   per = perBlock u
 
   -- where i blocks end
-  abbrev placeOf : ℕ → ℕ
+  abbrev pub placeOf : ℕ → ℕ
   placeOf i = min (i * per) len
 
   in-bytes : (i : ℕ) → i * per * u ≡ i * payloadMost
   in-bytes i = mul-assoc i per u ∙ ap (λ (k : ℕ). i * k) (per-whole r)
+
+  pub ends-at : {i : ℕ} → blocksFor n ≤ i → placeOf i ≡ len
+  ends-at {i} h = omega (arith, le-of-mul-le-mul-right {m = len} {n = i * per} {k = u} (omega (arith, in-bytes i, blocks-hold n, h)) u-pos)
+    where
+      u-pos : 0 < u
+      u-pos = omega (arith, r .least)
 
   module _ {i : ℕ} (h : i < blocksFor n) where
     pub begins : i * per < len
@@ -63,13 +70,13 @@ module _ (file : List ℕ) (r : UnitSize (headingIn file .unit)) where
     pub begins-is : placeOf i ≡ i * per
     begins-is = omega (arith, begins)
 
-    abbrev many : ℕ
+    abbrev pub many : ℕ
     many = min per (len - i * per)
 
-    per-some : 0 < per
+    pub per-some : 0 < per
     per-some = lt-of-mul-lt-mul-right u {m = 0} {n = per} (omega (arith, per-whole r))
 
-    next-is : i * per + many ≡ placeOf (i + 1)
+    pub next-is : i * per + many ≡ placeOf (i + 1)
     next-is = omega (arith, begins, add-mul i 1 per)
 
     home : (q : ℕ) → q < many → blockOfByte ((i * per + q) * u) ≡ i + 1
@@ -87,7 +94,7 @@ module _ (file : List ℕ) (r : UnitSize (headingIn file .unit)) where
         inner = omega (arith, mul-le-mul-right {m = q + 1} {n = per} u (omega (arith, l)), add-mul q 1 u, per-whole r, r .least)
 
     -- they are known, all of them or none
-    places-known : (q : ℕ) → q < many → knownAt file (i * per + q) ≡ goodAt file (i + 1)
+    pub places-known : (q : ℕ) → q < many → knownAt file (i * per + q) ≡ goodAt file (i + 1)
     places-known q l = ap (goodAt file) (home q l)
 
 -- ---- the loop
@@ -95,11 +102,11 @@ pub record Loop (file list₀ : List ℕ) (i : ℕ) (run : Run) (list : List ℕ
   pub inside : i ≤ blocksFor (bytesFor (headingIn file))
   pub survey : Survey (knownAt file) (headingIn file .len) list₀ (min (i * perBlock (headingIn file .unit)) (headingIn file .len)) run list
   pub size : length list ≡ length list₀
-  pub few : 2 * run .stretches + min 1 (run .count) ≤ i
+  pub few : run .stretches ≤ i
 
 -- a turn is told by its survey
 loop-of : {file list₀ : List ℕ} {i : ℕ} {run : Run} {list : List ℕ} → i ≤ blocksFor (bytesFor (headingIn file)) → Survey (knownAt file) (headingIn file .len) list₀ (min (i * perBlock (headingIn file .unit)) (headingIn file .len)) run list
-    → 2 * run .stretches + min 1 (run .count) ≤ i → Loop file list₀ i run list
+    → run .stretches ≤ i → Loop file list₀ i run list
 loop-of {file} {list₀} h s f = record { inside = h; survey = s; size = ap length (s .list-is) ∙ told-length (s .done) list₀; few = f }
 
 pub loop-starts : (file list : List ℕ) → Loop file list 0 fresh list
@@ -109,16 +116,16 @@ loop-starts file list =
     first : 0 ≡ min (0 * perBlock (headingIn file .unit)) (headingIn file .len)
     first = omega arith
 
--- a stretch that is told took a block that is bad and a good one
-closed-few : (run : Run) (i : ℕ) → 2 * run .stretches + min 1 (run .count) ≤ i → 2 * closed run .stretches + min 1 (closed run .count) ≤ i + 1
+-- at most one stretch is told for a block
+closed-few : (run : Run) (i : ℕ) → run .stretches ≤ i → closed run .stretches ≤ i + 1
 closed-few run i h = go (ℕ-discrete (run .count) 0)
   where
     Few : Run → Type 0
-    Few x = 2 * x .stretches + min 1 (x .count) ≤ i + 1
+    Few x = x .stretches ≤ i + 1
 
     go : Dec (run .count ≡ 0) → Few (closed run)
     go (yes z) = subst⁻¹ Few (closed-none run z) (omega (arith, h))
-    go (no z) = subst⁻¹ Few (closed-one run z) (omega (arith, h, z))
+    go (no z) = subst⁻¹ Few (closed-one run z) (omega (arith, h))
 
 module _ {file list₀ : List ℕ} (r : UnitSize (headingIn file .unit)) {i : ℕ} {run : Run} {list : List ℕ} (s : Loop file list₀ i run list) (h : i < blocksFor (bytesFor (headingIn file))) where
   here : Survey (knownAt file) (len file r) list₀ (i * per file r) run list
@@ -145,23 +152,15 @@ module _ {file list₀ : List ℕ} (r : UnitSize (headingIn file .unit)) {i : �
       (omega (arith, s .few))
 
 module _ {file list₀ : List ℕ} (r : UnitSize (headingIn file .unit)) {i : ℕ} {run : Run} {list : List ℕ} (s : Loop file list₀ i run list) (h : blocksFor (bytesFor (headingIn file)) ≤ i) where
-  ends-is : placeOf file r i ≡ len file r
-  ends-is = omega (arith, le-of-mul-le-mul-right {m = len file r} {n = i * per file r} {k = u file r} (omega (arith, in-bytes file r i, blocks-hold (n file r), h)) u-pos)
-    where
-      u-pos : 0 < u file r
-      u-pos = omega (arith, r .least)
-
   end : Survey (knownAt file) (len file r) list₀ (len file r) run list
-  end = subst (λ (p : ℕ). Survey (knownAt file) (len file r) list₀ p run list) ends-is (s .survey)
+  end = subst (λ (p : ℕ). Survey (knownAt file) (len file r) list₀ p run list) (ends-at file r h) (s .survey)
 
   pub end-room : len file r ≤ mostSamples → i < 2 ^ 32 → RunRoom run (len file r)
   end-room f l = record { stretches = omega (arith, s .few, l); sum = end .sum; small = omega (arith, f) }
 
-  pub loop-ends : Surveyed file list₀ (record { stretches = closed run .stretches; replaced = closed run .replaced }) (closedList run (len file r) list)
+  pub loop-ends : Counted file (record { stretches = closed run .stretches; replaced = closed run .replaced }) × (closedList run (len file r) list ≡ told (stretchesOf file) list₀)
   unfolding stretchesOf replacedIn
-  loop-ends =
-      let t = survey-ends end in
-      record { stretches-are = t .0; replaced-are = t .1 ∙ stretches-places (knownAt file) 0 (len file r); list-is = t .2; few = omega (arith, closed-few run i (s .few), s .inside) }
+  loop-ends = let t = survey-ends end in (record { stretches-are = t .0; replaced-are = t .1 ∙ stretches-places (knownAt file) 0 (len file r) }, t .2)
 
 -- ---- as the code has it: the numbers of block 0 were taken once
 pub measured : (file : List ℕ) → headTest file ≡ true → (h : Heading) → headingAs h ≡ headingIn file → Measured file (h .len * h .unitsize) (h .len) (payloadMost / h .unitsize)
@@ -222,7 +221,10 @@ module _ {file : List ℕ} {n len per : ℕ} (t : Measured file n len per) {list
     pub last-room : RunRoom run len
     last-room = subst⁻¹ (RunRoom run) (t .samples) (end-room (t .unit-size) s all-done (omega (arith, t .samples, t .few)) (omega (arith, s .inside, ap blocksFor (t .bytes), blocks-few t)))
 
-    pub surveyed : {last : Run} {list′ : List ℕ} → last ≡ closed run → list′ ≡ closedList run len list → Surveyed file list₀ (record { stretches = last .stretches; replaced = last .replaced }) list′
-    surveyed {last} {list′} last-is list-is =
-        subst⁻¹ (λ (x : Run). Surveyed file list₀ (record { stretches = x .stretches; replaced = x .replaced }) list′) last-is
-        (subst⁻¹ (Surveyed file list₀ (record { stretches = closed run .stretches; replaced = closed run .replaced })) (list-is ∙ ap (λ (p : ℕ). closedList run p list) (t .samples)) (loop-ends (t .unit-size) s all-done))
+    pub surveyed : (room : ℕ) {last : Run} {list′ : List ℕ} → last ≡ closed run → list′ ≡ closedList run len list
+        → Surveys room file list₀ (outcome.Whole (record { stretches = last .stretches; replaced = last .replaced })) list′
+    surveyed room {last} {list′} last-is list-is =
+        let e = loop-ends (t .unit-size) s all-done in (
+          subst⁻¹ (λ (x : Run). Counted file (record { stretches = x .stretches; replaced = x .replaced })) last-is (e .0),
+          list-is ∙ ap (λ (p : ℕ). closedList run p list) (t .samples) ∙ e .1,
+        )

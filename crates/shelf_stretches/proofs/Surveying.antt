@@ -16,7 +16,7 @@ use Rattle.shelf_stretches.proofs.Told.{told-next}
 
 -- ---- any places
 -- a stretch of `count` places before place p, where there are any, in front of others
-abbrev opened : ℕ → ℕ → List Stretch → List Stretch
+abbrev pub opened : ℕ → ℕ → List Stretch → List Stretch
 opened p count ss = cond (eqb count 0) ss (joined (p - count) count ss)
 
 -- places below p are done: their stretches are told, but for one that may go on

@@ -2,18 +2,20 @@
 use mathlib.Core.Path.{_≡_}
 use mathlib.Core.Bool.{Bool, true, false, cond}
 use mathlib.Core.List.{List, [], _∷_}
-use Prim.Native.Nat.{ℕ, _+_, _-_, _*_, _/_, _^_, _≤_, _<_}
+use Prim.Native.Nat.{ℕ, _+_, _-_, _*_, _/_, _^_, _≤_, _<_, min}
 use lib.Dec.{ltb, eqb}
 use lib.ListN.{length, set}
 use Rattle.rules.specs.Sample.{UnitSize}
 use Rattle.rules.specs.Refusal.{mostSamples}
 use Rattle.rules.specs.Block.{payloadMost}
-use Rattle.rules.specs.Shelf.{blocksFor, bytesFor, headingIn}
+use Rattle.rules.specs.Shelf.{bytesFor, headingIn}
 use Rattle.rules.specs.ShelfCalls.{writtenTo}
 use Rattle.rules.specs.Stretches.{Stretch, pairsOf}
 use Rattle.rules.specs.Salvage.{stretchesOf, replacedIn, listNeed}
 use Rattle.shelf_stretches.specs.declared.Found.{Found}
 use Rattle.shelf_stretches.specs.declared.Run.{Run}
+use Rattle.shelf_stretches.specs.declared.Outcome.{Outcome}
+use Rattle.shelf_stretches.specs.declared.Outcome.the-variants as outcome
 use Rattle.shelf_stretches.specs.declared.Finding.{Finding}
 use Rattle.shelf_stretches.specs.declared.Finding.the-variants as finding
 
@@ -57,12 +59,19 @@ pub record Measured (file : List ℕ) (n len per : ℕ) : Type 0 where
   pub in-a-block : per ≡ payloadMost / headingIn file .unit
   pub few : len ≤ mostSamples
 
--- what is found of a file, and the list as far as it reaches. No two stretches touch, so that there are half as many as blocks.
-pub record Surveyed (file list : List ℕ) (found : Found) (list′ : List ℕ) : Type 0 where
+-- how many numbers the stretches take at the most, where so many blocks are left
+abbrev pub mostNumbers : Run → ℕ → ℕ
+mostNumbers run left = 2 * (run .stretches + min 1 (run .count)) + (left + 1) / 2 * 2
+
+-- what is found of a file
+pub record Counted (file : List ℕ) (found : Found) : Type 0 where
   pub stretches-are : found .stretches ≡ length (stretchesOf file)
   pub replaced-are : found .replaced ≡ replacedIn file
-  pub list-is : list′ ≡ told (stretchesOf file) list
-  pub few : 2 * found .stretches ≤ blocksFor (bytesFor (headingIn file)) + 1
+
+-- and the list as far as it reaches; or so many numbers, not none, are enough
+abbrev pub Surveys : ℕ → List ℕ → List ℕ → Outcome → List ℕ → Type 0
+Surveys room file list outcome.Enough list′ = (0 < room) × (listNeed file ≤ room) × (length list′ ≡ length list)
+Surveys room file list (outcome.Whole found) list′ = Counted file found × (list′ ≡ told (stretchesOf file) list)
 
 -- and told whole, or the list is too short, and as it was
 abbrev pub Finds : List ℕ → List ℕ → Finding → List ℕ → Type 0

@@ -7,10 +7,11 @@ use shelf_head::blocks_for;
 use shelf_head::heading_in;
 ghost use mathlib.Core.Path.{_≡_};
 ghost use mathlib.Core.Bool.{true};
-ghost use Prim.Native.Nat.{_+_, _^_, _<_};
-ghost use Rattle.rules.specs.Shelf.{blocksFor, bytesFor, headingIn, headTest};
-ghost use Rattle.rules.specs.Salvage.{blockIn, goodIn};
-ghost use Rattle.shelf_stretches.specs.Told.{withPair, RunRoom, closed, closedList, stepped, steppedList, Measured, Surveyed, Finds};
+ghost use Prim.Native.Nat.{_+_, _^_, _≤_, _<_};
+ghost use lib.ListN.{length};
+ghost use Rattle.rules.specs.Shelf.{blocksFor, headTest};
+ghost use Rattle.rules.specs.Salvage.{blockIn, goodIn, listNeed};
+ghost use Rattle.shelf_stretches.specs.Told.{withPair, RunRoom, closed, closedList, stepped, steppedList, mostNumbers, Measured, Counted, Surveys, Finds};
 
 // How many stretches there are, and how many samples are in them.
 pub struct Found {
@@ -84,10 +85,46 @@ fn step(list: &mut [usize], run: Run, place: usize, known: bool, many: usize) ->
     }
 }
 
-// The stretches of the blocks of n bytes and len samples, so many in a block, told as far as the list reaches.
-fn survey_blocks(list: &mut [usize], file: &[u8], n: usize, len: usize, per: usize) -> Found
+// How many numbers the stretches take at the most, where so many blocks are left: no two of them touch.
+fn most_numbers(run: Run, left: usize) -> usize
+    requires { ⌜ (run .stretches < 2 ^ 32) × (left < 2 ^ 32) ⌝ }
+    ensures { λ r. ⌜ r ≡ mostNumbers run left ⌝ }
+{
+    2 * (run.stretches + lesser(1, run.count)) + (left + 1) / 2 * 2
+}
+
+// Whether so many numbers are sure to be enough, so that a count may end. Where all blocks were good so far it goes on: if the
+// others are, there is nothing to tell, and no second pass.
+fn settled(run: Run, i: usize, left: usize, room: usize) -> bool
+    requires { ⌜ (run .stretches < 2 ^ 32) × (run .count < 2 ^ 32) × (left < 2 ^ 32) ⌝ }
+    ensures { λ r. ⌜ (r ≡ true → mostNumbers run left ≤ room) ⌝ }
+{
+    if i != 0 {
+        if run.stretches + run.count == 0 {
+            return false;
+        }
+    }
+    most_numbers(run, left) <= room
+}
+
+// What a survey comes to: the numbers that it was given are enough for whatever may follow, or it saw all blocks.
+enum Outcome {
+    Enough,
+    Whole(Found),
+}
+
+// The stretches of the blocks of n bytes and len samples, so many in a block, told as far as the list reaches; no further than
+// until so many numbers are sure to be enough.
+fn survey_blocks(
+    list: &mut [usize],
+    room: usize,
+    file: &[u8],
+    n: usize,
+    len: usize,
+    per: usize,
+) -> Outcome
     requires { ⌜ Measured (now file) n len per ⌝ }
-    ensures { λ r. ⌜ Surveyed (now (file .entry)) (now (list .entry)) r (now (list .exit)) ⌝ }
+    ensures { λ r. ⌜ Surveys room (now (file .entry)) (now (list .entry)) r (now (list .exit)) ⌝ }
 {
     let k = blocks_for(n);
     let mut run = Run {
@@ -97,6 +134,9 @@ fn survey_blocks(list: &mut [usize], file: &[u8], n: usize, len: usize, per: usi
     };
     let mut i = 0;
     while i < k {
+        if settled(run, i, k - i, room) {
+            return Outcome::Enough;
+        }
         let at = i * per;
         run = step(
             list,
@@ -108,19 +148,26 @@ fn survey_blocks(list: &mut [usize], file: &[u8], n: usize, len: usize, per: usi
         i += 1;
     }
     let last = close(list, run, len);
-    Found {
+    Outcome::Whole(Found {
         stretches: last.stretches,
         replaced: last.replaced,
-    }
+    })
 }
 
-// The stretches of a file, told as far as the list reaches. A block holds whole samples.
-fn survey(list: &mut [usize], file: &[u8]) -> Found
+// The stretches of a file, so. A block holds whole samples.
+fn survey(list: &mut [usize], room: usize, file: &[u8]) -> Outcome
     requires { ⌜ headTest (now file) ≡ true ⌝ }
-    ensures { λ r. ⌜ Surveyed (now (file .entry)) (now (list .entry)) r (now (list .exit)) ⌝ }
+    ensures { λ r. ⌜ Surveys room (now (file .entry)) (now (list .entry)) r (now (list .exit)) ⌝ }
 {
     let h = heading_in(file);
-    survey_blocks(list, file, h.len * h.unitsize, h.len, PAYLOAD / h.unitsize)
+    survey_blocks(
+        list,
+        room,
+        file,
+        h.len * h.unitsize,
+        h.len,
+        PAYLOAD / h.unitsize,
+    )
 }
 
 pub enum Finding {
@@ -128,38 +175,40 @@ pub enum Finding {
     Found(Found),
 }
 
-// The stretches are counted, and told where the list has room for them.
-fn find_counted(list: &mut [usize], file: &[u8]) -> Finding
-    requires { ⌜ headTest (now file) ≡ true ⌝ }
+// All stretches of a file, told to a list that has room. No survey ends early for no numbers.
+fn tell(list: &mut [usize], file: &[u8]) -> Finding
+    requires { ⌜ (headTest (now file) ≡ true) × (listNeed (now file) ≤ length (now list)) ⌝ }
     ensures { λ r. ⌜ Finds (now (file .entry)) (now (list .entry)) r (now (list .exit)) ⌝ }
 {
-    let found = survey(&mut list[0..0], file);
+    match survey(list, 0, file) {
+        Outcome::Enough => Finding::Short,
+        Outcome::Whole(found) => Finding::Found(found),
+    }
+}
+
+// They were counted, and are told where the list has room for them.
+fn tell_counted(list: &mut [usize], file: &[u8], found: Found) -> Finding
+    requires { ⌜ (headTest (now file) ≡ true) × Counted (now file) found ⌝ }
+    ensures { λ r. ⌜ Finds (now (file .entry)) (now (list .entry)) r (now (list .exit)) ⌝ }
+{
     if list.len() < 2 * found.stretches {
         return Finding::Short;
     }
     if found.stretches == 0 {
         return Finding::Found(found);
     }
-    Finding::Found(survey(list, file))
+    tell(list, file)
 }
 
-// How many blocks hold a file's samples.
-fn sample_blocks(file: &[u8]) -> usize
-    requires { ⌜ headTest (now file) ≡ true ⌝ }
-    ensures { λ r. ⌜ r ≡ blocksFor (bytesFor (headingIn (now (file .entry)))) ⌝ }
-{
-    let h = heading_in(file);
-    blocks_for(h.len * h.unitsize)
-}
-
-// The stretches of a file, told to a list that has room for all of them. Nothing is written to one that has not.
-// No two stretches touch, so a list of more numbers than there are blocks has room; for another they are counted first.
+// The stretches of a file, told to a list that has room for all of them. Nothing is written to one that has not: they are
+// counted first, with no list, until that is settled.
 pub fn find(list: &mut [usize], file: &[u8]) -> Finding
     requires { ⌜ headTest (now file) ≡ true ⌝ }
     ensures { λ r. ⌜ Finds (now (file .entry)) (now (list .entry)) r (now (list .exit)) ⌝ }
 {
-    if list.len() <= sample_blocks(file) {
-        return find_counted(list, file);
+    let room = list.len();
+    match survey(&mut list[0..0], room, file) {
+        Outcome::Enough => tell(list, file),
+        Outcome::Whole(found) => tell_counted(list, file, found),
     }
-    Finding::Found(survey(list, file))
 }
