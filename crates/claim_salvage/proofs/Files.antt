@@ -168,7 +168,7 @@ module _ {capacity : ℕ} {file : List ℕ} {m : Memory} {answer : Answer Store}
   -- nothing is unknown: what is said of the stretches
   none-told : rule.stretchesOf file ≡ [] → rule.salvagedOf capacity file ≡ record { store = storeIn capacity h; stretches = 0; replaced = 0 }
   unfolding rule.stretchesOf rule.replacedIn placesOf
-  none-told e = λ i. record { store = storeIn capacity h; stretches = ap length e i; replaced = (sym (stretches-places (rule.knownAt file) 0 (h .len)) ∙ ap placesOf e) i }
+  none-told e = λ i. record { store = storeIn capacity h; stretches = ap length e i; replaced = (sym (stretches-places (rule.isKnown file) 0 (h .len)) ∙ ap placesOf e) i }
 
   -- the rows that a reading passes
   open-rows : (st : Store) → answer ≡ given st → (capacityWrong capacity ≡ false) × (storeShort capacity (lentIn m) h ≡ false)

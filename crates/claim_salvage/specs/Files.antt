@@ -17,7 +17,7 @@ use Rattle.rules.specs.Block.{blockSize}
 use Rattle.rules.specs.Shelf.{Begins, headingOf, fileLen, headingIn, bytesIn}
 use Rattle.rules.specs.ShelfCalls.{capacityWrong, storeIn}
 use Rattle.rules.specs.Stretches.{Stretch, covers, apart, placesOf, pairsIn}
-use Rattle.rules.specs.Salvage.{blockOfSample, knownAt, AgreeOutside, Salvaged}
+use Rattle.rules.specs.Salvage.{blockOfSample, isKnown, AgreeOutside, Salvaged}
 use Rattle.capture.specs.declared.Capture.{Capture}
 use Rattle.capture.specs.Record.{storeOf}
 use Rattle.claim_captures.specs.Words.{Memory}
@@ -38,18 +38,18 @@ abbrev pub sampleIn : Salvaged → Memory → ℕ → ℕ
 sampleIn s m i = sampleOf (s .store .unit) (m .samples) i
 
 -- the block that it was in
-abbrev pub blockOf : Salvaged → ℕ → ℕ
-blockOf s i = blockOfSample (headingOf (s .store)) i
+abbrev pub homeOf : Salvaged → ℕ → ℕ
+homeOf s i = blockOfSample (headingOf (s .store)) i
 
 -- ---- what holds of it
 -- of a file that was salvaged: "the store, the number of stretches and that of samples replaced", the samples, the levels and the list
 pub record Reported (capacity : ℕ) (file list : List ℕ) (s : Salvaged) (m′ : Memory) (list′ : List ℕ) : Type 0 where
   pub store-is : s .store ≡ storeIn capacity (headingIn file)
   -- "Samples wholly within good blocks land at their own places. The others are stored as zero"
-  pub samples-are : (i : ℕ) → i < s .store .len → sampleIn s m′ i ≡ cond (knownAt file i) (sampleOf (s .store .unit) (bytesIn file) i) 0
+  pub samples-are : (i : ℕ) → i < s .store .len → sampleIn s m′ i ≡ cond (isKnown file i) (sampleOf (s .store .unit) (bytesIn file) i) 0
   pub held : Bytes file → (c : Capture) → storeOf c ≡ s .store → Held (runIn (s .store) m′) (s .store .mark) c m′
   -- "and reported in a lent list as unknown stretches": exactly the others
-  pub unknown-are : (i : ℕ) → i < s .store .len → unknown s list′ i ≡ not (knownAt file i)
+  pub unknown-are : (i : ℕ) → i < s .store .len → unknown s list′ i ≡ not (isKnown file i)
   -- "in rising order, none touching the next", none empty, none past len
   pub in-order : apart 0 (s .store .len) (toldIn s list′) ≡ true
   pub stretches-are : length (toldIn s list′) ≡ s .stretches
@@ -61,7 +61,7 @@ pub record Reported (capacity : ℕ) (file list : List ℕ) (s : Salvaged) (m′
 -- of two files that agree outside the damage: equal records, and there equal samples and equal knownness
 pub record Agreed (damaged : ℕ → Bool) (answer₁ : Answer Salvaged) (m₁′ : Memory) (list₁′ : List ℕ) (answer₂ : Answer Salvaged) (m₂′ : Memory) (list₂′ : List ℕ) : Type 0 where
   pub records : seen (λ (s : Salvaged). s .store) answer₁ ≡ seen (λ (s : Salvaged). s .store) answer₂
-  pub outside : (s₁ s₂ : Salvaged) → answer₁ ≡ given s₁ → answer₂ ≡ given s₂ → (i : ℕ) → i < s₁ .store .len → damaged (blockOf s₁ i) ≡ false
+  pub outside : (s₁ s₂ : Salvaged) → answer₁ ≡ given s₁ → answer₂ ≡ given s₂ → (i : ℕ) → i < s₁ .store .len → damaged (homeOf s₁ i) ≡ false
       → (sampleIn s₁ m₁′ i ≡ sampleIn s₂ m₂′ i) × (unknown s₁ list₁′ i ≡ unknown s₂ list₂′ i)
 
 -- of a capture whose file was damaged: it is salvaged, and outside the damage its samples are there, all known

@@ -12,7 +12,7 @@ use Rattle.rules.specs.Refusal.{levelShort}
 use Rattle.rules.specs.Block.{zeros, weigh, bodyOf, blockOf, sameBytes, goodBlock}
 use Rattle.rules.specs.Shelf.{Heading, headBytes, blocksOf, fileOf, headingIn, payloads, bytesIn, headTest}
 use Rattle.rules.specs.Stretches.{Stretch, joined, stretchesIn, unknownIn, covers, apart, placesOf, pairsOf, pairsIn}
-use Rattle.rules.specs.Salvage.{countIn, goodIn, goodAt, blockOfByte, blockOfSample, salvagedBytes, stretchesOf, replacedIn, salvageRefusal, salvageList}
+use Rattle.rules.specs.Salvage.{dueCount, goodIn, goodAt, blockOfByte, blockOfSample, salvagedBytes, stretchesOf, replacedIn, salvageRefusal, salvageList}
 use Rattle.rules.proofs.BorderShelf.{filed, two, sealed, enough}
 
 abbrev pub stretch : ℕ → ℕ → Stretch
@@ -65,9 +65,9 @@ pub homes : (blockOfByte 499 ≡ 1)
     × (blockOfByte 500 ≡ 2)
     × (blockOfSample (of 2 251) 249 ≡ 1)
     × (blockOfSample (of 2 251) 250 ≡ 2)
-    × (countIn 502 1 ≡ 500)
-    × (countIn 502 2 ≡ 2)
-    × (countIn 1000 2 ≡ 500)
+    × (dueCount 502 1 ≡ 500)
+    × (dueCount 502 2 ≡ 2)
+    × (dueCount 1000 2 ≡ 500)
 homes = (refl, refl, refl, refl, refl, refl, refl)
 
 -- a file of three blocks

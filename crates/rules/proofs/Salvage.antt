@@ -17,7 +17,7 @@ use Rattle.rules.specs.SampleBytes.{Bytes}
 use Rattle.rules.specs.Block.{blockSize, payloadAt, payloadMost, zeros, sameBytes, field, goodBlock}
 use Rattle.rules.specs.Shelf.{Heading, headSize, blocksFor, bytesFor, headingIn, payloads, bytesIn, headingWrong, markBytesRight, headTest}
 use Rattle.rules.specs.Stretches.{Stretch, joined, stretchesIn, covers, apart, placesOf}
-use Rattle.rules.specs.Salvage.{AgreeOutside, blockIn, countIn, goodIn, goodAt, blockOfByte, blockOfSample, knownAt, salvagedByte, salvagedBytes, stretchesOf, replacedIn, listNeed}
+use Rattle.rules.specs.Salvage.{AgreeOutside, blockIn, dueCount, goodIn, goodAt, blockOfByte, blockOfSample, isKnown, salvagedByte, salvagedBytes, stretchesOf, replacedIn, listNeed}
 use Rattle.rules.proofs.Sample.{unit-cases, list-length, list-at, little-same}
 use Rattle.rules.proofs.SampleBytes.{take-are, drop-are}
 use Rattle.rules.proofs.Block.{both}
@@ -93,9 +93,9 @@ payload-at (suc k) blocks j h r = go (decLt j payloadMost) (payload-at k (drop b
 pub there-room : (k : ℕ) (file : List ℕ) → length (blockIn k file) ≡ blockSize → blockSize * k + blockSize ≤ length file
 there-room k file e = omega (arith, sym (length-take blockSize (drop (blockSize * k) file)) ∙ e, length-drop (blockSize * k) file)
 
-pub good-there : (n k : ℕ) (block : List ℕ) → goodIn n k block ≡ true → (length block ≡ blockSize) × (goodBlock k (countIn n k) block ≡ true)
+pub good-there : (n k : ℕ) (block : List ℕ) → goodIn n k block ≡ true → (length block ≡ blockSize) × (goodBlock k (dueCount n k) block ≡ true)
 unfolding goodIn
-good-there n k block e = let t = both (eqb (length block) blockSize) (goodBlock k (countIn n k) block) .0 e in (eqb-true (length block) blockSize (t .0), t .1)
+good-there n k block e = let t = both (eqb (length block) blockSize) (goodBlock k (dueCount n k) block) .0 e in (eqb-true (length block) blockSize (t .0), t .1)
 
 -- byte j of the samples, where its block is wholly there
 pub byte-there : (file : List ℕ) (j : ℕ) → j < bytesFor (headingIn file) → blockSize * blockOfByte j + blockSize ≤ length file
@@ -156,7 +156,7 @@ module _ (file : List ℕ) (r : UnitSize (headingIn file .unit)) where
   unfolding salvagedBytes
   salvaged-length = list-length (salvagedByte file) 0 (bytesFor h)
 
-  byte-at : (i j : ℕ) → i < h .len → j < u → getD (salvagedBytes file) (i * u + j) 0 ≡ cond (knownAt file i) (getD (bytesIn file) (i * u + j) 0) 0
+  byte-at : (i j : ℕ) → i < h .len → j < u → getD (salvagedBytes file) (i * u + j) 0 ≡ cond (isKnown file i) (getD (bytesIn file) (i * u + j) 0) 0
   unfolding salvagedBytes
   byte-at i j l b =
       list-at (salvagedByte file) 0 (bytesFor h) (i * u + j) (inside i j l b)
@@ -167,9 +167,9 @@ module _ (file : List ℕ) (r : UnitSize (headingIn file .unit)) where
       from-0 = omega arith
 
   -- "Samples wholly within good blocks land at their own places. The others are stored as zero"
-  pub salvaged-sample : (i : ℕ) → i < h .len → sampleOf u (salvagedBytes file) i ≡ cond (knownAt file i) (sampleOf u (bytesIn file) i) 0
+  pub salvaged-sample : (i : ℕ) → i < h .len → sampleOf u (salvagedBytes file) i ≡ cond (isKnown file i) (sampleOf u (bytesIn file) i) 0
   unfolding sampleOf
-  salvaged-sample i l = go (knownAt file i) (λ j b. byte-at i j l b)
+  salvaged-sample i l = go (isKnown file i) (λ j b. byte-at i j l b)
     where
       go : (k : Bool) → ((j : ℕ) → j < u → getD (salvagedBytes file) (i * u + j) 0 ≡ cond k (getD (bytesIn file) (i * u + j) 0) 0)
           → little u (salvagedBytes file) (i * u) ≡ cond k (little u (bytesIn file) (i * u)) 0
@@ -195,18 +195,18 @@ salvaged-are file b k = go (decLt k n)
 -- ---- which places the stretches have
 module _ (file : List ℕ) where
   -- Statement 1: a place below len is unknown exactly when it lies in a stretch,
-  pub unknown-in : (i : ℕ) → i < headingIn file .len → covers (stretchesOf file) i ≡ not (knownAt file i)
+  pub unknown-in : (i : ℕ) → i < headingIn file .len → covers (stretchesOf file) i ≡ not (isKnown file i)
   unfolding stretchesOf
-  unknown-in i l = in-stretch (knownAt file) 0 (headingIn file .len) i ∙ ap (λ (b : Bool). b && not (knownAt file i)) (among-yes 0 (headingIn file .len) i (omega arith) (omega (arith, l)))
+  unknown-in i l = in-stretch (isKnown file) 0 (headingIn file .len) i ∙ ap (λ (b : Bool). b && not (isKnown file i)) (among-yes 0 (headingIn file .len) i (omega arith) (omega (arith, l)))
 
   pub past-in : (i : ℕ) → headingIn file .len ≤ i → covers (stretchesOf file) i ≡ false
   unfolding stretchesOf
-  past-in i l = in-stretch (knownAt file) 0 (headingIn file .len) i ∙ ap (λ (b : Bool). b && not (knownAt file i)) (among-behind 0 (headingIn file .len) i (omega (arith, l)))
+  past-in i l = in-stretch (isKnown file) 0 (headingIn file .len) i ∙ ap (λ (b : Bool). b && not (isKnown file i)) (among-behind 0 (headingIn file .len) i (omega (arith, l)))
 
   -- and the list is rising, none touches the next, none is empty or reaches past len
   pub list-apart : apart 0 (headingIn file .len) (stretchesOf file) ≡ true
   unfolding stretchesOf
-  list-apart = subst (λ (k : ℕ). apart 0 k (stretchesOf file) ≡ true) from-0 (stretches-apart (knownAt file) 0 (headingIn file .len))
+  list-apart = subst (λ (k : ℕ). apart 0 k (stretchesOf file) ≡ true) from-0 (stretches-apart (isKnown file) 0 (headingIn file .len))
     where
       from-0 : 0 + headingIn file .len ≡ headingIn file .len
       from-0 = omega arith
@@ -214,20 +214,20 @@ module _ (file : List ℕ) where
   -- the samples replaced are all places of the stretches
   pub replaced-are : placesOf (stretchesOf file) ≡ replacedIn file
   unfolding stretchesOf replacedIn
-  replaced-are = stretches-places (knownAt file) 0 (headingIn file .len)
+  replaced-are = stretches-places (isKnown file) 0 (headingIn file .len)
 
   -- Bad blocks side by side are one stretch, which ends with the samples and takes two numbers: with block 0 alone, all of them.
   module _ (alone : length file ≡ blockSize) (some-samples : 0 < headingIn file .len) where
-    nothing-known : (i : ℕ) → knownAt file i ≡ false
+    nothing-known : (i : ℕ) → isKnown file i ≡ false
     unfolding goodIn
-    nothing-known i = ap (λ (b : Bool). b && goodBlock k (countIn (bytesFor (headingIn file)) k) (blockIn k file)) (ne-eqb (length (blockIn k file)) blockSize (λ e. omega (arith, there-room k file e, alone)))
+    nothing-known i = ap (λ (b : Bool). b && goodBlock k (dueCount (bytesFor (headingIn file)) k) (blockIn k file)) (ne-eqb (length (blockIn k file)) blockSize (λ e. omega (arith, there-room k file e, alone)))
       where
         k : ℕ
         k = i * headingIn file .unit / payloadMost + 1
 
     pub one-stretch : stretchesOf file ≡ record { first = 0; count = headingIn file .len } ∷ []
     unfolding stretchesOf stretchesIn joined
-    one-stretch = ap (stretchesIn (knownAt file) 0) (sym (add-zero (headingIn file .len))) ∙ all-unknown (knownAt file) 0 0 (headingIn file .len) some-samples (λ i l. nothing-known (0 + i))
+    one-stretch = ap (stretchesIn (isKnown file) 0) (sym (add-zero (headingIn file .len))) ∙ all-unknown (isKnown file) 0 0 (headingIn file .len) some-samples (λ i l. nothing-known (0 + i))
 
     pub two-numbers : listNeed file ≡ 2
     two-numbers = ap (λ (ss : List Stretch). 2 * length ss) one-stretch
@@ -291,7 +291,7 @@ module _ {damaged : ℕ → Bool} {f g : List ℕ} (agree : AgreeOutside damaged
   good-agree : (k : ℕ) → damaged k ≡ false → goodAt f k ≡ goodAt g k
   good-agree k e = ap₂ (λ (h : Heading) (b : List ℕ). goodIn (bytesFor h) k b) headings-agree (agree .blocks k e)
 
-  pub known-agree : (i : ℕ) → damaged (blockOfSample (headingIn f) i) ≡ false → knownAt f i ≡ knownAt g i
+  pub known-agree : (i : ℕ) → damaged (blockOfSample (headingIn f) i) ≡ false → isKnown f i ≡ isKnown g i
   known-agree i e = good-agree (blockOfSample (headingIn f) i) e ∙ ap (λ (h : Heading). goodAt g (blockOfSample h i)) headings-agree
 
   bytes-agree : (j : ℕ) → j < bytesFor (headingIn f) → damaged (blockOfByte j) ≡ false → salvagedByte f j ≡ salvagedByte g j

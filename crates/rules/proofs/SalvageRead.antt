@@ -17,7 +17,7 @@ use Rattle.rules.specs.SampleBytes.{sampleBytes, Bytes}
 use Rattle.rules.specs.Block.{blockSize, payloadAt, payloadMost, checkOf, zeros, sameBytes, field, goodBlock}
 use Rattle.rules.specs.Shelf.{Heading, headSize, blocksFor, bytesFor, fileLen, headingIn, bytesIn, headingWrong, markBytesRight, headTest, goodBlocks, fileTest}
 use Rattle.rules.specs.Stretches.{stretchesIn}
-use Rattle.rules.specs.Salvage.{AgreeOutside, blockIn, countIn, goodIn, goodAt, blockOfByte, blockOfSample, knownAt, salvagedByte, salvagedBytes, stretchesOf}
+use Rattle.rules.specs.Salvage.{AgreeOutside, blockIn, dueCount, goodIn, goodAt, blockOfByte, blockOfSample, isKnown, salvagedByte, salvagedBytes, stretchesOf}
 use Rattle.rules.proofs.Sample.{unit-cases, list-same}
 use Rattle.rules.proofs.SampleBytes.{list-whole}
 use Rattle.rules.proofs.Block.{both, four, same-is, Sealed}
@@ -81,7 +81,7 @@ module _ (file : List ℕ) (r : UnitSize (headingIn file .unit)) (size : length 
   unfolding goodIn
   this-block i l =
       (λ t. goodBlock (numbers t) (min payloadMost (n - payloadMost * behind t)) (take blockSize ((drop-drop (blockSize * i) blockSize file ∙ ap (λ (k : ℕ). drop k file) places) t)))
-      ∙ ap (λ (b : Bool). b && goodBlock (i + 1) (countIn n (i + 1)) (blockIn (i + 1) file)) (sym (eq-eqb (length (blockIn (i + 1) file)) blockSize there))
+      ∙ ap (λ (b : Bool). b && goodBlock (i + 1) (dueCount n (i + 1)) (blockIn (i + 1) file)) (sym (eq-eqb (length (blockIn (i + 1) file)) blockSize there))
     where
       numbers : 1 + i ≡ i + 1
       numbers = omega arith
@@ -109,7 +109,7 @@ module _ (file : List ℕ) (r : UnitSize (headingIn file .unit)) (size : length 
   first-in : (i : ℕ) → blockOfByte (i * payloadMost) ≡ i + 1
   first-in i = omega (arith, div-add-mod' (i * payloadMost) payloadMost, mod-lt (i * payloadMost) {m = payloadMost} (omega arith))
 
-  known-goods : ((i : ℕ) → i < hd .len → knownAt file i ≡ true) → goodBlocks (blocksFor n) 1 n (drop blockSize file) ≡ true
+  known-goods : ((i : ℕ) → i < hd .len → isKnown file i ≡ true) → goodBlocks (blocksFor n) 1 n (drop blockSize file) ≡ true
   known-goods h = goods-each (blocksFor n) 1 n (drop blockSize file) .1 (λ i l. this-block i l ∙ ap (goodAt file) (sym (home i)) ∙ h (begins-at r i .0) (early i l))
     where
       home : (i : ℕ) → blockOfSample hd (begins-at r i .0) ≡ i + 1
@@ -126,7 +126,7 @@ whole-good file e i l =
     sym (this-block file ((heading-headed file (t .0) .unit-size)) (t .1) i l) ∙ goods-each (blocksFor n) 1 n (drop blockSize file) .0 (t .2) i l
 
 -- so every place of it is known
-pub all-known : (file : List ℕ) → fileTest file ≡ true → (i : ℕ) → i < headingIn file .len → knownAt file i ≡ true
+pub all-known : (file : List ℕ) → fileTest file ≡ true → (i : ℕ) → i < headingIn file .len → isKnown file i ≡ true
 all-known file e i l = whole-good file e (i * headingIn file .unit / payloadMost) (omega (arith, first, blocks-hold (bytesFor (headingIn file)), div-add-mod' (i * headingIn file .unit) payloadMost))
   where
     first : i * headingIn file .unit < bytesFor (headingIn file)
@@ -138,12 +138,12 @@ unfolding fileTest stretchesOf
 read-whole file = (there, back)
   where
     Told : Type 0
-    Told = (headTest file ≡ true) × (stretchesIn (knownAt file) 0 (headingIn file .len) ≡ []) × (length file ≡ fileLen (headingIn file))
+    Told = (headTest file ≡ true) × (stretchesIn (isKnown file) 0 (headingIn file .len) ≡ []) × (length file ≡ fileLen (headingIn file))
 
-    none : (stretchesIn (knownAt file) 0 (headingIn file .len) ≡ []) ↔ ((i : ℕ) → i < headingIn file .len → knownAt file i ≡ true)
+    none : (stretchesIn (isKnown file) 0 (headingIn file .len) ≡ []) ↔ ((i : ℕ) → i < headingIn file .len → isKnown file i ≡ true)
     none = (
-      λ e i l. ap (knownAt file) (from-0 i) ∙ none-unknown (knownAt file) 0 (headingIn file .len) .0 e i l,
-      λ h. none-unknown (knownAt file) 0 (headingIn file .len) .1 (λ i l. ap (knownAt file) (sym (from-0 i)) ∙ h i l),
+      λ e i l. ap (isKnown file) (from-0 i) ∙ none-unknown (isKnown file) 0 (headingIn file .len) .0 e i l,
+      λ h. none-unknown (isKnown file) 0 (headingIn file .len) .1 (λ i l. ap (isKnown file) (sym (from-0 i)) ∙ h i l),
     )
       where
         from-0 : (i : ℕ) → i ≡ 0 + i
@@ -221,7 +221,7 @@ module _ (f : List ℕ) (p x : ℕ) (inside-file : p < length f) where
     block-fails n = go (goodIn n changed (blockIn changed (set f p x))) refl
       where
         go : (b : Bool) → goodIn n changed (blockIn changed (set f p x)) ≡ b → b ≡ false
-        go true e = absurd (no-check (good-sealed changed (countIn n changed) (blockIn changed (set f p x)) (good-there n changed (blockIn changed (set f p x)) e .1)))
+        go true e = absurd (no-check (good-sealed changed (dueCount n changed) (blockIn changed (set f p x)) (good-there n changed (blockIn changed (set f p x)) e .1)))
         go false e = refl
 
     head-fails : changed ≡ 0 → headTest (set f p x) ≡ false
@@ -250,7 +250,7 @@ module _ (f : List ℕ) (bytes : Bytes f) (read : fileTest f ≡ true) (p x : �
     where
       go : Dec (p / blockSize ≡ 0) → Sealed (blockIn (p / blockSize) f)
       go (yes z) = subst⁻¹ (λ (k : ℕ). Sealed (blockIn k f)) z (good-sealed 0 headSize (take blockSize f) (four (leb blockSize (length f)) (goodBlock 0 headSize (take blockSize f)) (markBytesRight f) (not (headingWrong (headingIn f))) (told .0) .1))
-      go (no z) = good-sealed (p / blockSize) (countIn (bytesFor (headingIn f)) (p / blockSize)) (blockIn (p / blockSize) f) (good-there (bytesFor (headingIn f)) (p / blockSize) (blockIn (p / blockSize) f) good .1)
+      go (no z) = good-sealed (p / blockSize) (dueCount (bytesFor (headingIn f)) (p / blockSize)) (blockIn (p / blockSize) f) (good-there (bytesFor (headingIn f)) (p / blockSize) (blockIn (p / blockSize) f) good .1)
         where
           k : ℕ
           k = p / blockSize - 1
@@ -266,7 +266,7 @@ module _ (f : List ℕ) (bytes : Bytes f) (read : fileTest f ≡ true) (p x : �
   head-changed z = head-fails f p x inside-file bytes small other sealed there z
 
   -- and in another exactly that block's samples become unknown
-  pub block-changed : (p / blockSize ≡ 0 → ⊥) → (i : ℕ) → i < headingIn f .len → knownAt (set f p x) i ≡ not (eqb (blockOfSample (headingIn f) i) (p / blockSize))
+  pub block-changed : (p / blockSize ≡ 0 → ⊥) → (i : ℕ) → i < headingIn f .len → isKnown (set f p x) i ≡ not (eqb (blockOfSample (headingIn f) i) (p / blockSize))
   block-changed z i l = go (eqb (blockOfSample (headingIn f) i) (p / blockSize)) refl
     where
       agree : AgreeOutside (λ k. eqb k (p / blockSize)) (set f p x) f
@@ -275,7 +275,7 @@ module _ (f : List ℕ) (bytes : Bytes f) (read : fileTest f ≡ true) (p x : �
       home : blockOfSample (headingIn (set f p x)) i ≡ blockOfSample (headingIn f) i
       home = ap (λ (h : Heading). blockOfSample h i) (headings-agree agree)
 
-      go : (b : Bool) → eqb (blockOfSample (headingIn f) i) (p / blockSize) ≡ b → knownAt (set f p x) i ≡ not b
+      go : (b : Bool) → eqb (blockOfSample (headingIn f) i) (p / blockSize) ≡ b → isKnown (set f p x) i ≡ not b
       go true e =
           ap (λ (k : ℕ). goodIn (bytesFor (headingIn (set f p x))) k (blockIn k (set f p x))) (home ∙ eqb-true _ _ e)
           ∙ block-fails f p x inside-file bytes small other sealed there (bytesFor (headingIn (set f p x)))

@@ -19,13 +19,13 @@ abbrev pub blockIn : ℕ → List ℕ → List ℕ
 blockIn k file = take blockSize (drop (blockSize * k) file)
 
 -- the count that block 0 calls for in block k, from 1, where there are n bytes of samples: "500 each, the last 1 to 500"
-abbrev pub countIn : ℕ → ℕ → ℕ
-countIn n k = min payloadMost (n - payloadMost * (k - 1))
+abbrev pub dueCount : ℕ → ℕ → ℕ
+dueCount n k = min payloadMost (n - payloadMost * (k - 1))
 
 -- "A block is good if its check holds, its number is its place in the file, and its count and fixed zeros are those that block 0 calls for."
 -- "Blocks missing at the end are bad", a torn one too
 unfoldable pub goodIn : ℕ → ℕ → List ℕ → Bool
-goodIn n k block = eqb (length block) blockSize && goodBlock k (countIn n k) block
+goodIn n k block = eqb (length block) blockSize && goodBlock k (dueCount n k) block
 
 abbrev pub goodAt : List ℕ → ℕ → Bool
 goodAt file k = goodIn (bytesFor (headingIn file)) k (blockIn k file)
@@ -39,8 +39,8 @@ abbrev pub blockOfSample : Heading → ℕ → ℕ
 blockOfSample h i = blockOfByte (i * h .unit)
 
 -- "Samples wholly within good blocks"
-abbrev pub knownAt : List ℕ → ℕ → Bool
-knownAt file i = goodAt file (blockOfSample (headingIn file) i)
+abbrev pub isKnown : List ℕ → ℕ → Bool
+isKnown file i = goodAt file (blockOfSample (headingIn file) i)
 
 -- "land at their own places. The others are stored as zero": by their bytes
 abbrev pub salvagedByte : List ℕ → ℕ → ℕ
@@ -51,11 +51,11 @@ salvagedBytes file = listFrom (salvagedByte file) 0 (bytesFor (headingIn file))
 
 -- "and reported in a lent list as unknown stretches"
 unfoldable pub stretchesOf : List ℕ → List Stretch
-stretchesOf file = stretchesIn (knownAt file) 0 (headingIn file .len)
+stretchesOf file = stretchesIn (isKnown file) 0 (headingIn file .len)
 
 -- "that of samples replaced"
 unfoldable pub replacedIn : List ℕ → ℕ
-replacedIn file = unknownIn (knownAt file) 0 (headingIn file .len)
+replacedIn file = unknownIn (isKnown file) 0 (headingIn file .len)
 
 -- ---- two files
 -- "Damage confined to some blocks other than block 0": both have the others alike, in bytes and in what is there

@@ -13,7 +13,7 @@ use Rattle.rules.specs.Refusal.{mostSamples}
 use Rattle.rules.specs.Block.{payloadMost}
 use Rattle.rules.specs.Shelf.{blocksFor, bytesFor, headingIn, headTest}
 use Rattle.rules.specs.Shelf as rule
-use Rattle.rules.specs.Salvage.{blockIn, goodIn, goodAt, blockOfByte, knownAt, stretchesOf, replacedIn}
+use Rattle.rules.specs.Salvage.{blockIn, goodIn, goodAt, blockOfByte, isKnown, stretchesOf, replacedIn}
 use Rattle.rules.proofs.Sample.{unit-cases}
 use Rattle.rules.proofs.ShelfBlocks.{blocks-hold, block-begins}
 use Rattle.rules.proofs.ShelfHead.{heading-headed}
@@ -22,7 +22,7 @@ use Rattle.shelf_head.specs.declared.Heading.{Heading}
 use Rattle.shelf_head.specs.Head.{headingAs}
 use Rattle.shelf_stretches.specs.declared.Run.{Run}
 use Rattle.shelf_stretches.specs.declared.Outcome.the-variants as outcome
-use Rattle.shelf_stretches.specs.Told.{RunRoom, told, closed, closedList, stepped, steppedList, Measured, Counted, Surveys}
+use Rattle.shelf_stretches.specs.Told.{StretchRoom, toldTo, closed, closedList, stepped, steppedList, Measured, Tallied, Surveys}
 use Rattle.shelf_stretches.proofs.Told.{told-length}
 use Rattle.shelf_stretches.proofs.Surveying.{Survey, fresh, survey-starts, closed-none, closed-one, known-on, unknown-on, survey-ends}
 
@@ -94,24 +94,24 @@ module _ (file : List ℕ) (r : UnitSize (headingIn file .unit)) where
         inner = omega (arith, mul-le-mul-right {m = q + 1} {n = per} u (omega (arith, l)), add-mul q 1 u, per-whole r, r .least)
 
     -- they are known, all of them or none
-    pub places-known : (q : ℕ) → q < many → knownAt file (i * per + q) ≡ goodAt file (i + 1)
+    pub places-known : (q : ℕ) → q < many → isKnown file (i * per + q) ≡ goodAt file (i + 1)
     places-known q l = ap (goodAt file) (home q l)
 
 -- ---- the loop
 pub record Loop (file list₀ : List ℕ) (i : ℕ) (run : Run) (list : List ℕ) : Type 0 where
   pub inside : i ≤ blocksFor (bytesFor (headingIn file))
-  pub survey : Survey (knownAt file) (headingIn file .len) list₀ (min (i * perBlock (headingIn file .unit)) (headingIn file .len)) run list
+  pub survey : Survey (isKnown file) (headingIn file .len) list₀ (min (i * perBlock (headingIn file .unit)) (headingIn file .len)) run list
   pub size : length list ≡ length list₀
   pub few : run .stretches ≤ i
 
 -- a turn is told by its survey
-loop-of : {file list₀ : List ℕ} {i : ℕ} {run : Run} {list : List ℕ} → i ≤ blocksFor (bytesFor (headingIn file)) → Survey (knownAt file) (headingIn file .len) list₀ (min (i * perBlock (headingIn file .unit)) (headingIn file .len)) run list
+loop-of : {file list₀ : List ℕ} {i : ℕ} {run : Run} {list : List ℕ} → i ≤ blocksFor (bytesFor (headingIn file)) → Survey (isKnown file) (headingIn file .len) list₀ (min (i * perBlock (headingIn file .unit)) (headingIn file .len)) run list
     → run .stretches ≤ i → Loop file list₀ i run list
 loop-of {file} {list₀} h s f = record { inside = h; survey = s; size = ap length (s .list-is) ∙ told-length (s .done) list₀; few = f }
 
 pub loop-starts : (file list : List ℕ) → Loop file list 0 fresh list
 loop-starts file list =
-    loop-of (omega arith) (subst (λ (p : ℕ). Survey (knownAt file) (headingIn file .len) list p fresh list) first (survey-starts (knownAt file) (headingIn file .len) list)) (omega arith)
+    loop-of (omega arith) (subst (λ (p : ℕ). Survey (isKnown file) (headingIn file .len) list p fresh list) first (survey-starts (isKnown file) (headingIn file .len) list)) (omega arith)
   where
     first : 0 ≡ min (0 * perBlock (headingIn file .unit)) (headingIn file .len)
     first = omega arith
@@ -128,8 +128,8 @@ closed-few run i h = go (ℕ-discrete (run .count) 0)
     go (no z) = subst⁻¹ Few (closed-one run z) (omega (arith, h))
 
 module _ {file list₀ : List ℕ} (r : UnitSize (headingIn file .unit)) {i : ℕ} {run : Run} {list : List ℕ} (s : Loop file list₀ i run list) (h : i < blocksFor (bytesFor (headingIn file))) where
-  here : Survey (knownAt file) (len file r) list₀ (i * per file r) run list
-  here = subst (λ (p : ℕ). Survey (knownAt file) (len file r) list₀ p run list) (begins-is file r h) (s .survey)
+  here : Survey (isKnown file) (len file r) list₀ (i * per file r) run list
+  here = subst (λ (p : ℕ). Survey (isKnown file) (len file r) list₀ p run list) (begins-is file r h) (s .survey)
 
   some-places : 0 < many file r h
   some-places = omega (arith, begins file r h, per-some file r h)
@@ -137,30 +137,30 @@ module _ {file list₀ : List ℕ} (r : UnitSize (headingIn file .unit)) {i : �
   room : i * per file r + many file r h ≤ len file r
   room = omega (arith, begins file r h)
 
-  pub step-room : len file r ≤ mostSamples → i < 2 ^ 32 → RunRoom run (i * per file r)
+  pub step-room : len file r ≤ mostSamples → i < 2 ^ 32 → StretchRoom run (i * per file r)
   step-room f l = record { stretches = omega (arith, s .few, l); sum = here .sum; small = omega (arith, begins file r h, f) }
 
   pub loop-on : (b : Bool) → b ≡ goodAt file (i + 1) → Loop file list₀ (i + 1) (stepped run b (many file r h)) (steppedList run (i * per file r) b list)
   loop-on true g =
       loop-of (omega (arith, h))
-      (subst (λ (p : ℕ). Survey (knownAt file) (len file r) list₀ p (closed run) (closedList run (i * per file r) list)) (next-is file r h) (known-on here some-places room (λ q b. places-known file r h q b ∙ sym g)))
+      (subst (λ (p : ℕ). Survey (isKnown file) (len file r) list₀ p (closed run) (closedList run (i * per file r) list)) (next-is file r h) (known-on here some-places room (λ q b. places-known file r h q b ∙ sym g)))
       (closed-few run i (s .few))
   loop-on false g =
       loop-of (omega (arith, h))
-      (subst (λ (p : ℕ). Survey (knownAt file) (len file r) list₀ p (record { stretches = run .stretches; replaced = run .replaced; count = run .count + many file r h }) list) (next-is file r h)
+      (subst (λ (p : ℕ). Survey (isKnown file) (len file r) list₀ p (record { stretches = run .stretches; replaced = run .replaced; count = run .count + many file r h }) list) (next-is file r h)
       (unknown-on here some-places room (λ q b. places-known file r h q b ∙ sym g)))
       (omega (arith, s .few))
 
 module _ {file list₀ : List ℕ} (r : UnitSize (headingIn file .unit)) {i : ℕ} {run : Run} {list : List ℕ} (s : Loop file list₀ i run list) (h : blocksFor (bytesFor (headingIn file)) ≤ i) where
-  end : Survey (knownAt file) (len file r) list₀ (len file r) run list
-  end = subst (λ (p : ℕ). Survey (knownAt file) (len file r) list₀ p run list) (ends-at file r h) (s .survey)
+  end : Survey (isKnown file) (len file r) list₀ (len file r) run list
+  end = subst (λ (p : ℕ). Survey (isKnown file) (len file r) list₀ p run list) (ends-at file r h) (s .survey)
 
-  pub end-room : len file r ≤ mostSamples → i < 2 ^ 32 → RunRoom run (len file r)
+  pub end-room : len file r ≤ mostSamples → i < 2 ^ 32 → StretchRoom run (len file r)
   end-room f l = record { stretches = omega (arith, s .few, l); sum = end .sum; small = omega (arith, f) }
 
-  pub loop-ends : Counted file (record { stretches = closed run .stretches; replaced = closed run .replaced }) × (closedList run (len file r) list ≡ told (stretchesOf file) list₀)
+  pub loop-ends : Tallied file (record { stretches = closed run .stretches; replaced = closed run .replaced }) × (closedList run (len file r) list ≡ toldTo (stretchesOf file) list₀)
   unfolding stretchesOf replacedIn
-  loop-ends = let t = survey-ends end in (record { stretches-are = t .0; replaced-are = t .1 ∙ stretches-places (knownAt file) 0 (len file r) }, t .2)
+  loop-ends = let t = survey-ends end in (record { stretches-are = t .0; replaced-are = t .1 ∙ stretches-places (isKnown file) 0 (len file r) }, t .2)
 
 -- ---- as the code has it: the numbers of block 0 were taken once
 pub measured : (file : List ℕ) → headTest file ≡ true → (h : Heading) → headingAs h ≡ headingIn file → Measured file (h .len * h .unitsize) (h .len) (payloadMost / h .unitsize)
@@ -201,8 +201,8 @@ module _ {file : List ℕ} {n len per : ℕ} (t : Measured file n len per) {list
     pub block-inside : i * per < len
     block-inside = omega (arith, place-is, t .samples, begins file (t .unit-size) inside-here)
 
-    pub on-room : RunRoom run (i * per)
-    on-room = subst⁻¹ (RunRoom run) place-is (step-room (t .unit-size) s inside-here (omega (arith, t .samples, t .few)) (omega (arith, h, blocks-few t)))
+    pub on-room : StretchRoom run (i * per)
+    on-room = subst⁻¹ (StretchRoom run) place-is (step-room (t .unit-size) s inside-here (omega (arith, t .samples, t .few)) (omega (arith, h, blocks-few t)))
 
     pub next-block : {known : Bool} {m : ℕ} {run′ : Run} {list′ : List ℕ} → known ≡ goodIn n (i + 1) (blockIn (i + 1) file) → m ≡ min per (len - i * per)
         → run′ ≡ stepped run known m → list′ ≡ steppedList run (i * per) known list → Loop file list₀ (i + 1) run′ list′
@@ -218,13 +218,13 @@ module _ {file : List ℕ} {n len per : ℕ} (t : Measured file n len per) {list
     all-done : blocksFor (bytesFor (headingIn file)) ≤ i
     all-done = subst (λ (k : ℕ). blocksFor k ≤ i) (t .bytes) h
 
-    pub last-room : RunRoom run len
-    last-room = subst⁻¹ (RunRoom run) (t .samples) (end-room (t .unit-size) s all-done (omega (arith, t .samples, t .few)) (omega (arith, s .inside, ap blocksFor (t .bytes), blocks-few t)))
+    pub last-room : StretchRoom run len
+    last-room = subst⁻¹ (StretchRoom run) (t .samples) (end-room (t .unit-size) s all-done (omega (arith, t .samples, t .few)) (omega (arith, s .inside, ap blocksFor (t .bytes), blocks-few t)))
 
     pub surveyed : (room : ℕ) {last : Run} {list′ : List ℕ} → last ≡ closed run → list′ ≡ closedList run len list
         → Surveys room file list₀ (outcome.Whole (record { stretches = last .stretches; replaced = last .replaced })) list′
     surveyed room {last} {list′} last-is list-is =
         let e = loop-ends (t .unit-size) s all-done in (
-          subst⁻¹ (λ (x : Run). Counted file (record { stretches = x .stretches; replaced = x .replaced })) last-is (e .0),
+          subst⁻¹ (λ (x : Run). Tallied file (record { stretches = x .stretches; replaced = x .replaced })) last-is (e .0),
           list-is ∙ ap (λ (p : ℕ). closedList run p list) (t .samples) ∙ e .1,
         )

@@ -13,7 +13,7 @@ use Rattle.shelf_stretches.specs.declared.Outcome.{Outcome}
 use Rattle.shelf_stretches.specs.declared.Outcome.the-variants as outcome
 use Rattle.shelf_stretches.specs.declared.Finding.{Finding}
 use Rattle.shelf_stretches.specs.declared.Finding.the-variants as finding
-use Rattle.shelf_stretches.specs.Told.{Counted, Surveys, Finds}
+use Rattle.shelf_stretches.specs.Told.{Tallied, Surveys, Finds}
 use Rattle.shelf_stretches.proofs.Told.{told-nothing, told-all}
 
 module _ (file list : List ℕ) where
@@ -27,7 +27,7 @@ module _ (file list : List ℕ) where
       (le-ltb (length list) (listNeed file) room, u .0 .stretches-are, u .0 .replaced-are, u .1 ∙ told-all (stretchesOf file) list room)
 
   -- counted
-  module _ {found : Found} (t : Counted file found) where
+  module _ {found : Found} (t : Tallied file found) where
     pub too-short : length list < 2 * found .stretches → Finds file list finding.Short list
     too-short h = (lt-ltb (length list) (listNeed file) (omega (arith, h, t .stretches-are)), refl)
 
@@ -60,7 +60,7 @@ module _ (room : ℕ) (file part : List ℕ) {x : Outcome} (t : Surveys room fil
   pub whole-empty : {found : Found} → x ≡ outcome.Whole found → part ≡ []
   whole-empty e = subst (λ (y : Outcome). Surveys room file [] y part) e t .1 ∙ told-nothing (stretchesOf file)
 
-  pub whole-counted : {found : Found} → x ≡ outcome.Whole found → Counted file found
+  pub whole-counted : {found : Found} → x ≡ outcome.Whole found → Tallied file found
   whole-counted e = subst (λ (y : Outcome). Surveys room file [] y part) e t .0
 
 -- the list with nothing told in front is the list

@@ -7,7 +7,7 @@ use native.Mathlib.Omega.{arith}
 use lib.ListN.{length, take, drop, length-take, length-drop}
 use borrow.Author.Tests.{eq-eqb, ne-eqb}
 use Rattle.rules.specs.Block.{blockSize, payloadMost, goodBlock}
-use Rattle.rules.specs.Salvage.{blockIn, countIn, goodIn}
+use Rattle.rules.specs.Salvage.{blockIn, dueCount, goodIn}
 
 module _ (n i : ℕ) (file : List ℕ) where
   abbrev k : ℕ
@@ -21,7 +21,7 @@ module _ (n i : ℕ) (file : List ℕ) where
 
   pub torn : length file < (i + 1) * blockSize + blockSize → false ≡ goodIn n (i + 1) (blockIn (i + 1) file)
   unfolding goodIn
-  torn h = sym (ap (λ (b : Bool). b && goodBlock (i + 1) (countIn n (i + 1)) (blockIn (i + 1) file)) (ne-eqb there blockSize (λ e. omega (arith, e, size, h))))
+  torn h = sym (ap (λ (b : Bool). b && goodBlock (i + 1) (dueCount n (i + 1)) (blockIn (i + 1) file)) (ne-eqb there blockSize (λ e. omega (arith, e, size, h))))
 
   pub whole : (i + 1) * blockSize + blockSize ≤ length file → {x : Bool} {c : ℕ} → c ≡ min payloadMost (n - i * payloadMost)
       → x ≡ goodBlock (i + 1) c (take ((i + 1) * blockSize + blockSize - (i + 1) * blockSize) (drop ((i + 1) * blockSize) file)) → x ≡ goodIn n (i + 1) (blockIn (i + 1) file)
@@ -29,7 +29,7 @@ module _ (n i : ℕ) (file : List ℕ) where
   whole h {x} {c} c-is e =
       e
       ∙ ap₂ (goodBlock (i + 1)) (c-is ∙ ap (λ (j : ℕ). min payloadMost (n - j)) behind) (ap₂ (λ (a b : ℕ). take a (drop b file)) one at)
-      ∙ sym (ap (λ (b : Bool). b && goodBlock (i + 1) (countIn n (i + 1)) (blockIn (i + 1) file)) (eq-eqb there blockSize (omega (arith, size, h))))
+      ∙ sym (ap (λ (b : Bool). b && goodBlock (i + 1) (dueCount n (i + 1)) (blockIn (i + 1) file)) (eq-eqb there blockSize (omega (arith, size, h))))
     where
       behind : i * payloadMost ≡ payloadMost * (i + 1 - 1)
       behind = omega arith

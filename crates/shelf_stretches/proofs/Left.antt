@@ -12,12 +12,12 @@ use borrow.Author.Tests.{eq-eqb, ne-eqb}
 use Rattle.rules.specs.Sample.{UnitSize}
 use Rattle.rules.specs.Shelf.{blocksFor, bytesFor, headingIn, headTest}
 use Rattle.rules.specs.Stretches.{Stretch, joined, stretchesIn}
-use Rattle.rules.specs.Salvage.{goodAt, knownAt, stretchesOf, listNeed}
+use Rattle.rules.specs.Salvage.{goodAt, isKnown, stretchesOf, listNeed}
 use Rattle.rules.proofs.ShelfHead.{heading-headed}
 use Rattle.rules.proofs.Stretches.{joined-twice, all-known, all-unknown}
 use Rattle.shelf_stretches.specs.declared.Found.{Found}
 use Rattle.shelf_stretches.specs.declared.Run.{Run}
-use Rattle.shelf_stretches.specs.Told.{mostNumbers, Measured, Counted}
+use Rattle.shelf_stretches.specs.Told.{mostNumbers, Measured, Tallied}
 use Rattle.shelf_stretches.proofs.Surveying.{opened}
 use Rattle.shelf_stretches.proofs.Blocks.{perBlock, many, begins, begins-is, next-is, per-some, places-known, ends-at, Loop, blocks-file}
 
@@ -57,33 +57,33 @@ module _ (file : List ℕ) (r : UnitSize (headingIn file .unit)) where
 
   -- the stretches from block i + 1 on
   abbrev restAt : ℕ → List Stretch
-  restAt i = stretchesIn (knownAt file) (min (i * per) len) (len - min (i * per) len)
+  restAt i = stretchesIn (isKnown file) (min (i * per) len) (len - min (i * per) len)
 
   module _ {i : ℕ} (h : i < k) where
     abbrev m : ℕ
     m = many file r h
 
-    here : restAt i ≡ stretchesIn (knownAt file) (i * per) (m + (len - min ((i + 1) * per) len))
-    here = ap₂ (stretchesIn (knownAt file)) (begins-is file r h) left
+    here : restAt i ≡ stretchesIn (isKnown file) (i * per) (m + (len - min ((i + 1) * per) len))
+    here = ap₂ (stretchesIn (isKnown file)) (begins-is file r h) left
       where
         left : len - min (i * per) len ≡ many file r h + (len - min ((i + 1) * per) len)
         left = omega (arith, begins-is file r h, next-is file r h, begins file r h)
 
-    next : (rest : ℕ) → stretchesIn (knownAt file) (i * per + m) rest ≡ stretchesIn (knownAt file) (min ((i + 1) * per) len) rest
-    next rest = ap (λ (p : ℕ). stretchesIn (knownAt file) p rest) (next-is file r h)
+    next : (rest : ℕ) → stretchesIn (isKnown file) (i * per + m) rest ≡ stretchesIn (isKnown file) (min ((i + 1) * per) len) rest
+    next rest = ap (λ (p : ℕ). stretchesIn (isKnown file) p rest) (next-is file r h)
 
     good-rest : goodAt file (i + 1) ≡ true → restAt i ≡ restAt (i + 1)
-    good-rest g = here ∙ all-known (knownAt file) (len - min ((i + 1) * per) len) (i * per) m (λ q l. places-known file r h q l ∙ g) ∙ next (len - min ((i + 1) * per) len)
+    good-rest g = here ∙ all-known (isKnown file) (len - min ((i + 1) * per) len) (i * per) m (λ q l. places-known file r h q l ∙ g) ∙ next (len - min ((i + 1) * per) len)
 
     bad-rest : goodAt file (i + 1) ≡ false → restAt i ≡ joined (i * per) m (restAt (i + 1))
     bad-rest g =
         here
-        ∙ all-unknown (knownAt file) (len - min ((i + 1) * per) len) (i * per) m (omega (arith, begins file r h, per-some file r h)) (λ q l. places-known file r h q l ∙ g)
+        ∙ all-unknown (isKnown file) (len - min ((i + 1) * per) len) (i * per) m (omega (arith, begins file r h, per-some file r h)) (λ q l. places-known file r h q l ∙ g)
         ∙ ap (joined (i * per) m) (next (len - min ((i + 1) * per) len))
 
   none-left : {i : ℕ} → k ≤ i → restAt i ≡ []
   unfolding stretchesIn
-  none-left {i} h = ap₂ (stretchesIn (knownAt file)) (ends-at file r h) none
+  none-left {i} h = ap₂ (stretchesIn (isKnown file)) (ends-at file r h) none
     where
       none : len - min (i * per) len ≡ 0
       none = omega (arith, ends-at file r h)
@@ -148,7 +148,7 @@ enough {file} {n} t {list₀} {i} {run} s h {most} {room} most-is fits = (
     rest : List Stretch
     rest = opened (min (i * perBlock (headingIn file .unit)) (headingIn file .len)) (run .count) (restAt file (t .unit-size) i)
 
-    all : length (stretchesIn (knownAt file) 0 (headingIn file .len)) ≡ length (s .survey .done ++ opened (min (i * perBlock (headingIn file .unit)) (headingIn file .len)) (run .count) (restAt file (t .unit-size) i))
+    all : length (stretchesIn (isKnown file) 0 (headingIn file .len)) ≡ length (s .survey .done ++ opened (min (i * perBlock (headingIn file .unit)) (headingIn file .len)) (run .count) (restAt file (t .unit-size) i))
     all = ap length (s .survey .rest)
 
     left-blocks : i + (blocksFor n - i) ≡ blocksFor (bytesFor (headingIn file))
@@ -161,14 +161,14 @@ enough {file} {n} t {list₀} {i} {run} s h {most} {room} most-is fits = (
     halves = (sym (div-add-mod' (blocksFor n - i + 1) 2), mod-lt (blocksFor n - i + 1) {m = 2} (omega arith))
 
 -- a count leaves no 64 bits
-pub counted-few : (file : List ℕ) → headTest file ≡ true → {found : Found} → Counted file found → found .stretches < 2 ^ 32
+pub counted-few : (file : List ℕ) → headTest file ≡ true → {found : Found} → Tallied file found → found .stretches < 2 ^ 32
 unfolding stretchesOf
 counted-few file e t =
     let r = heading-headed file e .unit-size in
     omega (arith, t .stretches-are, few-left file r (blocksFor (bytesFor (headingIn file))) 0 (omega arith) .0, blocks-file file e, ap length first)
   where
-    first : restAt file (heading-headed file e .unit-size) 0 ≡ stretchesIn (knownAt file) 0 (headingIn file .len)
-    first = ap₂ (stretchesIn (knownAt file)) begin all
+    first : restAt file (heading-headed file e .unit-size) 0 ≡ stretchesIn (isKnown file) 0 (headingIn file .len)
+    first = ap₂ (stretchesIn (isKnown file)) begin all
       where
         begin : min (0 * perBlock (headingIn file .unit)) (headingIn file .len) ≡ 0
         begin = omega arith

@@ -11,7 +11,7 @@ use borrow.Author.Tests.{eq-eqb, ne-eqb}
 use Rattle.rules.specs.Stretches.{Stretch, joined, stretchesIn, placesOf}
 use Rattle.rules.proofs.Stretches.{joined-alone, joined-twice, all-known, all-unknown, stretches-apart}
 use Rattle.shelf_stretches.specs.declared.Run.{Run}
-use Rattle.shelf_stretches.specs.Told.{withPair, told, closed, closedList, stepped, steppedList}
+use Rattle.shelf_stretches.specs.Told.{withPair, toldTo, closed, closedList, stepped, steppedList}
 use Rattle.shelf_stretches.proofs.Told.{told-next}
 
 -- ---- any places
@@ -22,7 +22,7 @@ opened p count ss = cond (eqb count 0) ss (joined (p - count) count ss)
 -- places below p are done: their stretches are told, but for one that may go on
 pub record Survey (known : ℕ → Bool) (len : ℕ) (list₀ : List ℕ) (p : ℕ) (run : Run) (list : List ℕ) : Type 0 where
   pub done : List Stretch
-  pub list-is : list ≡ told done list₀
+  pub list-is : list ≡ toldTo done list₀
   pub stretches-are : run .stretches ≡ length done
   pub replaced-are : run .replaced ≡ placesOf done
   pub inside : p ≤ len
@@ -33,7 +33,7 @@ abbrev pub fresh : Run
 fresh = record { stretches = 0; replaced = 0; count = 0 }
 
 pub survey-starts : (known : ℕ → Bool) (len : ℕ) (list : List ℕ) → Survey known len list 0 fresh list
-unfolding told placesOf
+unfolding toldTo placesOf
 survey-starts known len list = record {
   done = [];
   list-is = refl;
@@ -189,10 +189,10 @@ module _ {known : ℕ → Bool} {len : ℕ} {list₀ : List ℕ} {p : ℕ} {run 
 
 -- at the end
 pub survey-ends : {known : ℕ → Bool} {len : ℕ} {list₀ : List ℕ} {run : Run} {list : List ℕ} → Survey known len list₀ len run list
-    → (closed run .stretches ≡ length (stretchesIn known 0 len)) × (closed run .replaced ≡ placesOf (stretchesIn known 0 len)) × (closedList run len list ≡ told (stretchesIn known 0 len) list₀)
+    → (closed run .stretches ≡ length (stretchesIn known 0 len)) × (closed run .replaced ≡ placesOf (stretchesIn known 0 len)) × (closedList run len list ≡ toldTo (stretchesIn known 0 len) list₀)
 unfolding stretchesIn joined
 survey-ends {known} {len} {list₀} {run} {list} s =
-    (t .stretches-are ∙ ap length all, t .replaced-are ∙ ap placesOf all, t .list-is ∙ ap (λ (x : List Stretch). told x list₀) all)
+    (t .stretches-are ∙ ap length all, t .replaced-are ∙ ap placesOf all, t .list-is ∙ ap (λ (x : List Stretch). toldTo x list₀) all)
   where
     none : stretchesIn known len (len - len) ≡ []
     none = ap (stretchesIn known len) zeros

@@ -12,7 +12,7 @@ use borrow.Author.Tests.{lt-ltb, le-ltb}
 use Rattle.rules.specs.ShelfCalls.{writtenTo}
 use Rattle.rules.specs.Stretches.{Stretch, pairsOf}
 use Rattle.rules.proofs.Stretches.{pairs-length}
-use Rattle.shelf_stretches.specs.Told.{withPair, told}
+use Rattle.shelf_stretches.specs.Told.{withPair, toldTo}
 
 -- a pair behind the first
 pair-past : (m f c a b : ℕ) (l : List ℕ) → withPair (suc m) f c (a ∷ b ∷ l) ≡ a ∷ b ∷ withPair m f c l
@@ -40,31 +40,31 @@ pair-none : (m f c : ℕ) (l : List ℕ) → length l ≤ 2 * m + 1 → withPair
 pair-none m f c l h = ap (λ (t : Bool). cond t (set (set l (2 * m) f) (2 * m + 1) c) l) (le-ltb (2 * m + 1) (length l) h)
 
 -- one stretch more
-pub told-next : (done : List Stretch) (s : Stretch) (l : List ℕ) → told (done ++ (s ∷ [])) l ≡ withPair (length done) (s .first) (s .count) (told done l)
-unfolding told
+pub told-next : (done : List Stretch) (s : Stretch) (l : List ℕ) → toldTo (done ++ (s ∷ [])) l ≡ withPair (length done) (s .first) (s .count) (toldTo done l)
+unfolding toldTo
 told-next [] s [] = refl
 told-next [] s (x ∷ []) = refl
 told-next [] s (x ∷ y ∷ l) = sym (ap (λ (t : Bool). cond t (s .first ∷ s .count ∷ l) (x ∷ y ∷ l)) (lt-ltb 1 (length (x ∷ y ∷ l)) (omega arith)))
 told-next (d ∷ done) s [] = sym (pair-none (length (d ∷ done)) (s .first) (s .count) [] (omega arith))
 told-next (d ∷ done) s (x ∷ []) = sym (pair-none (length (d ∷ done)) (s .first) (s .count) (x ∷ []) (omega arith))
 told-next (d ∷ done) s (x ∷ y ∷ l) =
-    ap (λ (r : List ℕ). d .first ∷ d .count ∷ r) (told-next done s l) ∙ sym (pair-past (length done) (s .first) (s .count) (d .first) (d .count) (told done l))
+    ap (λ (r : List ℕ). d .first ∷ d .count ∷ r) (told-next done s l) ∙ sym (pair-past (length done) (s .first) (s .count) (d .first) (d .count) (toldTo done l))
 
-pub told-nothing : (ss : List Stretch) → told ss [] ≡ []
-unfolding told
+pub told-nothing : (ss : List Stretch) → toldTo ss [] ≡ []
+unfolding toldTo
 told-nothing [] = refl
 told-nothing (s ∷ ss) = refl
 
-pub told-length : (ss : List Stretch) (l : List ℕ) → length (told ss l) ≡ length l
-unfolding told
+pub told-length : (ss : List Stretch) (l : List ℕ) → length (toldTo ss l) ≡ length l
+unfolding toldTo
 told-length [] l = refl
 told-length (s ∷ ss) [] = refl
 told-length (s ∷ ss) (x ∷ []) = refl
 told-length (s ∷ ss) (x ∷ y ∷ l) = omega (arith, told-length ss l)
 
 -- a list with room has them all
-told-front : (ss : List Stretch) (l : List ℕ) → 2 * length ss ≤ length l → told ss l ≡ pairsOf ss ++ drop (2 * length ss) l
-unfolding told pairsOf
+told-front : (ss : List Stretch) (l : List ℕ) → 2 * length ss ≤ length l → toldTo ss l ≡ pairsOf ss ++ drop (2 * length ss) l
+unfolding toldTo pairsOf
 told-front [] l h = refl
 told-front (s ∷ ss) [] h = absurd (omega arith)
 told-front (s ∷ ss) (x ∷ []) h = absurd (omega arith)
@@ -75,5 +75,5 @@ told-front (s ∷ ss) (x ∷ y ∷ l) h =
     past : suc (suc (2 * length ss)) ≡ 2 * length (s ∷ ss)
     past = omega arith
 
-pub told-all : (ss : List Stretch) (l : List ℕ) → 2 * length ss ≤ length l → told ss l ≡ writtenTo (2 * length ss) (pairsOf ss) l
+pub told-all : (ss : List Stretch) (l : List ℕ) → 2 * length ss ≤ length l → toldTo ss l ≡ writtenTo (2 * length ss) (pairsOf ss) l
 told-all ss l h = told-front ss l h ∙ ap (λ (r : List ℕ). r ++ drop (2 * length ss) l) (sym (take-all (2 * length ss) (pairsOf ss) (omega (arith, pairs-length ss))))

@@ -24,15 +24,15 @@ abbrev pub withPair : ℕ → ℕ → ℕ → List ℕ → List ℕ
 withPair at first count l = cond (ltb (2 * at + 1) (length l)) (set (set l (2 * at) first) (2 * at + 1) count) l
 
 -- the list once the stretches are told, as many as it has room for
-unfoldable pub told : List Stretch → List ℕ → List ℕ
-told [] l = l
-told (s ∷ ss) [] = []
-told (s ∷ ss) (x ∷ []) = x ∷ []
-told (s ∷ ss) (x ∷ y ∷ l) = s .first ∷ s .count ∷ told ss l
+unfoldable pub toldTo : List Stretch → List ℕ → List ℕ
+toldTo [] l = l
+toldTo (s ∷ ss) [] = []
+toldTo (s ∷ ss) (x ∷ []) = x ∷ []
+toldTo (s ∷ ss) (x ∷ y ∷ l) = s .first ∷ s .count ∷ toldTo ss l
 
 -- ---- block after block
 -- numbers that go on without leaving 64 bits
-pub record RunRoom (run : Run) (end : ℕ) : Type 0 where
+pub record StretchRoom (run : Run) (end : ℕ) : Type 0 where
   pub stretches : run .stretches < 2 ^ 32
   pub sum : run .replaced + run .count ≤ end
   pub small : end < 2 ^ 32
@@ -64,14 +64,14 @@ abbrev pub mostNumbers : Run → ℕ → ℕ
 mostNumbers run left = 2 * (run .stretches + min 1 (run .count)) + (left + 1) / 2 * 2
 
 -- what is found of a file
-pub record Counted (file : List ℕ) (found : Found) : Type 0 where
+pub record Tallied (file : List ℕ) (found : Found) : Type 0 where
   pub stretches-are : found .stretches ≡ length (stretchesOf file)
   pub replaced-are : found .replaced ≡ replacedIn file
 
 -- and the list as far as it reaches; or so many numbers, not none, are enough
 abbrev pub Surveys : ℕ → List ℕ → List ℕ → Outcome → List ℕ → Type 0
 Surveys room file list outcome.Enough list′ = (0 < room) × (listNeed file ≤ room) × (length list′ ≡ length list)
-Surveys room file list (outcome.Whole found) list′ = Counted file found × (list′ ≡ told (stretchesOf file) list)
+Surveys room file list (outcome.Whole found) list′ = Tallied file found × (list′ ≡ toldTo (stretchesOf file) list)
 
 -- and told whole, or the list is too short, and as it was
 abbrev pub Finds : List ℕ → List ℕ → Finding → List ℕ → Type 0

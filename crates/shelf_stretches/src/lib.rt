@@ -11,7 +11,7 @@ ghost use Prim.Native.Nat.{_+_, _^_, _≤_, _<_};
 ghost use lib.ListN.{length};
 ghost use Rattle.rules.specs.Shelf.{blocksFor, headTest};
 ghost use Rattle.rules.specs.Salvage.{blockIn, goodIn, listNeed};
-ghost use Rattle.shelf_stretches.specs.Told.{withPair, RunRoom, closed, closedList, stepped, steppedList, mostNumbers, Measured, Counted, Surveys, Finds};
+ghost use Rattle.shelf_stretches.specs.Told.{withPair, StretchRoom, closed, closedList, stepped, steppedList, mostNumbers, Measured, Tallied, Surveys, Finds};
 
 // How many stretches there are, and how many samples are in them.
 pub struct Found {
@@ -56,7 +56,7 @@ struct Run {
 
 // A stretch ends before a place, and is told; there is none where its count is 0.
 fn close(list: &mut [usize], run: Run, end: usize) -> Run
-    requires { ⌜ RunRoom run end ⌝ }
+    requires { ⌜ StretchRoom run end ⌝ }
     ensures { λ r. ⌜ (r ≡ closed run) × (now (list .exit) ≡ closedList run end (now (list .entry))) ⌝ }
 {
     if run.count == 0 {
@@ -72,7 +72,7 @@ fn close(list: &mut [usize], run: Run, end: usize) -> Run
 
 // The samples of a block follow, from a place on: they are known, or a stretch goes on.
 fn step(list: &mut [usize], run: Run, place: usize, known: bool, many: usize) -> Run
-    requires { ⌜ RunRoom run place × (many < 2 ^ 32) ⌝ }
+    requires { ⌜ StretchRoom run place × (many < 2 ^ 32) ⌝ }
     ensures { λ r. ⌜ (r ≡ stepped run known many) × (now (list .exit) ≡ steppedList run place known (now (list .entry))) ⌝ }
 {
     if known {
@@ -188,7 +188,7 @@ fn tell(list: &mut [usize], file: &[u8]) -> Finding
 
 // They were counted, and are told where the list has room for them.
 fn tell_counted(list: &mut [usize], file: &[u8], found: Found) -> Finding
-    requires { ⌜ (headTest (now file) ≡ true) × Counted (now file) found ⌝ }
+    requires { ⌜ (headTest (now file) ≡ true) × Tallied (now file) found ⌝ }
     ensures { λ r. ⌜ Finds (now (file .entry)) (now (list .entry)) r (now (list .exit)) ⌝ }
 {
     if list.len() < 2 * found.stretches {
