@@ -84,7 +84,7 @@ pub fn gather(samples: &mut [u8], blocks: &[u8], n: usize)
 }
 
 // No store has this capacity.
-pub fn capacity_wrong(capacity: usize) -> bool
+fn capacity_wrong(capacity: usize) -> bool
     ensures { λ r. ⌜ r ≡ capacityWrong capacity ⌝ }
 {
     if capacity == 0 {
