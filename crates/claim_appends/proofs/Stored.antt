@@ -3,7 +3,7 @@ use mathlib.Core.Path.{_≡_, refl, sym, ap, ap₂, _∙_, subst, subst⁻¹}
 use mathlib.Core.Bool.{Bool, true, false, cond}
 use mathlib.Core.List.{List, [], _∷_, _++_}
 use mathlib.Core.Option.{Option, none, some, Option·none-ne-some}
-use Prim.Native.Nat.{ℕ, _+_, _-_, _*_, _≤_, _<_}
+use Prim.Native.Nat.{ℕ, _+_, _-_, _*_, _^_, _≤_, _<_}
 use native.Mathlib.Decide.{decLt}
 use native.Mathlib.Omega.{arith}
 use borrow.Author.Tests.{le-leb, lt-leb}
@@ -27,7 +27,7 @@ use Rattle.append.proofs.Theorems.{Called, equations, right-stays, old-stay, ne
 use Rattle.append.proofs.Theorems as call
 use Rattle.claim_captures.specs.Words.{Memory, levels, at, AreBytes}
 use Rattle.claim_captures.specs.Claim.{Held}
-use Rattle.claim_captures.proofs.Words.{WordList, no-words, unit-most, words-taken}
+use Rattle.claim_captures.proofs.Words.{WordList, no-words, words-taken}
 use Rattle.claim_captures.proofs.Alike.{captures-alike}
 use Rattle.claim_captures.proofs.Additive.{additive}
 use Rattle.claim_appends.specs.Claim.{MayAppend, Appending, Filling, fits, taken, storedFrom, numbersFrom, unit, stored, Stores, AppendsStore, DensitiesAdd}
@@ -176,11 +176,11 @@ module _ (u capacity : ℕ) where
       let more = all-kept (taken u capacity xs bytes) (one .0) rest in
       (more .0, ap₂ (λ (x : ℕ) (ns : List ℕ). x ∷ ns) (one .1) (more .1))
 
-  -- what is taken of bytes are words
-  stored-words : u ≤ 2 → (xs : List ℕ) → WordList xs → (appends : List (List ℕ)) → AreBytes appends → WordList (storedFrom u capacity xs appends)
+  -- what is taken of bytes are samples of the unit
+  stored-words : (xs : List ℕ) → WordList u xs → (appends : List (List ℕ)) → AreBytes appends → WordList u (storedFrom u capacity xs appends)
   unfolding storedFrom
-  stored-words h xs w [] are = w
-  stored-words h xs w (b ∷ bs) are = stored-words h (taken u capacity xs b) (words-taken u h xs b w (are .0) (fits u capacity xs b)) bs (are .1)
+  stored-words xs w [] are = w
+  stored-words xs w (b ∷ bs) are = stored-words (taken u capacity xs b) (words-taken u xs b w (are .0) (fits u capacity xs b)) bs (are .1)
 
 -- ---- what appends made
 module _ (a : Filling) where
@@ -210,7 +210,7 @@ module _ (a : Filling) where
       mark-is = ap (λ (st : Store). st .mark) (k .record-is);
       samples-are = samples-are;
       levels-right = subst (λ (n : ℕ). Right (at (stored a)) n (levels (a .memory))) len-is (right-same (sampleOf (a .capture .unitsize) (a .memory .samples)) (at (stored a)) (levels (a .memory)) (a .capture .len) (λ i h. samples-are i (omega (arith, len-is))) (k .right));
-      words = λ i h. stored-words (unit a) (a .capacity) (unit-most (a .channels)) [] no-words (a .appends) (a .are-bytes) i;
+      words = λ i h. subst⁻¹ (λ (u : ℕ). at (stored a) i < 256 ^ u) (ap (λ (st : Store). st .unit) (k .record-is)) (stored-words (unit a) (a .capacity) [] (no-words (unit a)) (a .appends) (a .are-bytes) i);
     };
     numbers-are = both .1;
   }

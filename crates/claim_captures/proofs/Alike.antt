@@ -18,6 +18,7 @@ use Rattle.capture.specs.declared.Capture.{Capture}
 use Rattle.pixel.specs.Ranges.{viewAs}
 use Rattle.claim_captures.specs.Words.{Memory, at, Answered, Usize, Agree, Same}
 use Rattle.claim_captures.specs.Claim.{Held, Answers, LookAlike, CapturesAlike}
+use Rattle.claim_captures.proofs.Words.{held-words}
 use Rattle.claim_captures.proofs.Answers.{bounds, answers, unless-same}
 
 -- ---- two calls that answer x and y agree exactly when these are seen as the same
@@ -83,7 +84,7 @@ module _ {run₁ : List ℕ} {mark₁ : Option ℕ} (c₁ : Capture) (m₁ : Mem
   }
     where
       rules : Alike v (at run₁) (length run₁) (at run₂) (length run₂)
-      rules = same-alike v (at run₁) (length run₁) (at run₂) (length run₂) (one .words) (two .words) (same .runs)
+      rules = same-alike v (at run₁) (length run₁) (at run₂) (length run₂) (held-words c₁ m₁ one) (held-words c₂ m₂ two) (same .runs)
 
 pub captures-alike : CapturesAlike
 captures-alike run₁ mark₁ c₁ m₁ run₂ mark₂ c₂ m₂ one two v = (answers c₁ m₁ one, answers c₂ m₂ two, (alike-runs c₁ m₁ c₂ m₂ one two v, runs-alike c₁ m₁ c₂ m₂ one two v))

@@ -19,7 +19,6 @@ use Rattle.rules.specs.Pixel.{render, cutPixels}
 use Rattle.rules.specs.Encoder.{Turns, encoder, pairMask, pairWrong, pairRow}
 use Rattle.rules.specs.Refusal.{firstOf, storeRefusal, getRow, copied, copyRow, viewRows, topLine}
 use Rattle.rules.specs.Answer.{Answer, refused, given, unless, seen}
-use Rattle.claim_alike.specs.Alike.{AreWords}
 use Rattle.node.specs.Memory.{Right}
 use Rattle.capture.specs.declared.Capture.{Capture}
 use Rattle.capture.specs.declared.Got.{Got}
@@ -52,7 +51,7 @@ use Rattle.render.specs.declared.Drawn.{Drawn}
 use Rattle.render.specs.declared.Drawn.the-variants as drawn
 use Rattle.render.proofs.render.Reads as render-call
 use Rattle.claim_captures.specs.Turns.{Replayed, Reversed}
-use Rattle.claim_captures.specs.Words.{Memory, levels, Ref, Places, lending, at, Same, AddUp, Answered, Usize, F64, Agree}
+use Rattle.claim_captures.specs.Words.{Memory, levels, Ref, Places, lending, at, Same, OfUnit, AddUp, Answered, Usize, F64, Agree}
 
 -- ---- what each call may answer, by its contract; a question leaves what it was lent
 abbrev pub MayGet : Capture → Memory → ℕ → Got → Type 0
@@ -122,8 +121,7 @@ pub record Held (run : List ℕ) (mark : Option ℕ) (c : Capture) (m : Memory) 
   pub mark-is : markOf (c .trigger) ≡ mark
   pub samples-are : (i : ℕ) → i < length run → sampleOf (c .unitsize) (m .samples) i ≡ at run i
   pub levels-right : Right (at run) (length run) (levels m)
-  -- samples are what their unit's bytes hold
-  pub words : AreWords (at run) (length run)
+  pub words : OfUnit (c .unitsize) (at run) (length run)
 
 -- ---- answers
 -- each answer is 01's for the run. A search's count of nodes read is the steps of 01's walk over it (02, CR 3). Rows 1 and 2 refuse no question; 9 refuses get, 10 and 11, `viewRows`, render, and 11 samples

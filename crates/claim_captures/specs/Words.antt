@@ -49,6 +49,10 @@ pub record Same (v : ℕ) (run₁ : List ℕ) (mark₁ : Option ℕ) (run₂ : L
   pub marks : mark₁ ≡ mark₂
   pub runs : alike.Same v (at run₁) (length run₁) (at run₂) (length run₂)
 
+-- "Unit 1: one byte .. Unit 2: two bytes" (01, Records): samples are what their unit's bytes hold
+abbrev pub OfUnit : ℕ → (ℕ → ℕ) → ℕ → Type 0
+OfUnit unit s len = (i : ℕ) → i < len → s i < 256 ^ unit
+
 -- a list of pushes or appends, each of them bytes
 abbrev pub AreBytes : List (List ℕ) → Type 0
 AreBytes [] = Unit {0}

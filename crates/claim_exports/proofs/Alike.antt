@@ -23,6 +23,7 @@ use Rattle.claim_alike.proofs.Alike.{same-alike, alike-same}
 use Rattle.codes.specs.Record.{captureIn}
 use Rattle.claim_captures.specs.Words.{Memory, at, Same}
 use Rattle.claim_captures.specs.Claim.{Held}
+use Rattle.claim_captures.proofs.Words.{held-words}
 use Rattle.claim_captures.proofs.Answers.{unless-same}
 use Rattle.claim_captures.proofs.Alike.{agreed, same-seen, places}
 use Rattle.claim_captures.proofs.Additive.{add-up}
@@ -104,7 +105,7 @@ module _ {run₁ : List ℕ} {mark₁ : Option ℕ} (n₁ : List ℕ) (m₁ : Me
   }
     where
       rules : Alike v (at run₁) (length run₁) (at run₂) (length run₂)
-      rules = same-alike v (at run₁) (length run₁) (at run₂) (length run₂) (one .words) (two .words) (same .runs)
+      rules = same-alike v (at run₁) (length run₁) (at run₂) (length run₂) (held-words (captureIn n₁) m₁ one) (held-words (captureIn n₂) m₂ two) (same .runs)
 
   pub exports-alike : LookAlike v n₁ m₁ n₂ m₂ ↔ Same v run₁ mark₁ run₂ mark₂
   exports-alike = (alike-runs, runs-alike)

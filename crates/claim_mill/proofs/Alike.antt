@@ -30,6 +30,7 @@ use Rattle.mill_read.specs.Read.{extentFor}
 use Rattle.pixel.specs.Ranges.{viewAs}
 use Rattle.claim_captures.specs.Words.{Memory, at, Same}
 use Rattle.claim_captures.specs.Claim.{Held}
+use Rattle.claim_captures.proofs.Words.{held-words}
 use Rattle.claim_captures.proofs.Answers.{unless-same, copied-inside}
 use Rattle.claim_captures.proofs.Alike.{agreed}
 use Rattle.claim_recording.specs.Claim.{store, run, mark}
@@ -61,7 +62,7 @@ module _ (grant : ℕ) {run₁ : List ℕ} {mark₁ : Option ℕ} (c₁ : Captur
   a₂ = mill-answers c₂ m₂ two grant
 
   rules : Alike grant (at run₁) (length run₁) (at run₂) (length run₂)
-  rules = same-alike grant (at run₁) (length run₁) (at run₂) (length run₂) (one .words) (two .words) (same .runs)
+  rules = same-alike grant (at run₁) (length run₁) (at run₂) (length run₂) (held-words c₁ m₁ one) (held-words c₂ m₂ two) (same .runs)
 
   -- the same rows, and where they do not refuse the same answer by the rules
   both : {A : Type 0} (rows : Option ℕ → ℕ → List Row) (rule : (ℕ → ℕ) → Option ℕ → ℕ → A)

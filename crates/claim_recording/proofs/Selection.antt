@@ -1,8 +1,8 @@
 -- 1. selection: what a recording leaves is 01's run, with its mark, right levels and answers.
-use mathlib.Core.Path.{_≡_, refl, sym, ap, _∙_, subst}
+use mathlib.Core.Path.{_≡_, refl, sym, ap, _∙_, subst, subst⁻¹}
 use mathlib.Core.Bool.{Bool, cond}
 use mathlib.Core.List.{List}
-use Prim.Native.Nat.{ℕ, _+_, _%_, _≤_, _<_}
+use Prim.Native.Nat.{ℕ, _+_, _%_, _^_, _≤_, _<_}
 use native.Mathlib.Nat.{mod-lt}
 use native.Mathlib.Omega.{arith}
 use borrow.Author.Tests.{ne-eqb}
@@ -27,7 +27,6 @@ use Rattle.feeder.specs.Record.{recorderOf, armedAs}
 use Rattle.rules.specs.Push.{Left}
 use Rattle.rules.specs.Start.{freshRecorder, besideIn, begun}
 use Rattle.claim_captures.specs.Words.{levels, at}
-use Rattle.claim_captures.proofs.Words.{unit-most}
 use Rattle.claim_recording.specs.Claim.{settings, lengths, Recording, store, ruled, all, run, Selects}
 use Rattle.claim_recording.proofs.Pushes.{Going, Kept, kept-sound, all-kept}
 use Rattle.claim_recording.proofs.Words.{run-words}
@@ -135,7 +134,7 @@ module _ (r : Recording) where
       levels-right =
           subst (λ (n : ℕ). Right (at (run r)) n (levels (r .memory .store))) len-is
           (right-same (sampleOf (store r .unitsize) (r .memory .store .samples)) (at (run r)) (levels (r .memory .store)) (store r .len) (λ i h. samples-are i (omega (arith, len-is))) (kept .right));
-      words = λ i h. run-words (ruled r) (unit-most (r .setup .channels)) (r .pushes) (r .are-bytes) i;
+      words = λ i h. subst⁻¹ (λ (u : ℕ). at (run r) i < 256 ^ u) unit-is (run-words (ruled r) (r .pushes) (r .are-bytes) i);
     };
     replies-are = both .1 ∙ made .replies;
     beside-is = beside-is;

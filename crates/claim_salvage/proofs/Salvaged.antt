@@ -177,4 +177,4 @@ module _ {capacity : ℕ} {file : List ℕ} {m : Memory} {list : List ℕ} {s : 
 
       held : Bytes file → (c : Capture) → storeOf c ≡ st → Held (runIn st m′) (headingIn file .mark) c m′
       held b c c-is = new-held new-store (runIn st m′) (run-length st m′) run-at
-          (bytes-words st m′ (heading-headed file (entered .head) .unit-size .most) (subst⁻¹ Bytes (stored-bytes new-store) (salvaged-are file b))) c c-is
+          (bytes-words st m′ (subst⁻¹ Bytes (stored-bytes new-store) (salvaged-are file b))) c c-is

@@ -22,8 +22,7 @@ use Rattle.capture.specs.Calls.{startedOf}
 use Rattle.shelf_head.specs.declared.FileLength.{FileLength}
 use Rattle.shelf_head.specs.declared.FileLength.the-variants as length-of
 use Rattle.shelf_head.specs.Head.{lengthOf}
-use Rattle.claim_alike.specs.Alike.{AreWords}
-use Rattle.claim_captures.specs.Words.{Memory, at, Same}
+use Rattle.claim_captures.specs.Words.{Memory, at, OfUnit, Same}
 use Rattle.claim_captures.specs.Claim.{Held}
 use Rattle.claim_captures.proofs.Answers.{anywhere, somewhere}
 use Rattle.claim_captures.proofs.Alike.{captures-alike}
@@ -107,7 +106,7 @@ module _ {run : List ℕ} {mark : Option ℕ} {c : Capture} {m : Memory} {output
       (subst (λ (x : Option ℕ). Held (runIn (storeOf c) m) x d m₂′) (h .mark-is) (again .held d (d-is ∙ given-same (again .answer-is))))
     where
       again : Read.Same capacity (storeOf c) m (given st₂) m₂′
-      again = read-same w e r (subst⁻¹ (λ (x : List ℕ). AreWords (at x) (length x)) same-run (h .words))
+      again = read-same w e r (subst⁻¹ (λ (x : List ℕ). OfUnit (c .unitsize) (at x) (length x)) same-run (h .words))
 
       given-same : {x y : Store} → given x ≡ given y → x ≡ y
       given-same q = cc

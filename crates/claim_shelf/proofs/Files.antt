@@ -18,8 +18,7 @@ use Rattle.rules.specs.ShelfCalls.{outputRow, writeRefusal, writtenTo, capacity
 use Rattle.rules.proofs.Sample.{list-length, list-at, sample-take, sample-lt}
 use Rattle.rules.proofs.Refusal.{ranged, rows-rest}
 use Rattle.rules.proofs.Shelf.{passed, file-passes, filed-back, file-bytes, file-length, file-again, filed-has, never-passes}
-use Rattle.claim_alike.specs.Alike.{AreWords}
-use Rattle.claim_captures.specs.Words.{Memory, at}
+use Rattle.claim_captures.specs.Words.{Memory, at, OfUnit}
 use Rattle.claim_captures.specs.Claim.{Held}
 use Rattle.claim_shelf.specs.Files.{runIn, StoredBytes, Enough, Same, Files}
 use Rattle.claim_shelf.proofs.Written.{lentIn, Wrote, in-range, given-length, written-filled, file-in, same-file}
@@ -28,7 +27,7 @@ use Rattle.claim_shelf.proofs.Taken.{WasRead, sixteen, refused-leaves, 
 
 -- ---- the samples that a store holds
 module _ (st : Store) (m : Memory) where
-  run-at : (i : ℕ) → i < st .len → at (runIn st m) i ≡ sampleOf (st .unit) (m .samples) i
+  pub run-at : (i : ℕ) → i < st .len → at (runIn st m) i ≡ sampleOf (st .unit) (m .samples) i
   run-at i l = list-at (sampleOf (st .unit) (m .samples)) 0 (st .len) i l ∙ ap (sampleOf (st .unit) (m .samples)) (zero-add i)
 
   pub run-length : length (runIn st m) ≡ st .len
@@ -37,11 +36,11 @@ module _ (st : Store) (m : Memory) where
   pub taken-at : (i : ℕ) → i < st .len → sampleOf (st .unit) (take (st .len * st .unit) (m .samples)) i ≡ at (runIn st m) i
   taken-at i l = sample-take (st .unit) (m .samples) (st .len * st .unit) i (mul-le-mul-right (st .unit) l) ∙ sym (run-at i l)
 
-  -- bytes make words
-  pub bytes-words : st .unit ≤ 2 → StoredBytes st m → AreWords (at (runIn st m)) (length (runIn st m))
-  bytes-words two b i l =
+  -- bytes make samples of the unit
+  pub bytes-words : StoredBytes st m → OfUnit (st .unit) (at (runIn st m)) (length (runIn st m))
+  bytes-words b i l =
       let k : i < st .len = omega (arith, l, run-length) in
-      omega (arith, taken-at i k, sample-lt (st .unit) (take (st .len * st .unit) (m .samples)) i b, pow-le-pow-right {n = 256} (omega arith) {j = 2} two)
+      omega (arith, taken-at i k, sample-lt (st .unit) (take (st .len * st .unit) (m .samples)) i b)
 
 -- ---- written, then read
 module _ {st : Store} {m : Memory} {output : List ℕ} {n : ℕ} {output′ : List ℕ} (w : Wrote st m output (given n) output′) where
@@ -71,12 +70,12 @@ module _ {st : Store} {m : Memory} {output : List ℕ} {n : ℕ} {output′ : Li
     sampled i l =
         ap₂ (λ (h : Heading) (b : List ℕ). sampleOf (h .unit) b i) said holds ∙ taken-at st m i (subst (λ (h : Heading). i < h .len) said l)
 
-    pub read-same : AreWords (at (runIn st m)) (length (runIn st m)) → Same capacity st m answer m₂′
+    pub read-same : OfUnit (st .unit) (at (runIn st m)) (length (runIn st m)) → Same capacity st m answer m₂′
     read-same words = record {
       answer-is = answered;
       held = λ d d-is.
           subst (λ (h : Heading). Held (runIn st m) (h .mark) d m₂′) said
-          (new-held (new-store (subst (λ (a : Answer Store). WasRead capacity file m₂ a m₂′) answered r)) (runIn st m) (run-length st m ∙ sym (ap (λ (h : Heading). h .len) said)) sampled words d (d-is ∙ ap (storeIn capacity) (sym said)));
+          (new-held (new-store (subst (λ (a : Answer Store). WasRead capacity file m₂ a m₂′) answered r)) (runIn st m) (run-length st m ∙ sym (ap (λ (h : Heading). h .len) said)) sampled (subst⁻¹ (λ (h : Heading). OfUnit (h .unit) (at (runIn st m)) (length (runIn st m))) said words) d (d-is ∙ ap (storeIn capacity) (sym said)));
     }
 
 -- ---- read, then written
@@ -155,7 +154,7 @@ module _ {Write : Store → Memory → List ℕ → Answer ℕ → List ℕ → 
     one-file = λ st₁ m₁ o₁ n₁ o₁′ st₂ m₂ o₂ n₂ o₂′ one two. same-file (wrote st₁ m₁ o₁ (given n₁) o₁′ one) (wrote st₂ m₂ o₂ (given n₂) o₂′ two);
     reads-back = λ st m o n o′ b w capacity m₂ a m₂′ e r.
         let x = wrote st m o (given n) o′ w in
-        read-same x e (was-read capacity (take n o′) m₂ a m₂′ r) (bytes-words st m (ranged st (in-range x) .unit-size .most) b);
+        read-same x e (was-read capacity (take n o′) m₂ a m₂′ r) (bytes-words st m b);
     writes-back = λ capacity file m st m′ b r o a o′ room w. written-again b (was-read capacity file m (given st) m′ r) room (wrote st m′ o a o′ w);
     changed-refused = λ st m o n o′ b w place byte inside small other capacity m₂ a m₂′ right r.
         changed-answer b (wrote st m o (given n) o′ w) place byte inside small other right (was-read capacity (set (take n o′) place byte) m₂ a m₂′ r);

@@ -24,8 +24,7 @@ use Rattle.store.proofs.Stored.{RoomOrNone, samples-length, level-length, new-s
 use Rattle.capture.specs.declared.Capture.{Capture}
 use Rattle.capture.specs.Record.{storeOf}
 use Rattle.shelf_read.proofs.Taken.{new-room}
-use Rattle.claim_alike.specs.Alike.{AreWords}
-use Rattle.claim_captures.specs.Words.{Memory, levels, at}
+use Rattle.claim_captures.specs.Words.{Memory, levels, at, OfUnit}
 use Rattle.claim_captures.specs.Claim.{Held}
 use Rattle.claim_captures.proofs.Answers.{four-levels}
 use Rattle.claim_shelf.proofs.Written.{lentIn}
@@ -92,7 +91,7 @@ module _ {capacity : ℕ} {h : Heading} {bytes : List ℕ} {m m′ : Memory} (t 
       zero-plus = omega arith
 
   -- and its levels are right: the capture is held
-  pub new-held : (run : List ℕ) → length run ≡ h .len → ((i : ℕ) → i < h .len → sampleOf (h .unit) bytes i ≡ at run i) → AreWords (at run) (length run)
+  pub new-held : (run : List ℕ) → length run ≡ h .len → ((i : ℕ) → i < h .len → sampleOf (h .unit) bytes i ≡ at run i) → OfUnit (h .unit) (at run) (length run)
       → (c : Capture) → storeOf c ≡ storeIn capacity h → Held run (h .mark) c m′
   new-held run size same words c c-is = record {
     passes = subst⁻¹ (λ (x : Store). storeRefusal x (lentIn m′) ≡ 0) c-is (none-refused (storeIn capacity h) (lentIn m′) (passes .0) (passes .1));
@@ -100,7 +99,7 @@ module _ {capacity : ℕ} {h : Heading} {bytes : List ℕ} {m m′ : Memory} (t 
     mark-is = ap (λ (x : Store). x .mark) c-is;
     samples-are = λ i l. ap (λ (x : Store). sampleOf (x .unit) (m′ .samples) i) c-is ∙ sampled i (omega (arith, l, size));
     levels-right = rights;
-    words = words;
+    words = subst⁻¹ (λ (x : Store). OfUnit (x .unit) (at run) (length run)) c-is words;
   }
     where
       zero-plus : (i : ℕ) → i ≡ 0 + i

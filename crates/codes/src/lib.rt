@@ -17,6 +17,7 @@ use lines::Mask;
 use render::Drawn;
 use search::Found;
 use summary::Summed;
+use unknown::Located;
 use whole::Checked;
 ghost use mathlib.Core.Path.{_≡_};
 ghost use mathlib.Core.Bool.{Bool};
@@ -29,6 +30,7 @@ ghost use Rattle.density.specs.Density.{changesOf};
 ghost use Rattle.encoder.specs.Answer.{encodedOf};
 ghost use Rattle.whole.specs.Wrong.{checkedOf};
 ghost use Rattle.search.specs.Answer.{foundOf};
+ghost use Rattle.unknown.specs.Answer.{locatedOf};
 ghost use Rattle.burst.specs.Answer.{burstAs};
 ghost use Rattle.render.specs.Render.{drawnOf};
 ghost use Rattle.codes.specs.Record.{captureIn, storeNumbers, lenNumber, grownLen, lentNumbers, nodeNumbers, countNumber, burstNumbers, number, flagNumber, placeLevel, placeNumber};
@@ -230,6 +232,20 @@ pub fn found_code(answer: Found, place: &mut usize, read: &mut usize) -> u32
             *read = n;
             NONE
         }
+    }
+}
+
+// A search across unknown stretches counts no nodes.
+pub fn located_code(answer: Located, place: &mut usize) -> u32
+    ensures { λ r. ⌜ Out number (perhaps (locatedOf answer)) r (now (place .entry)) (now (place .exit)) ⌝ }
+{
+    match answer {
+        Located::Refused(n) => code(n),
+        Located::At(i) => {
+            *place = i;
+            0
+        }
+        Located::Nothing => NONE,
     }
 }
 

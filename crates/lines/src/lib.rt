@@ -2,8 +2,9 @@
 ghost use mathlib.Core.Path.{_≡_};
 ghost use Prim.Native.Nat.{_+_, _*_, _^_, _≤_, _<_};
 ghost use lib.ListN.{length};
-ghost use Rattle.rules.specs.Sample.{little, sampleOf};
+ghost use Rattle.rules.specs.Sample.{UnitSize, little, sampleOf};
 ghost use Rattle.rules.specs.Refusal.{topLine};
+ghost use Rattle.rules.specs.Unknown.{hasLine};
 ghost use Rattle.lines.specs.Held.{Held};
 
 // The word that holds a mask or a sample, a bit for each line.
@@ -18,6 +19,17 @@ pub fn line_bit(line: u8) -> Mask
     ensures { λ r. ⌜ r ≡ 2 ^ line ⌝ }
 {
     1u16 << line
+}
+
+// Whether a mask has a line that samples of a unit have.
+pub fn has_line(mask: Mask, unitsize: usize) -> bool
+    requires { ⌜ UnitSize unitsize ⌝ }
+    ensures { λ r. ⌜ r ≡ hasLine unitsize mask ⌝ }
+{
+    if unitsize == 1 {
+        return mask & 255 != 0;
+    }
+    mask != 0
 }
 
 // Sample i (01's s[i]).

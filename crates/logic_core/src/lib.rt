@@ -4,6 +4,7 @@
 pub mod mill_reader;
 pub mod recorder;
 pub mod shelf;
+pub mod unknown_stretches;
 
 use codes::capture_in;
 use lines::Mask;

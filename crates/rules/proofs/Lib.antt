@@ -38,8 +38,12 @@ pub mod BorderEncoder
 pub mod Stretches
 pub mod Salvage
 pub mod SalvageRead
+pub mod Listed
+pub mod Nearest
+pub mod Unknown
 pub mod BorderShelf
 pub mod BorderSalvage
+pub mod BorderUnknown
 pub mod BorderNode
 pub mod BorderWalk
 pub mod BorderBurst

@@ -1,4 +1,4 @@
--- Next is the smallest changed place after a place, previous the largest up to it, and each is none exactly when there is none.
+-- Next is the smallest place after a place at which a test holds, previous the largest up to it, and each is none exactly when there is none.
 use Prim.Native.Nat.{ℕ, zero, suc, _+_, _-_, _≤_, _<_, min}
 use mathlib.Core.Path.{_≡_, refl, sym, ap, _∙_}
 use mathlib.Core.Bool.{Bool, true, false, cond}
@@ -6,7 +6,7 @@ use mathlib.Core.Logic.{_↔_}
 use mathlib.Core.Option.{none, some}
 use native.Mathlib.Nat.{not-suc-le-zero, zero-lt-suc, add-zero, zero-add, suc-add}
 use native.Mathlib.Omega.{arith}
-use Rattle.rules.specs.Search.{changed, seek, higher, lower, next, previous}
+use Rattle.rules.specs.Search.{seek, higher, lower, nextAt, previousAt}
 use Rattle.rules.specs.Walk.{orFound}
 
 -- k steps from p
@@ -96,33 +96,33 @@ module _ (step : ℕ → ℕ) (test : ℕ → Bool) where
       go true ih = refl
       go false ih = ih
 
--- ---- next and previous
-module _ (s : ℕ → ℕ) (len mask from : ℕ) where
+-- ---- next and previous, at which any test holds: of next and previous it is `changed`
+module _ (test : ℕ → Bool) (len from : ℕ) where
   -- "smallest i with from < i < len"
   pub record Smallest (i : ℕ) : Type 0 where
     pub after : from < i
     pub below : i < len
-    pub holds : changed s mask i ≡ true
-    pub least : (j : ℕ) → from < j → j < i → changed s mask j ≡ false
+    pub holds : test i ≡ true
+    pub least : (j : ℕ) → from < j → j < i → test j ≡ false
 
-  pub next-some : (i : ℕ) → next s len mask from ≡ some i → Smallest i
+  pub next-some : (i : ℕ) → nextAt test len from ≡ some i → Smallest i
   next-some i e = record {
     after = omega (arith, place);
     below = omega (arith, place, f .below);
     holds = f .holds;
-    least = λ j a b. ap (changed s mask) (sym (times-up (j - (from + 1)) (from + 1) ∙ omega arith)) ∙ f .before (j - (from + 1)) (omega (arith, place));
+    least = λ j a b. ap test (sym (times-up (j - (from + 1)) (from + 1) ∙ omega arith)) ∙ f .before (j - (from + 1)) (omega (arith, place));
   }
     where
-      f : First higher (changed s mask) (from + 1) (len - (from + 1)) i
-      f = seek-some higher (changed s mask) (from + 1) (len - (from + 1)) i e
+      f : First higher test (from + 1) (len - (from + 1)) i
+      f = seek-some higher test (from + 1) (len - (from + 1)) i e
 
       place : i ≡ from + 1 + f .at
       place = f .is ∙ times-up (f .at) (from + 1)
 
-  pub next-none : (next s len mask from ≡ none) ↔ ((j : ℕ) → from < j → j < len → changed s mask j ≡ false)
+  pub next-none : (nextAt test len from ≡ none) ↔ ((j : ℕ) → from < j → j < len → test j ≡ false)
   next-none = (
-    λ e j a b. ap (changed s mask) (sym (times-up (j - (from + 1)) (from + 1) ∙ omega arith)) ∙ seek-none higher (changed s mask) (from + 1) (len - (from + 1)) e (j - (from + 1)) (omega arith),
-    λ h. none-seek higher (changed s mask) (from + 1) (len - (from + 1)) (λ j a. h (times higher j (from + 1)) (omega (arith, times-up j (from + 1))) (omega (arith, times-up j (from + 1)))),
+    λ e j a b. ap test (sym (times-up (j - (from + 1)) (from + 1) ∙ omega arith)) ∙ seek-none higher test (from + 1) (len - (from + 1)) e (j - (from + 1)) (omega arith),
+    λ h. none-seek higher test (from + 1) (len - (from + 1)) (λ j a. h (times higher j (from + 1)) (omega (arith, times-up j (from + 1))) (omega (arith, times-up j (from + 1)))),
   )
 
   -- "largest such i with 1 ≤ i ≤ from"
@@ -130,28 +130,28 @@ module _ (s : ℕ → ℕ) (len mask from : ℕ) where
     pub above : 1 ≤ i
     pub upto : i ≤ from
     pub below : i < len
-    pub holds : changed s mask i ≡ true
-    pub most : (j : ℕ) → i < j → j ≤ from → j < len → changed s mask j ≡ false
+    pub holds : test i ≡ true
+    pub most : (j : ℕ) → i < j → j ≤ from → j < len → test j ≡ false
 
-  pub previous-some : (i : ℕ) → previous s len mask from ≡ some i → Largest i
+  pub previous-some : (i : ℕ) → previousAt test len from ≡ some i → Largest i
   previous-some i e = record {
     above = omega (arith, place, f .below);
     upto = omega (arith, place, f .below);
     below = omega (arith, place, f .below);
     holds = f .holds;
-    most = λ j a b c. ap (changed s mask) (sym (times-down (min from (len - 1) - j) (min from (len - 1)) ∙ omega arith)) ∙ f .before (min from (len - 1) - j) (omega (arith, place, f .below));
+    most = λ j a b c. ap test (sym (times-down (min from (len - 1) - j) (min from (len - 1)) ∙ omega arith)) ∙ f .before (min from (len - 1) - j) (omega (arith, place, f .below));
   }
     where
-      f : First lower (changed s mask) (min from (len - 1)) (min from (len - 1)) i
-      f = seek-some lower (changed s mask) (min from (len - 1)) (min from (len - 1)) i e
+      f : First lower test (min from (len - 1)) (min from (len - 1)) i
+      f = seek-some lower test (min from (len - 1)) (min from (len - 1)) i e
 
       place : i ≡ min from (len - 1) - f .at
       place = f .is ∙ times-down (f .at) (min from (len - 1))
 
-  pub previous-none : (previous s len mask from ≡ none) ↔ ((j : ℕ) → 1 ≤ j → j ≤ from → j < len → changed s mask j ≡ false)
+  pub previous-none : (previousAt test len from ≡ none) ↔ ((j : ℕ) → 1 ≤ j → j ≤ from → j < len → test j ≡ false)
   previous-none = (
     λ e j a b c.
-        ap (changed s mask) (sym (times-down (min from (len - 1) - j) (min from (len - 1)) ∙ omega arith))
-        ∙ seek-none lower (changed s mask) (min from (len - 1)) (min from (len - 1)) e (min from (len - 1) - j) (omega arith),
-    λ h. none-seek lower (changed s mask) (min from (len - 1)) (min from (len - 1)) (λ j a. h (times lower j (min from (len - 1))) (omega (arith, times-down j (min from (len - 1)))) (omega (arith, times-down j (min from (len - 1)))) (omega (arith, times-down j (min from (len - 1))))),
+        ap test (sym (times-down (min from (len - 1) - j) (min from (len - 1)) ∙ omega arith))
+        ∙ seek-none lower test (min from (len - 1)) (min from (len - 1)) e (min from (len - 1) - j) (omega arith),
+    λ h. none-seek lower test (min from (len - 1)) (min from (len - 1)) (λ j a. h (times lower j (min from (len - 1))) (omega (arith, times-down j (min from (len - 1)))) (omega (arith, times-down j (min from (len - 1)))) (omega (arith, times-down j (min from (len - 1))))),
   )

@@ -8,9 +8,10 @@ use native.Mathlib.Nat.{add-assoc, add-zero}
 use native.Mathlib.Decide.{decLt, ℕ-discrete}
 use native.Mathlib.Omega.{arith}
 use lib.Dec.{ltb, leb, eqb}
-use lib.ListN.{length}
+use lib.ListN.{length, getD, drop}
+use lib.Seq.{drop-cons}
 use borrow.Author.Tests.{ltb-true, lt-ltb, le-ltb, leb-true, le-leb, lt-leb, eqb-true, eqb-false, eq-eqb, ne-eqb, not-false}
-use Rattle.rules.specs.Stretches.{Stretch, joined, stretchesIn, unknownIn, covers, apart, placesOf, pairsOf, pairsIn}
+use Rattle.rules.specs.Stretches.{Stretch, joined, stretchesIn, unknownIn, covers, apart, placesOf, pairsOf, pairsIn, stretchAt}
 use Rattle.rules.proofs.Block.{both, four}
 
 -- ---- place by place
@@ -278,3 +279,16 @@ pub pairs-back : (ss : List Stretch) → pairsIn (pairsOf ss) ≡ ss
 unfolding pairsOf pairsIn
 pairs-back [] = refl
 pairs-back (s ∷ ss) = ap (λ (l : List Stretch). s ∷ l) (pairs-back ss)
+
+-- a list of numbers from its stretch i on
+pub pairs-next : (l : List ℕ) (i : ℕ) → 2 * i + 1 < length l → pairsIn (drop (2 * i) l) ≡ stretchAt l i ∷ pairsIn (drop (2 * (i + 1)) l)
+unfolding pairsIn
+pairs-next l i h =
+    ap pairsIn (drop-cons l (2 * i) 0 (omega (arith, h)) ∙ ap (λ (x : List ℕ). getD l (2 * i) 0 ∷ x) (ap (λ (k : ℕ). drop k l) one ∙ drop-cons l (2 * i + 1) 0 h))
+    ∙ ap (λ (k : ℕ). stretchAt l i ∷ pairsIn (drop k l)) two
+  where
+    one : suc (2 * i) ≡ 2 * i + 1
+    one = omega arith
+
+    two : suc (2 * i + 1) ≡ 2 * (i + 1)
+    two = omega arith

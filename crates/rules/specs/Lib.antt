@@ -24,4 +24,5 @@ pub mod Shelf
 pub mod ShelfCalls
 pub mod Stretches
 pub mod Salvage
+pub mod Unknown
 pub mod Mill

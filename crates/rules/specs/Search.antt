@@ -21,17 +21,25 @@ higher p = p + 1
 abbrev pub lower : ℕ → ℕ
 lower p = p - 1
 
+-- the first place after from, and below len, at which a test holds
+abbrev pub nextAt : (ℕ → Bool) → ℕ → ℕ → Option ℕ
+nextAt test len from = seek higher test (from + 1) (len - (from + 1))
+
 -- "Next(mask, from): smallest i with from < i < len and .. nonzero"
 abbrev pub next : (ℕ → ℕ) → ℕ → ℕ → ℕ → Option ℕ
-next s len mask from = seek higher (changed s mask) (from + 1) (len - (from + 1))
+next s len mask from = nextAt (changed s mask) len from
 
 -- "min(from, len−1)": where a search backward starts
 abbrev pub startBack : ℕ → ℕ → ℕ
 startBack len from = min from (len - 1)
 
+-- the last one up to from, from 1 on and below len
+abbrev pub previousAt : (ℕ → Bool) → ℕ → ℕ → Option ℕ
+previousAt test len from = seek lower test (startBack len from) (startBack len from)
+
 -- "Previous: largest such i with 1 ≤ i ≤ from", and i < len
 abbrev pub previous : (ℕ → ℕ) → ℕ → ℕ → ℕ → Option ℕ
-previous s len mask from = seek lower (changed s mask) (startBack len from) (startBack len from)
+previous s len mask from = previousAt (changed s mask) len from
 
 -- "Summary(a,b) is the node of [a, min(b,len)), or none if empty."
 abbrev pub summary : (ℕ → ℕ) → ℕ → ℕ → ℕ → Option Node

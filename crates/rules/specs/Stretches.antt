@@ -1,8 +1,9 @@
 -- Stretches of places, and lists of them. 02: CR 8.
 use mathlib.Core.Bool.{Bool, true, false, cond, _&&_, _||_}
 use mathlib.Core.List.{List, [], _∷_}
-use Prim.Native.Nat.{ℕ, zero, suc, _+_}
+use Prim.Native.Nat.{ℕ, zero, suc, _+_, _*_}
 use lib.Dec.{ltb, leb, eqb}
+use lib.ListN.{getD}
 
 -- "each its first place and its count"
 pub record Stretch : Type 0 where
@@ -51,3 +52,7 @@ unfoldable pub pairsIn : List ℕ → List Stretch
 pairsIn [] = []
 pairsIn (a ∷ []) = []
 pairsIn (a ∷ b ∷ l) = record { first = a; count = b } ∷ pairsIn l
+
+-- stretch j of a list of numbers
+abbrev pub stretchAt : List ℕ → ℕ → Stretch
+stretchAt list j = record { first = getD list (2 * j) 0; count = getD list (2 * j + 1) 0 }

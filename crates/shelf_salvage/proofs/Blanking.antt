@@ -14,7 +14,7 @@ use Rattle.rules.specs.Refusal.{mostSamples}
 use Rattle.rules.specs.Stretches.{Stretch, covers, apart, pairsIn}
 use Rattle.rules.proofs.SampleBytes.{sample-bytes-length}
 use Rattle.rules.proofs.Block.{zeros-are}
-use Rattle.rules.proofs.Stretches.{among, among-yes, among-before, among-behind, Front, front}
+use Rattle.rules.proofs.Stretches.{among, among-yes, among-before, among-behind, Front, front, pairs-next}
 use Rattle.store.proofs.Bytes.{paste-before, paste-inside, paste-after}
 use Rattle.shelf_salvage.specs.Salvage.{zeroed, blanked, BlankRoom}
 
@@ -90,18 +90,6 @@ module _ {u : ℕ} (r : UnitSize u) (len : ℕ) where
       twice false c = refl
 
 -- ---- as a loop: i stretches are done, and the others would follow
-pairs-next : (l : List ℕ) (i : ℕ) → 2 * i + 1 < length l → pairsIn (drop (2 * i) l) ≡ record { first = getD l (2 * i) 0; count = getD l (2 * i + 1) 0 } ∷ pairsIn (drop (2 * (i + 1)) l)
-unfolding pairsIn
-pairs-next l i h =
-    ap pairsIn (drop-cons l (2 * i) 0 (omega (arith, h)) ∙ ap (λ (x : List ℕ). getD l (2 * i) 0 ∷ x) (ap (λ (k : ℕ). drop k l) one ∙ drop-cons l (2 * i + 1) 0 h))
-    ∙ ap (λ (k : ℕ). record { first = getD l (2 * i) 0; count = getD l (2 * i + 1) 0 } ∷ pairsIn (drop k l)) two
-  where
-    one : suc (2 * i) ≡ 2 * i + 1
-    one = omega arith
-
-    two : suc (2 * i + 1) ≡ 2 * (i + 1)
-    two = omega arith
-
 pub record Blanks (len u stretches : ℕ) (list samples₀ : List ℕ) (samples : List ℕ) (i : ℕ) : Type 0 where
   pub inside : i ≤ stretches
   pub size : length samples ≡ length samples₀

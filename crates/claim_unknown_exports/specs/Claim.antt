@@ -1,0 +1,60 @@
+-- Searches across unknown stretches over the exports, to be held beside include/logic_core.h: `Searches` (claim_unknown) says what is promised. 02: CR 9.
+-- A capture is its record's five numbers and its memory. No range is asked of list, mask and place, nor of what stands behind the out pointer.
+use mathlib.Core.Path.{_≡_}
+use mathlib.Core.Bool.{Bool, true, false, cond}
+use mathlib.Core.List.{List}
+use mathlib.Core.Option.{Option, none, some}
+use Prim.Native.Nat.{ℕ, zero, suc}
+use lib.Dec.{eqb}
+use contract.Lifetimes.{Lfts}
+use denote.Ref.{at-last}
+use Rattle.rules.specs.Answer.{Answer, refused, given}
+use Rattle.rules.specs.Unknown.{Sureness, certain, possible}
+use Rattle.codes.specs.Code.{noneCode}
+use Rattle.codes.specs.Record.{captureIn}
+use Rattle.logic_core.proofs.unknown_stretches.lc_next_certain.Reads as lc-next-certain
+use Rattle.logic_core.proofs.unknown_stretches.lc_prev_certain.Reads as lc-prev-certain
+use Rattle.logic_core.proofs.unknown_stretches.lc_next_possible.Reads as lc-next-possible
+use Rattle.logic_core.proofs.unknown_stretches.lc_prev_possible.Reads as lc-prev-possible
+use Rattle.claim_captures.specs.Words.{Memory, Ref, Places, lending}
+use Rattle.claim_exports.specs.Questions.{One, LookAlike}
+use Rattle.claim_unknown.specs.Searches.{Searches, SalvagedSearched}
+use Rattle.claim_shelf_exports.specs.Claim.{Writes}
+use Rattle.claim_salvage_exports.specs.Claim.{Salvage}
+
+-- each export may give a code, and leave this number behind `place`; it leaves what it was lent
+abbrev pub MayLocate : Sureness → Bool → List ℕ → Memory → List ℕ → ℕ → ℕ → ℕ → ℕ → ℕ → Type 0
+MayLocate certain false numbers m list mask from place code place′ =
+    (κs : Lfts 5) × (n : Ref) × (p : Places) × (l : Ref) × (o : One)
+    × lc-next-certain.Post κs (lending (at-last n numbers) p m (at-last l list, (mask, (from, (at-last o place, tt))))) code (lending (at-last n numbers) p m (at-last l list, (mask, (from, (at-last o place′, tt)))))
+MayLocate certain true numbers m list mask from place code place′ =
+    (κs : Lfts 5) × (n : Ref) × (p : Places) × (l : Ref) × (o : One)
+    × lc-prev-certain.Post κs (lending (at-last n numbers) p m (at-last l list, (mask, (from, (at-last o place, tt))))) code (lending (at-last n numbers) p m (at-last l list, (mask, (from, (at-last o place′, tt)))))
+MayLocate possible false numbers m list mask from place code place′ =
+    (κs : Lfts 5) × (n : Ref) × (p : Places) × (l : Ref) × (o : One)
+    × lc-next-possible.Post κs (lending (at-last n numbers) p m (at-last l list, (mask, (from, (at-last o place, tt))))) code (lending (at-last n numbers) p m (at-last l list, (mask, (from, (at-last o place′, tt)))))
+MayLocate possible true numbers m list mask from place code place′ =
+    (κs : Lfts 5) × (n : Ref) × (p : Places) × (l : Ref) × (o : One)
+    × lc-prev-possible.Post κs (lending (at-last n numbers) p m (at-last l list, (mask, (from, (at-last o place, tt))))) code (lending (at-last n numbers) p m (at-last l list, (mask, (from, (at-last o place′, tt)))))
+
+-- what a code says, with the number behind `place`: 0 is a place, 100 none, and another the number of a refusal
+abbrev pub located : ℕ → ℕ → Answer (Option ℕ)
+located zero place = given (some place)
+located (suc n) place = cond (eqb (suc n) noneCode) (given none) (refused (suc n))
+
+abbrev pub Locates : Sureness → Bool → List ℕ → Memory → List ℕ → ℕ → ℕ → Answer (Option ℕ) → Type 0
+Locates sure back numbers m list mask from answer =
+    (place code place′ : ℕ) × MayLocate sure back numbers m list mask from place code place′ × (located code place′ ≡ answer)
+
+-- ---- the claims
+abbrev pub UnknownSearched : Type 0
+UnknownSearched = Searches captureIn LookAlike Locates
+
+abbrev pub SalvagedAcross : Type 0
+SalvagedAcross = SalvagedSearched captureIn LookAlike Locates Writes Salvage
+
+-- where there is no place to tell, what stood behind the pointer stays
+abbrev pub PlaceKept : Type 0
+PlaceKept =
+    (sure : Sureness) (back : Bool) (numbers : List ℕ) (m : Memory) (list : List ℕ) (mask from place code place′ : ℕ)
+    → MayLocate sure back numbers m list mask from place code place′ → (code ≡ 0 → ⊥) → place′ ≡ place
