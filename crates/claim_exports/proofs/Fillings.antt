@@ -117,7 +117,7 @@ module _ (a : Filling) where
     appended = done .appended;
   }
 
-  filling-held : Held (stored a) none (captureIn (a .numbers)) (a .memory)
+  pub filling-held : Held (stored a) none (captureIn (a .numbers)) (a .memory)
   filling-held = appends-stored filled-by .held
 
   stores : Stores a

@@ -14,12 +14,14 @@ use Rattle.claim_captures.specs.Words.{Memory, levels}
 use Rattle.claim_captures.specs.Claim as captures
 use Rattle.claim_captures.proofs.Answers.{anywhere, somewhere}
 use Rattle.claim_captures.proofs.Alike.{captures-alike}
+use Rattle.claim_appends.proofs.Stored.{appends-stored}
+use Rattle.claim_recording.proofs.Selection.{selection}
 use Rattle.claim_shelf.specs.Claim.{Writes, Reads}
 use Rattle.claim_salvage.specs.Claim.{Salvage}
 use Rattle.claim_salvage.proofs.Claim.{files-salvaged}
-use Rattle.claim_unknown.specs.Claim.{Locates, UnknownSearched, SalvagedAcross}
+use Rattle.claim_unknown.specs.Claim.{Locates, UnknownSearched, SalvagedAcross, Stored, recorded, appended, AllAlike}
 use Rattle.claim_unknown.proofs.Searches.{answerOf, searches}
-use Rattle.claim_unknown.proofs.Salvaged.{salvaged-searched}
+use Rattle.claim_unknown.proofs.Salvaged.{salvaged-searched, made-alike}
 
 pub located-for : (x : Answer (Option ℕ)) → (v : Located) × (locatedOf v ≡ x)
 located-for (refused n) = (located.Refused n, refl)
@@ -47,3 +49,10 @@ unknown-searched = searches (λ (c : Capture). c) captures.LookAlike Locates tol
 
 pub salvaged-across : SalvagedAcross
 salvaged-across = salvaged-searched (λ (c : Capture). c) captures.LookAlike Locates unknown-searched Writes Reads Salvage files-salvaged
+
+stored-held : (run : List ℕ) (mark : Option ℕ) (c : Capture) (m : Memory) → Stored run mark c m → captures.Held run mark c m
+stored-held run mark c m (recorded r) = selection r .held
+stored-held run mark c m (appended a) = appends-stored a .held
+
+pub all-alike : AllAlike
+all-alike = made-alike (λ (c : Capture). c) captures.LookAlike Locates unknown-searched Stored stored-held Writes Reads Salvage files-salvaged

@@ -28,7 +28,8 @@ use Rattle.claim_captures.specs.Claim.{Held}
 use Rattle.claim_shelf.specs.Files.{runIn, StoredBytes}
 use Rattle.claim_shelf.proofs.Files.{run-at, run-length, bytes-words}
 use Rattle.claim_salvage.specs.Files.{Reported, Survives, Salvages}
-use Rattle.claim_unknown.specs.Searches.{Answers, Searches, badIn, Across, SalvagedSearched}
+use Rattle.claim_unknown.specs.Searches.{Answers, Searches, badIn, Across, SalvagedSearched, Made, MadeAlike}
+use Rattle.claim_unknown.specs.Searches.Made.{stored, was-read, was-salvaged}
 
 -- each stretch takes two numbers
 pairs-fit : (l : List ℕ) → 2 * length (pairsIn l) ≤ length l
@@ -146,3 +147,26 @@ pub salvaged-searched : {C : Type 0} (recordOf : C → Capture) (Looks : ℕ →
     (Salvage : ℕ → List ℕ → Memory → List ℕ → Answer Salvaged → Memory → List ℕ → Type 0) → Salvages Write Read Salvage → SalvagedSearched recordOf Looks Ask Write Salvage
 salvaged-searched recordOf Looks Ask promised Write Read Salvage salvages capacity file m list s m′ list′ right bytes salvaged c c-is =
     across recordOf Looks Ask promised Write Read Salvage salvages capacity file m list s m′ list′ right bytes salvaged c c-is
+
+-- ---- captures however they were made
+module _ {C : Type 0} (recordOf : C → Capture) (Looks : ℕ → C → Memory → C → Memory → Type 0) (Ask : Sureness → Bool → C → Memory → List ℕ → ℕ → ℕ → Answer (Option ℕ) → Type 0)
+    (promised : Searches recordOf Looks Ask)
+    (Stored : List ℕ → Option ℕ → C → Memory → Type 0) (stored-held : (run : List ℕ) (mark : Option ℕ) (c : C) (m : Memory) → Stored run mark c m → Held run mark (recordOf c) m)
+    (Write : Store → Memory → List ℕ → Answer ℕ → List ℕ → Type 0) (Read : ℕ → List ℕ → Memory → Answer Store → Memory → Type 0)
+    (Salvage : ℕ → List ℕ → Memory → List ℕ → Answer Salvaged → Memory → List ℕ → Type 0) (salvages : Salvages Write Read Salvage) where
+  -- what was read is what salvaging the file would leave
+  read-held : {capacity : ℕ} {file : List ℕ} {m : Memory} {st : Store} {m′ : Memory} {c : C} → Bytes file → Read capacity file m (given st) m′ → storeOf (recordOf c) ≡ st → Held (runIn st m′) (st .mark) (recordOf c) m′
+  read-held {capacity} {file} {m} {st} {m′} {c} b r c-is =
+      let w = salvages .may-salvage capacity file m [] in
+      let x = salvages .as-read capacity file m (given st) m′ r [] (w .0) (w .1) (w .2) (w .3) in
+      let all : Salvaged = record { store = st; stretches = 0; replaced = 0 } in
+      subst⁻¹ (λ (n : Memory). Held (runIn st n) (st .mark) (recordOf c) n) (x .same st refl .0)
+      (salvages .reports capacity file m [] all (w .1) (w .2) (subst (λ (a : Answer Salvaged). Salvage capacity file m [] a (w .1) (w .2)) (x .exactly st .0 refl .0) (w .3)) .held b (recordOf c) c-is)
+
+  made-held : {run : List ℕ} {mark : Option ℕ} {c : C} {m : Memory} → Made recordOf Looks Ask Stored Read Salvage run mark c m → Held run mark (recordOf c) m
+  made-held {run} {mark} {c} {m} (stored s) = stored-held run mark c m s
+  made-held {c = c} (was-read b r e) = read-held {c = c} b r e
+  made-held {c = c} (was-salvaged {capacity} {file} {m} {list} {s} {m′} {list′} b r e) = salvages .reports capacity file m list s m′ list′ r .held b (recordOf c) e
+
+  pub made-alike : MadeAlike recordOf Looks Ask Stored Read Salvage
+  made-alike run₁ mark₁ c₁ m₁ run₂ mark₂ c₂ m₂ one two unit = promised .alike run₁ mark₁ c₁ m₁ run₂ mark₂ c₂ m₂ (made-held one) (made-held two) unit

@@ -2,7 +2,7 @@
 use mathlib.Core.Path.{_≡_}
 use mathlib.Core.Bool.{Bool, true, false}
 use mathlib.Core.List.{List}
-use mathlib.Core.Option.{Option}
+use mathlib.Core.Option.{Option, none}
 use Prim.Native.Nat.{ℕ}
 use contract.Lifetimes.{Lfts}
 use denote.Ref.{at-last}
@@ -17,9 +17,11 @@ use Rattle.unknown.proofs.next_possible.Reads as next-possible
 use Rattle.unknown.proofs.prev_possible.Reads as prev-possible
 use Rattle.claim_captures.specs.Words.{Memory, Ref, Places, lending}
 use Rattle.claim_captures.specs.Claim as captures
-use Rattle.claim_shelf.specs.Claim.{Writes}
+use Rattle.claim_appends.specs.Claim.{Filling, stored}
+use Rattle.claim_recording.specs.Claim.{Recording, run, mark, store}
+use Rattle.claim_shelf.specs.Claim.{Writes, Reads}
 use Rattle.claim_salvage.specs.Claim.{Salvage}
-use Rattle.claim_unknown.specs.Searches.{Searches, SalvagedSearched}
+use Rattle.claim_unknown.specs.Searches.{Searches, SalvagedSearched, MadeAlike}
 
 -- each call may answer v; it leaves what it was lent
 abbrev pub MayLocate : Sureness → Bool → Capture → Memory → List ℕ → ℕ → ℕ → Located → Type 0
@@ -38,3 +40,11 @@ UnknownSearched = Searches (λ (c : Capture). c) captures.LookAlike Locates
 
 abbrev pub SalvagedAcross : Type 0
 SalvagedAcross = SalvagedSearched (λ (c : Capture). c) captures.LookAlike Locates Writes Salvage
+
+-- captures that a list of pushes or of appends made
+pub data Stored : List ℕ → Option ℕ → Capture → Memory → Type 0 where
+  recorded : (r : Recording) → Stored (run r) (mark r) (store r) (r .memory .store)
+  appended : (a : Filling) → Stored (stored a) none (a .capture) (a .memory)
+
+abbrev pub AllAlike : Type 0
+AllAlike = MadeAlike (λ (c : Capture). c) captures.LookAlike Locates Stored Reads Salvage

@@ -2,7 +2,6 @@
 -- A capture is told by some C, whose record is `recordOf` of it. `Looks v` is that two captures look alike to a viewer of lines v.
 -- `Ask sure back c m list mask from answer`: the next, or back the previous, certain or possible change of a capture with a list of stretches, with this answer, a place,
 -- none or a refusal. No range is asked of list, mask and place, beyond what a statement names.
--- Captures that are `Held`: recordings (claim_recording), stores that appends filled (claim_appends), and what was read (claim_shelf) or salvaged (claim_salvage).
 use mathlib.Core.Path.{_≡_}
 use mathlib.Core.Bool.{Bool, true, false, not, _||_}
 use mathlib.Core.List.{List, [], _∷_}
@@ -91,3 +90,20 @@ module _ {C : Type 0} (recordOf : C → Capture) (Looks : ℕ → C → Memory �
       → capacityWrong capacity ≡ false → Bytes file → Salvage capacity file m list (given s) m′ list′
       → (c : C) → storeOf (recordOf c) ≡ s .store
       → Across Write file s c m′ (take (2 * s .stretches) list′)
+
+  -- ---- captures however they were made
+  -- recorded or filled by appends, `Stored`, or read, or salvaged
+  pub data Made (Stored : List ℕ → Option ℕ → C → Memory → Type 0) (Read : ℕ → List ℕ → Memory → Answer Store → Memory → Type 0)
+      (Salvage : ℕ → List ℕ → Memory → List ℕ → Answer Salvaged → Memory → List ℕ → Type 0) : List ℕ → Option ℕ → C → Memory → Type 0 where
+    stored : {run : List ℕ} {mark : Option ℕ} {c : C} {m : Memory} → Stored run mark c m → Made Stored Read Salvage run mark c m
+    was-read : {capacity : ℕ} {file : List ℕ} {m : Memory} {st : Store} {m′ : Memory} {c : C} → Bytes file → Read capacity file m (given st) m′ → storeOf (recordOf c) ≡ st
+        → Made Stored Read Salvage (runIn st m′) (st .mark) c m′
+    was-salvaged : {capacity : ℕ} {file : List ℕ} {m : Memory} {list : List ℕ} {s : Salvaged} {m′ : Memory} {list′ : List ℕ} {c : C} → Bytes file → Salvage capacity file m list (given s) m′ list′ → storeOf (recordOf c) ≡ s .store
+        → Made Stored Read Salvage (runIn (s .store) m′) (s .store .mark) c m′
+
+  -- 3, of any two of them
+  abbrev pub MadeAlike : (List ℕ → Option ℕ → C → Memory → Type 0) → (ℕ → List ℕ → Memory → Answer Store → Memory → Type 0) → (ℕ → List ℕ → Memory → List ℕ → Answer Salvaged → Memory → List ℕ → Type 0) → Type 0
+  MadeAlike Stored Read Salvage =
+      (run₁ : List ℕ) (mark₁ : Option ℕ) (c₁ : C) (m₁ : Memory) (run₂ : List ℕ) (mark₂ : Option ℕ) (c₂ : C) (m₂ : Memory)
+      → Made Stored Read Salvage run₁ mark₁ c₁ m₁ → Made Stored Read Salvage run₂ mark₂ c₂ m₂ → recordOf c₁ .unitsize ≡ recordOf c₂ .unitsize
+      → (v : ℕ) (list₁ list₂ : List ℕ) → LookAlike v c₁ m₁ list₁ c₂ m₂ list₂ ↔ (Same v run₁ mark₁ run₂ mark₂ × (list₁ ≡ list₂))

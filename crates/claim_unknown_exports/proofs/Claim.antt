@@ -21,14 +21,17 @@ use Rattle.unknown.specs.Answer.{certainOf, possibleOf}
 use Rattle.claim_captures.specs.Words.{Memory, levels}
 use Rattle.claim_captures.proofs.Answers.{anywhere, somewhere}
 use Rattle.claim_exports.specs.Questions.{LookAlike}
+use Rattle.claim_captures.specs.Claim.{Held}
 use Rattle.claim_exports.proofs.Alike.{exports-alike}
+use Rattle.claim_exports.proofs.Recordings.{recording-held}
+use Rattle.claim_exports.proofs.Fillings.{filling-held}
 use Rattle.claim_exports.proofs.Answers.{nowhere}
 use Rattle.claim_unknown.proofs.Searches.{answerOf, searches}
-use Rattle.claim_unknown.proofs.Salvaged.{salvaged-searched}
+use Rattle.claim_unknown.proofs.Salvaged.{salvaged-searched, made-alike}
 use Rattle.claim_shelf_exports.specs.Claim.{Writes, Reads}
 use Rattle.claim_salvage_exports.specs.Claim.{Salvage}
 use Rattle.claim_salvage_exports.proofs.Claim.{files-salvaged}
-use Rattle.claim_unknown_exports.specs.Claim.{MayLocate, located, Locates, UnknownSearched, SalvagedAcross, PlaceKept}
+use Rattle.claim_unknown_exports.specs.Claim.{MayLocate, located, Locates, UnknownSearched, SalvagedAcross, Stored, recorded, appended, AllAlike, PlaceKept}
 
 -- ---- codes
 -- a refusal's number is none of 0 and 100
@@ -101,6 +104,13 @@ unknown-searched = searches captureIn LookAlike Locates told may (λ run₁ mark
 
 pub salvaged-across : SalvagedAcross
 salvaged-across = salvaged-searched captureIn LookAlike Locates unknown-searched Writes Reads Salvage files-salvaged
+
+stored-held : (run : List ℕ) (mark : Option ℕ) (numbers : List ℕ) (m : Memory) → Stored run mark numbers m → Held run mark (captureIn numbers) m
+stored-held run mark numbers m (recorded r) = recording-held r
+stored-held run mark numbers m (appended a) = filling-held a
+
+pub all-alike : AllAlike
+all-alike = made-alike captureIn LookAlike Locates unknown-searched Stored stored-held Writes Reads Salvage files-salvaged
 
 pub place-kept : PlaceKept
 place-kept sure back numbers m list mask from place code place′ may h =

@@ -18,8 +18,10 @@ use Rattle.logic_core.proofs.unknown_stretches.lc_next_possible.Reads as lc-nex
 use Rattle.logic_core.proofs.unknown_stretches.lc_prev_possible.Reads as lc-prev-possible
 use Rattle.claim_captures.specs.Words.{Memory, Ref, Places, lending}
 use Rattle.claim_exports.specs.Questions.{One, LookAlike}
-use Rattle.claim_unknown.specs.Searches.{Searches, SalvagedSearched}
-use Rattle.claim_shelf_exports.specs.Claim.{Writes}
+use Rattle.claim_exports.specs.Claim.{Recording, run, mark, asked}
+use Rattle.claim_exports.specs.Filled.{Filling, stored}
+use Rattle.claim_unknown.specs.Searches.{Searches, SalvagedSearched, MadeAlike}
+use Rattle.claim_shelf_exports.specs.Claim.{Writes, Reads}
 use Rattle.claim_salvage_exports.specs.Claim.{Salvage}
 
 -- each export may give a code, and leave this number behind `place`; it leaves what it was lent
@@ -52,6 +54,14 @@ UnknownSearched = Searches captureIn LookAlike Locates
 
 abbrev pub SalvagedAcross : Type 0
 SalvagedAcross = SalvagedSearched captureIn LookAlike Locates Writes Salvage
+
+-- captures that a list of pushes or of appends made through the exports
+pub data Stored : List ℕ → Option ℕ → List ℕ → Memory → Type 0 where
+  recorded : (r : Recording) → Stored (run r) (mark r) (asked r) (r .memory .store)
+  appended : (a : Filling) → Stored (stored a) none (a .numbers) (a .memory)
+
+abbrev pub AllAlike : Type 0
+AllAlike = MadeAlike captureIn LookAlike Locates Stored Reads Salvage
 
 -- where there is no place to tell, what stood behind the pointer stays
 abbrev pub PlaceKept : Type 0
