@@ -15,6 +15,7 @@ use crate::salvages::Salvages;
 use crate::shapes::{line, mask, Size, CHUNK};
 use crate::side::Side;
 use crate::unfinished::Unfinished;
+use crate::unknowns::Unknowns;
 use crate::write::{file_name, path};
 use rng::Rng;
 use std::time::{Duration, Instant};
@@ -100,10 +101,12 @@ fn random(seconds: u64, seed: u64) -> bool {
     let mut encoders = Encoders::default();
     let mut files = Files::default();
     let mut salvages = Salvages::default();
+    let mut unknowns = Unknowns::default();
     let mut longs = 0;
     encoders.sweep(&mut list, &mut rng);
     files.sweep(&mut list, &mut rng);
     salvages.sweep(&mut list, &mut rng);
+    unknowns.sweep(&mut list, &mut rng);
     let begun = Instant::now();
     while begun.elapsed() < Duration::from_secs(seconds) && list.asker().differences.len() < MANY {
         let group = &GROUPS[rng.below(GROUPS.len() as u64) as usize];
@@ -117,6 +120,9 @@ fn random(seconds: u64, seed: u64) -> bool {
             _ => (group.random)(&mut list, &mut rng, Size::Short),
         }
         mills.ask(&mut list, &mut rng);
+        if rng.once_in(2) {
+            unknowns.ask(&mut list, &mut rng);
+        }
         if rng.once_in(4) {
             files.ask(&mut list, &mut rng);
         }
@@ -183,6 +189,16 @@ fn random(seconds: u64, seed: u64) -> bool {
         noise.port.salvages,
         salvages.twice,
         salvages.changed,
+    );
+    let (made, ordinary) = asker.port().map_or((0, 0), |port| (port.across, port.ordinary));
+    println!(
+        "{} searches across unknown stretches, {} of them over memory that no call made; {} held against every filling, {} without a stretch against the ordinary search, {} of two captures alike; {} changes of captures held against what was salvaged",
+        made + unknowns.other.across + noise.port.across,
+        noise.port.across,
+        unknowns.filled,
+        ordinary + unknowns.other.ordinary + noise.port.ordinary,
+        unknowns.twice,
+        unknowns.changes,
     );
     asker.differences.is_empty()
 }

@@ -2,7 +2,8 @@
 
 use crate::feed::Feed;
 use crate::op::{
-    Ask, Burst, Lent, Mill, Op, Recorder, Settings, Store, Term, View, Wish, CONDITIONS,
+    Across, Ask, Burst, Lent, Mill, Op, Recorder, Settings, Store, Term, View, Wish, CONDITIONS,
+    SEARCHES,
 };
 
 impl Op {
@@ -32,6 +33,7 @@ impl Op {
             Op::Summary { a, b } => vec![22, *a, *b],
             Op::Density { a, b } => vec![23, *a, *b],
             Op::Encoder { a, b } => vec![24, *a, *b],
+            Op::Across(across) => across_numbers(across),
             Op::Burst(b) => {
                 vec![30, b.mask as u64, b.sample, b.max_gap, b.tolerance, b.budget]
             }
@@ -85,6 +87,7 @@ impl Op {
             22 => Op::Summary { a: next()?, b: next()? },
             23 => Op::Density { a: next()?, b: next()? },
             24 => Op::Encoder { a: next()?, b: next()? },
+            code @ 25..=28 => Op::Across(read_across(code - 25, numbers)?),
             30 => Op::Burst(Burst {
                 mask: next()? as u16,
                 sample: next()?,
@@ -128,6 +131,22 @@ fn mill_numbers(Mill { grant, ask }: &Mill) -> Vec<u64> {
         }
         Ask::Encoder { a, b } => vec![78, grant, a, b],
     }
+}
+
+fn across_numbers(across: &Across) -> Vec<u64> {
+    let Across { sort, way, mask, from, stretches } = across;
+    let kind = SEARCHES.iter().position(|search| *search == (*sort, *way));
+    let code = 25 + kind.expect("it is one of the four") as u64;
+    let mut line = vec![code, *mask as u64, *from, stretches.len() as u64];
+    line.extend(stretches);
+    line
+}
+
+fn read_across(kind: u64, numbers: &mut Numbers) -> Option<Across> {
+    let (sort, way) = SEARCHES[kind as usize];
+    let (mask, from, count) = (numbers.next()? as u16, numbers.next()?, numbers.next()?);
+    let stretches = (0..count).map(|_| numbers.next()).collect::<Option<_>>()?;
+    Some(Across { sort, way, mask, from, stretches })
 }
 
 fn feed_numbers(code: u64, feed: &Feed) -> Vec<u64> {

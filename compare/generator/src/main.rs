@@ -25,7 +25,9 @@ mod salvages;
 mod shapes;
 mod side;
 mod spoiled;
+mod stretches;
 mod unfinished;
+mod unknowns;
 mod write;
 
 use std::process::ExitCode;

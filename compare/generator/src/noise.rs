@@ -3,15 +3,17 @@
 //! the walk over what memory holds, a summary and its count of changes those of the nodes that are there, to which the port's
 //! side holds them. An encoder's position is that of its counts, and a mill that may see its lines gets what the service gets.
 
-use crate::document::{file, refusals::need, rules};
+use crate::document::{file, refusals, refusals::need, rules};
 use crate::feed::Feed;
+use crate::groups::unknown::four;
 use crate::list::List;
 use crate::mill::{self, Run};
 use crate::node::NUMBERS;
 use crate::op::{Ask, Burst, Mill, Op, Store};
 use crate::port::Port;
-use crate::shapes::{another, CHUNK};
+use crate::shapes::{another, mask, CHUNK};
 use crate::side::Side;
+use crate::stretches;
 use rng::Rng;
 
 #[derive(Default)]
@@ -44,6 +46,7 @@ impl Noise {
         }
         densities(&mut self.port, list, rng);
         encoders(&mut self.port, list, rng);
+        unknowns(&mut self.port, list, rng);
         match rng.below(8) {
             0..=1 => files(&mut self.port, list, rng),
             2..=3 => salvages(&mut self.port, list, rng),
@@ -136,6 +139,29 @@ pub fn encoders(port: &mut Port, list: &mut List, rng: &mut Rng) {
         }
         for fault in faults {
             list.asker().differs(&format!("memory that no call made: {ops:?}: {fault}"));
+        }
+    }
+}
+
+/// Searches across unknown stretches: refused exactly where row 18 holds, whatever the levels are.
+fn unknowns(port: &mut Port, list: &mut List, rng: &mut Rng) {
+    let len = port.len();
+    for _ in 0..3 {
+        let mut stretches = stretches::random(rng, len);
+        if rng.once_in(4) {
+            stretches = stretches::spoiled(rng, &stretches, len);
+        }
+        let right = refusals::stretches(&stretches, len);
+        let from = rng.below(len + 2);
+        for op in four(mask(rng, 16), rng.pick(&[0, from, from, u64::MAX]), &stretches) {
+            let answer = port.take(&op).expect("it is a call");
+            let mut faults = port.faults();
+            if answer.as_ref().err() != right.as_ref().err() {
+                faults.push(format!("the answer is {answer:?}"));
+            }
+            for fault in faults {
+                list.asker().differs(&format!("memory that no call made: {op:?}: {fault}"));
+            }
         }
     }
 }

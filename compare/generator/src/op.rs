@@ -80,6 +80,38 @@ pub struct Burst {
     pub budget: u64,
 }
 
+/// Which search.
+#[derive(Clone, Copy, Debug, PartialEq)]
+pub enum Way {
+    Next,
+    Prev,
+}
+
+/// Which change across unknown stretches: one that is there for every filling, or for some.
+#[derive(Clone, Copy, Debug, PartialEq)]
+pub enum Sort {
+    Certain,
+    Possible,
+}
+
+/// A search across unknown stretches, which are first place and count of each.
+#[derive(Clone, Debug)]
+pub struct Across {
+    pub sort: Sort,
+    pub way: Way,
+    pub mask: u16,
+    pub from: u64,
+    pub stretches: Vec<u64>,
+}
+
+/// The four of them, in the order of their codes.
+pub const SEARCHES: [(Sort, Way); 4] = [
+    (Sort::Certain, Way::Next),
+    (Sort::Certain, Way::Prev),
+    (Sort::Possible, Way::Next),
+    (Sort::Possible, Way::Prev),
+];
+
 /// A question of a mill, with its grant.
 #[derive(Clone, Copy, Debug)]
 pub struct Mill {
@@ -127,6 +159,8 @@ pub enum Op {
     RenderDigest(View),
     // An encoder, by its lines A and B.
     Encoder { a: u64, b: u64 },
+    // A search across unknown stretches.
+    Across(Across),
     // The recorder.
     Pretrigger { time: f64, rate: u64, unit: u64 },
     Start(Settings),

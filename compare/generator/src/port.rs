@@ -6,6 +6,7 @@ mod memory;
 mod mill;
 mod recorder;
 mod salvage;
+mod unknown;
 mod walk;
 
 use crate::digest::digest;
@@ -13,12 +14,12 @@ use crate::document::rules::Turns;
 use crate::document::{listed, optional, refusals, turned};
 use crate::file_memory::FileMemory;
 use crate::node::{joined, span, Node};
-use crate::op::{Burst, Lent, Op, Recorder, Store, View};
+use crate::op::{Burst, Lent, Op, Recorder, Store, View, Way};
 use crate::side::{Answer, Side};
 use memory::{pattern, Memory, GUARD};
 use port::{out, record, Asked, Feeder, Record, NONE};
 use recorder::Recording;
-use walk::{Walk, Walked, Way, MOST};
+use walk::{Walk, Walked, MOST};
 
 /// Memory up to this size is compared whole after every call, larger memory now and then.
 const SMALL: usize = 20_000;
@@ -59,6 +60,9 @@ pub struct Port {
     /// Files salvaged, and the numbers that the last one left in the list.
     pub salvages: u64,
     stretches: Vec<usize>,
+    /// Searches across unknown stretches, and how many of them had none and were held against the ordinary search.
+    pub across: u64,
+    pub ordinary: u64,
     calls: u64,
     faults: Vec<String>,
 }
@@ -202,6 +206,7 @@ impl Port {
             Op::Encoder { a, b } => self.encoder(|record, lent, position, counts| {
                 port::encoder(record, lent, a as usize, b as usize, position, counts)
             }),
+            Op::Across(ref across) => self.across(across),
             Op::Mill(mill) => self.mill(mill),
             _ => return None,
         })

@@ -6,7 +6,7 @@ mod mill;
 use crate::digest::digest;
 use crate::document::{listed, optional};
 use crate::feed::to_bytes;
-use crate::op::{Burst, Condition, Op, Settings, Store, Term, Wish};
+use crate::op::{Across, Burst, Condition, Op, Settings, Store, Term, Way, Wish};
 use crate::side::{Answer, Side};
 use edgewise::capture::{Capture, Snapshot};
 use edgewise::trigger::{self, pretrigger_samples, Feeder, TriggerTerm};
@@ -94,11 +94,11 @@ impl Rust {
                 let bytes = snapshot.raw_chunks().nth(*chunk as usize).unwrap_or(&[]);
                 Some(vec![bytes.len() as u64, digest(bytes.iter().map(|&b| b as u64))])
             }
-            Op::Next { mask, from } => {
-                Some(optional(snapshot.next_change(*mask, *from).map(|i| [i])))
-            }
-            Op::Prev { mask, from } => {
-                Some(optional(snapshot.prev_change(*mask, *from).map(|i| [i])))
+            Op::Next { mask, from } => Some(place(&snapshot, Way::Next, *mask, *from)),
+            Op::Prev { mask, from } => Some(place(&snapshot, Way::Prev, *mask, *from)),
+            // Without stretches both sorts are its own search.
+            Op::Across(Across { way, mask, from, stretches, .. }) if stretches.is_empty() => {
+                Some(place(&snapshot, *way, *mask, *from))
             }
             Op::Summary { a, b } => {
                 let node = snapshot.summary(*a, *b);
@@ -152,6 +152,14 @@ impl Rust {
         let marked = mark.is_some() as u64;
         vec![snapshot.len, marked, mark.unwrap_or(0), armed as u64, digest]
     }
+}
+
+fn place(snapshot: &Snapshot, way: Way, mask: u16, from: u64) -> Vec<u64> {
+    let found = match way {
+        Way::Next => snapshot.next_change(mask, from),
+        Way::Prev => snapshot.prev_change(mask, from),
+    };
+    optional(found.map(|i| [i]))
 }
 
 /// Document 02, CR 4: "The Rust is run with the two terms replaced by one Edge term."

@@ -103,6 +103,7 @@ mod tests {
                     Some(Op::Write { output: count } | Op::Says { count }) => count <= ROOM,
                     Some(Op::Read { count, .. }) => count <= ROOM,
                     Some(Op::Salvage { count, list, .. }) => count <= ROOM && list <= 256,
+                    Some(Op::Across(across)) => across.stretches.len() <= 256,
                     _ => true,
                 };
                 assert!(in_memory, "{line}");
@@ -111,7 +112,8 @@ mod tests {
     }
 
     /// With the numbers that document 01 prints, in its order; then CR 6's order, forward and backward; then the files that
-    /// are worked by hand in document/file.rs, and salvaged: the list 0, 3 has the digest 1 x 257 + 3 + 1.
+    /// are worked by hand in document/file.rs, and salvaged: the list 0, 3 has the digest 1 x 257 + 3 + 1; then searches across
+    /// unknown stretches that are worked by hand in document/fillings.rs, and borders of row 18.
     #[test]
     fn holds_the_shelf_examples() {
         let lists = texts();
@@ -143,6 +145,15 @@ mod tests {
             (7, vec!["64 3 511 2 1 17", "64 3 1024 0 1 0 2 3 0 0 0"]),
             (7, vec!["64 3 512 1 1 15", "64 3 512 2 1 0 2 3 1 3 261"]),
             (7, vec!["64 3 1023 3 1 0 2 3 1 3 261", "14 0 0 3 1 2 0 66307"]),
+            (8, vec![a, "25 1 0 2 2 2 1 0 1 7", "26 1 0 2 2 2 1 0 0", "27 1 0 2 2 2 1 0 1 2"]),
+            (8, vec!["25 1 4 2 2 2 1 0 1 7", "26 1 4 2 2 2 1 0 0", "27 1 4 2 2 2 1 0 1 7"]),
+            (8, vec!["28 1 4 2 2 2 1 0 1 4", "25 1 6 2 2 2 1 0 1 7", "26 1 6 2 2 2 1 0 0"]),
+            (8, vec!["27 1 0 2 0 1 1 0 1 1", "28 1 0 2 0 1 1 0 0", "25 1 6 2 0 1 1 0 1 7"]),
+            (8, vec!["25 1 6 2 7 1 1 0 0", "26 1 6 2 7 1 1 0 1 4", "27 1 6 2 7 1 1 0 1 7"]),
+            (8, vec!["25 1 0 0 0 0 1 2", "26 1 0 0 0 0 0", "27 1 0 0 0 0 1 2", "28 1 0 0 0 0 0"]),
+            (8, vec!["27 256 0 2 2 2 1 0 0", "28 256 0 2 2 2 1 0 0"]),
+            (8, vec!["28 1 3 2 7 1 1 0 1 2", "25 1 3 2 7 2 1 18"]),
+            (8, vec!["28 1 3 4 2 2 4 1 1 18", "25 1 3 4 2 2 3 1 1 18"]),
         ] {
             let lines = lines.join("\n");
             assert!(lists[list].contains(&lines), "no\n{lines}");

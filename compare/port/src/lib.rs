@@ -53,6 +53,7 @@ macro_rules! lent {
 
 pub mod file;
 pub mod mill;
+pub mod unknown;
 
 #[inline]
 pub fn start(channels: usize, capacity: usize, lent: Lent, record: &mut Record) -> u32 {

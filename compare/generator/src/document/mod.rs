@@ -1,22 +1,26 @@
 //! Document 01 as a side: it has an answer to every line that wants one.
 
 pub mod file;
+pub mod fillings;
 mod mill;
 pub mod refusals;
 pub mod rules;
 pub mod salvage;
+mod unknown;
 
 use crate::digest::digest;
 use crate::feed::to_bytes;
 use crate::file_memory::FileMemory;
 use crate::node::{joined, span, Node, NUMBERS};
-use crate::op::{Lent, Op, Recorder, Settings, Store, Wish};
+use crate::op::{Across, Lent, Op, Recorder, Settings, Store, Wish};
 use crate::side::{Answer, Side};
 use file::{Capture, Said};
+use fillings::Fillings;
 use rules::Turns;
 use salvage::Salvaged;
 
-/// Files up to this length are read and salvaged in two ways.
+/// Files up to this length are read and salvaged in two ways, and so are captures searched of which no more samples are to be
+/// filled in all fillings.
 const SMALL: usize = 4_096;
 
 #[derive(Default)]
@@ -168,9 +172,25 @@ impl Document {
                 refusals::encoder(*a, *b)?;
                 turned(rules::encoder(s, *a, *b))
             }
+            Op::Across(across) => {
+                refusals::stretches(&across.stretches, len)?;
+                optional(self.across(across).map(|i| [i]))
+            }
             Op::Mill(mill) => return mill::answer(s, self.store.mark, mill),
             _ => unreachable!("no question: {op:?}"),
         })
+    }
+
+    /// A search across stretches that row 18 doesn't refuse.
+    fn across(&self, across: &Across) -> Option<u64> {
+        let Across { sort, way, mask, from, ref stretches } = *across;
+        let (s, unit) = (&self.samples, self.store.unit);
+        let found = unknown::search(s, unit, across);
+        if fillings::count(unit, stretches).is_some_and(|n| n * s.len() as u64 <= SMALL as u64) {
+            let filled = Fillings::new(s, unit, stretches, mask);
+            assert_eq!(found, filled.search(sort, way, from), "two ways, one answer");
+        }
+        found
     }
 
     /// Another capture. The memory stays.

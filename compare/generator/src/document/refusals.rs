@@ -104,6 +104,17 @@ pub fn salvage(stretches: u64, list: u64) -> Result<(), u64> {
     first(&[(15, &|| list < 2 * stretches)])
 }
 
+/// A list of unknown stretches, after the rows of every call: an odd count of numbers, a stretch of no samples or one that
+/// reaches past len, or one that begins before the end of the one before it or there. Sums are exact.
+pub fn stretches(list: &[u64], len: u64) -> Result<(), u64> {
+    let pairs = || list.chunks_exact(2);
+    let end = |stretch: &[u64]| stretch[0] as u128 + stretch[1] as u128;
+    let beyond = |stretch: &[u64]| stretch[1] == 0 || end(stretch) > len as u128;
+    let close = |(one, next): (&[u64], &[u64])| next[0] as u128 <= end(one);
+    let odd = !list.len().is_multiple_of(2);
+    first(&[(18, &|| odd || pairs().any(beyond) || pairs().zip(pairs().skip(1)).any(close))])
+}
+
 /// A render, after the rows of every call.
 pub fn render(view: &View) -> Result<(), u64> {
     first(&[

@@ -1,7 +1,7 @@
 //! Document 01's rules, and CR 4 to CR 6 of document 02, as plain scans over all samples: no levels, no ring, no cut into
 //! pushes. Written from the documents and not from the Rust, which is compared with them.
 
-use crate::op::{Burst, Condition, Settings, Term, View, Wish};
+use crate::op::{Burst, Condition, Settings, Term, View, Way, Wish};
 
 pub fn unit(channels: u64) -> u64 {
     if channels > 8 {
@@ -17,18 +17,33 @@ pub fn samples(bytes: &[u8], unit: u64) -> Vec<u16> {
     bytes.chunks_exact(unit as usize).map(sample).collect()
 }
 
-fn changes(s: &[u16], i: u64, mask: u16) -> bool {
+/// The lines that samples of a unit have.
+pub fn lines(unit: u64) -> u16 {
+    if unit == 1 {
+        0xFF
+    } else {
+        0xFFFF
+    }
+}
+
+pub fn changes(s: &[u16], i: u64, mask: u16) -> bool {
     (s[i as usize] ^ s[i as usize - 1]) & mask != 0
 }
 
 pub fn next(s: &[u16], mask: u16, from: u64) -> Option<u64> {
-    let after = from.checked_add(1)?;
-    (after..s.len() as u64).find(|&i| changes(s, i, mask))
+    search(Way::Next, from, s.len() as u64, |i| changes(s, i, mask))
 }
 
 pub fn prev(s: &[u16], mask: u16, from: u64) -> Option<u64> {
-    let end = from.saturating_add(1).min(s.len() as u64);
-    (1..end).rev().find(|&i| changes(s, i, mask))
+    search(Way::Prev, from, s.len() as u64, |i| changes(s, i, mask))
+}
+
+/// The next place after `from` that holds, or the last one up to it; place 0 never does.
+pub fn search(way: Way, from: u64, len: u64, holds: impl Fn(u64) -> bool) -> Option<u64> {
+    match way {
+        Way::Next => (from.checked_add(1)?..len).find(|&i| holds(i)),
+        Way::Prev => (1..from.saturating_add(1).min(len)).rev().find(|&i| holds(i)),
+    }
 }
 
 /// First, last and toggles of [a, b), cut at the end.

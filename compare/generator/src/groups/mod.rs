@@ -9,6 +9,7 @@ pub mod render;
 pub mod salvage;
 mod search;
 mod store;
+pub mod unknown;
 
 use crate::list::List;
 use crate::shapes::Size;
@@ -22,7 +23,7 @@ pub struct Group {
     pub random: fn(&mut List, &mut Rng, Size),
 }
 
-pub const GROUPS: [Group; 8] = [
+pub const GROUPS: [Group; 9] = [
     Group { name: "store", write: store::write, random: store::random },
     Group { name: "search", write: search::write, random: search::random },
     Group { name: "burst", write: burst::write, random: burst::random },
@@ -31,6 +32,7 @@ pub const GROUPS: [Group; 8] = [
     Group { name: "encoder", write: encoder::write, random: encoder::random },
     Group { name: "file", write: file::write, random: file::random },
     Group { name: "salvage", write: salvage::write, random: salvage::random },
+    Group { name: "unknown", write: unknown::write, random: unknown::random },
 ];
 
 /// The captures of document 01's shelf examples.

@@ -1,9 +1,8 @@
 //! The calls of a mill's reader. Negative places are given as 64 bits.
 
-use super::walk::Way;
 use super::{found, said, Port, UNREAD};
 use crate::document::listed;
-use crate::op::{Ask, Burst, Mill};
+use crate::op::{Ask, Burst, Mill, Way};
 use crate::side::Answer;
 use port::mill::Asked;
 use port::{record, Lent, Record};

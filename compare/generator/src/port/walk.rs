@@ -4,7 +4,7 @@
 use super::memory::Memory;
 use crate::document::rules;
 use crate::node::{span, Node, TOP};
-use crate::op::Burst;
+use crate::op::{Burst, Way};
 use crate::shapes::CHUNK;
 use std::cell::RefCell;
 
@@ -26,13 +26,6 @@ impl<T> Walked<T> {
         let Walked { found, steps, chunks } = self;
         Walked { found: found.map(change), steps, chunks }
     }
-}
-
-/// Which search.
-#[derive(Clone, Copy)]
-pub enum Way {
-    Next,
-    Prev,
 }
 
 /// A question about lines of a mask, asked of a store and its memory.
