@@ -9,7 +9,10 @@ mod table;
 mod work;
 
 use table::Table;
-use work::{Appends, Bursts, Encoder, Filing, Pushes, Ranges, Row, Salvaging, Samples, Wait, Walk};
+use work::{
+    stretches, Across, Appends, Bursts, Encoder, Filing, Pushes, Ranges, Row, Salvaging, Samples,
+    Sort, Wait, Walk,
+};
 
 const CHUNK: u64 = 1_048_576;
 
@@ -37,6 +40,8 @@ fn main() {
             searches(&mut table, gap);
         }
         questions(&mut table);
+        across(&mut table);
+        list_check(&mut table);
         encoders(&mut table);
         files(&mut table);
     }
@@ -85,7 +90,71 @@ fn searches(table: &mut Table, gap: u64) {
                 .line(&format!("mill next, {name}"), "change", |side| side.mill_next_change(&work));
         }
         table.line(&format!("previous, {name}"), "change", |side| side.prev_change(&work));
+        without_stretches(table, mask, &format!("every {gap}, {lines}"));
     }
+}
+
+/// Certain and possible changes without a stretch, beside the ordinary search.
+fn without_stretches(table: &Table, mask: u16, name: &str) {
+    for (sort, kind) in [(Sort::Certain, "certain"), (Sort::Possible, "possible")] {
+        for (back, way) in [(false, "next"), (true, "previous")] {
+            let walk = Walk { mask, len: LEN };
+            let work = Across { walk, sort, back, stretches: Vec::new() };
+            table.line_beside(
+                [&format!("{kind} {way}, {name}"), way],
+                "change",
+                |side| side.across(&work),
+                |side| match back {
+                    false => side.next_change(&work.walk),
+                    true => side.prev_change(&work.walk),
+                },
+            );
+        }
+    }
+}
+
+/// One certain search across all stretches of captures of one chunk and of four, in whose files each second block or each
+/// hundredth is bad, while other lines change often or seldom.
+fn across(table: &mut Table) {
+    for len in [CHUNK, LEN] {
+        for (blocks, every) in [("2nd", 2), ("100th", 100)] {
+            let stretches = stretches(table.unit, len, every);
+            for (lines, gap) in [("busy", 4), ("quiet", 10_000)] {
+                table.hold(&Samples::stretched(table.unit, len, gap, &stretches));
+                for (back, way) in [(false, "next"), (true, "prev")] {
+                    let (walk, sort) = (Walk { mask: 2, len }, Sort::Certain);
+                    let work = Across { walk, sort, back, stretches: stretches.clone() };
+                    let chunks = len / CHUNK;
+                    let name = format!("across {chunks}M by {way}, each {blocks} block, {lines}");
+                    table.line_beside(
+                        [&name, "a find"],
+                        "stretch",
+                        |side| side.crossed(&work),
+                        |side| side.finds(&work),
+                    );
+                }
+            }
+        }
+    }
+}
+
+/// What row 18 takes over 1,000 stretches: a search that finds a change at once with their list, beyond that without one.
+fn list_check(table: &mut Table) {
+    let unit = table.unit;
+    let mut stretches = stretches(unit, LEN, 2);
+    stretches.truncate(2_000);
+    table.hold(&Samples::with_changes(unit, LEN, 2));
+    let work = |stretches| {
+        let walk = Walk { mask: 0xFFFF, len: LEN };
+        Across { walk, sort: Sort::Certain, back: false, stretches }
+    };
+    let (listed, empty) = (work(stretches), work(Vec::new()));
+    table.line_beyond(
+        ["list of 1000 stretches", "the search without one"],
+        "stretch",
+        |side| side.first(&listed, 1_000),
+        |side| side.first(&empty, 1_000),
+    );
 }
 
 fn questions(table: &mut Table) {

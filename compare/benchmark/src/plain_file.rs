@@ -3,7 +3,7 @@
 
 const BLOCK: usize = 512;
 const HEAD: usize = 12;
-const PAYLOAD: usize = 500;
+pub const PAYLOAD: usize = 500;
 
 /// How long the file of so many sample bytes is.
 pub fn length(bytes: usize) -> usize {

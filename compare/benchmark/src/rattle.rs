@@ -4,9 +4,10 @@
 use crate::plain_file;
 use crate::side::{filed, timed, turned, Side, Timed};
 use crate::work::{
-    Appends, Bursts, Encoder, Filing, Pushes, Ranges, Row, Salvaging, Samples, Wait, Walk, GRANT,
+    Across, Appends, Bursts, Encoder, Filing, Pushes, Ranges, Row, Salvaging, Samples, Sort, Wait,
+    Walk, GRANT,
 };
-use port::{file, mill, out, record, Asked, Feeder, Lent, LentMut, Record, Settings};
+use port::{file, mill, out, record, unknown, Asked, Feeder, Lent, LentMut, Record, Settings};
 use std::cell::RefCell;
 use std::hint::black_box;
 
@@ -142,26 +143,69 @@ impl Side for Rattle {
         let (record, lent) = (&self.held.record, self.held.lent());
         port::LINKED.then_some(())?;
         timed(NONE, || {
-            let (mut at, mut count, mut sum) = (0, 0, 0);
-            while port::next_change(record, lent, work.mask, at, &mut at, &mut 0) == 0 {
-                count += 1;
-                sum += at as u64;
-            }
-            (count, sum)
+            forward(|from, at| port::next_change(record, lent, work.mask, from, at, &mut 0))
         })
     }
 
     fn prev_change(&self, work: &Walk) -> Option<Timed> {
         let (record, lent) = (&self.held.record, self.held.lent());
         port::LINKED.then_some(())?;
-        timed(NONE, || {
-            let (mut at, mut count, mut sum) = (work.len as usize, 0, 0);
-            while port::prev_change(record, lent, work.mask, at, &mut at, &mut 0) == 0 {
-                count += 1;
-                sum += at as u64;
-                at -= 1;
+        let prev =
+            |from, at: &mut usize| port::prev_change(record, lent, work.mask, from, at, &mut 0);
+        timed(NONE, || backward(work.len, prev))
+    }
+
+    fn across(&self, work: &Across) -> Option<Timed> {
+        let (record, lent) = (&self.held.record, self.held.lent());
+        let Across { walk: Walk { mask, len }, ref stretches, .. } = *work;
+        port::LINKED.then_some(())?;
+        timed(NONE, || match (work.sort, work.back) {
+            (Sort::Certain, false) => {
+                forward(|from, at| unknown::next_certain(record, lent, stretches, mask, from, at))
             }
-            (count, sum)
+            (Sort::Certain, true) => backward(len, |from, at| {
+                unknown::prev_certain(record, lent, stretches, mask, from, at)
+            }),
+            (Sort::Possible, false) => {
+                forward(|from, at| unknown::next_possible(record, lent, stretches, mask, from, at))
+            }
+            (Sort::Possible, true) => backward(len, |from, at| {
+                unknown::prev_possible(record, lent, stretches, mask, from, at)
+            }),
+        })
+    }
+
+    fn finds(&self, work: &Across) -> Option<Timed> {
+        let (record, lent, mask) = (&self.held.record, self.held.lent(), work.walk.mask);
+        port::LINKED.then_some(())?;
+        timed(NONE, || {
+            let find = |stretch: &[usize]| {
+                let mut at = 0;
+                let _ = match work.back {
+                    false => {
+                        let from = stretch[0] + stretch[1];
+                        port::next_change(record, lent, mask, from, &mut at, &mut 0)
+                    }
+                    true => port::prev_change(record, lent, mask, stretch[0] - 1, &mut at, &mut 0),
+                };
+                at as u64
+            };
+            let sum = work.stretches.chunks(2).map(find).sum();
+            (work.stretches.len() as u64 / 2, sum)
+        })
+    }
+
+    fn first(&self, work: &Across, times: u64) -> Option<Timed> {
+        let (record, lent, mask) = (&self.held.record, self.held.lent(), work.walk.mask);
+        port::LINKED.then_some(())?;
+        timed(NONE, || {
+            let (mut at, mut sum) = (0, 0);
+            for _ in 0..times {
+                let list = black_box(&work.stretches);
+                assert_eq!(unknown::next_certain(record, lent, list, mask, 0, &mut at), 0);
+                sum += at as u64;
+            }
+            (times * work.stretches.len() as u64 / 2, sum)
         })
     }
 
@@ -372,6 +416,28 @@ impl Rattle {
         plain_file::write(*unit, Some(work.mark()), bytes, &mut file);
         Some(file)
     }
+}
+
+/// From change to change: how many, and the sum of their places.
+#[inline]
+fn forward(next: impl Fn(usize, &mut usize) -> u32) -> (u64, u64) {
+    let (mut at, mut count, mut sum) = (0, 0, 0);
+    while next(at, &mut at) == 0 {
+        count += 1;
+        sum += at as u64;
+    }
+    (count, sum)
+}
+
+#[inline]
+fn backward(len: u64, prev: impl Fn(usize, &mut usize) -> u32) -> (u64, u64) {
+    let (mut at, mut count, mut sum) = (len as usize, 0, 0);
+    while prev(at, &mut at) == 0 {
+        count += 1;
+        sum += at as u64;
+        at -= 1;
+    }
+    (count, sum)
 }
 
 /// Forward, backward and skipped.

@@ -2,7 +2,7 @@
 //! a side that lacks an operation leaves its function as it stands here.
 
 use crate::work::{
-    Appends, Bursts, Encoder, Filing, Pushes, Ranges, Row, Salvaging, Samples, Walk,
+    Across, Appends, Bursts, Encoder, Filing, Pushes, Ranges, Row, Salvaging, Samples, Walk,
 };
 use std::time::{Duration, Instant};
 
@@ -34,6 +34,28 @@ pub trait Side {
     }
 
     fn prev_change(&self, work: &Walk) -> Option<Timed> {
+        None
+    }
+
+    /// From change to change.
+    fn across(&self, work: &Across) -> Option<Timed> {
+        None
+    }
+
+    /// The same, counted by its stretches.
+    fn crossed(&self, work: &Across) -> Option<Timed> {
+        let count = work.stretches.len() as u64 / 2;
+        self.across(work).map(|timed| Timed { count, ..timed })
+    }
+
+    /// A find for each stretch: the ordinary search from the place behind it to the next change, or backward from the place
+    /// before it.
+    fn finds(&self, work: &Across) -> Option<Timed> {
+        None
+    }
+
+    /// The first search alone, so many times; it finds a change at once. Counted by the stretches.
+    fn first(&self, work: &Across, times: u64) -> Option<Timed> {
         None
     }
 

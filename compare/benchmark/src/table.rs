@@ -71,6 +71,25 @@ impl Table {
         self.print(name, per, None, work, &note);
     }
 
+    /// For work that holds other work of the port: what it takes beyond that.
+    pub fn line_beyond(
+        &self,
+        [name, beyond]: [&str; 2],
+        per: &str,
+        work: impl Fn(&dyn Side) -> Option<Timed>,
+        other: impl Fn(&dyn Side) -> Option<Timed>,
+    ) {
+        if !self.wanted(name) {
+            return;
+        }
+        let [work, other] = best([&|| work(&self.rattle), &|| other(&self.rattle)]);
+        let more = work.zip(other).map(|(work, other)| {
+            let time = work.time.saturating_sub(other.time);
+            Timed { time, ..work }
+        });
+        self.print(name, per, None, more, &format!(" (beyond {beyond})"));
+    }
+
     fn print(&self, name: &str, per: &str, rust: Option<Timed>, rattle: Option<Timed>, note: &str) {
         let (theirs, ours) = (rust.as_ref().map(each), rattle.as_ref().map(each));
         let ratio = theirs.zip(ours).map(|(theirs, ours)| ours / theirs);

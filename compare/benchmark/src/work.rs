@@ -1,5 +1,6 @@
 //! What both sides are given, the same for each.
 
+use crate::plain_file;
 use rng::Rng;
 
 /// The lines that a mill sees.
@@ -31,6 +32,17 @@ impl Samples {
             bytes.extend(&value.to_le_bytes()[..unit]);
         }
         Samples { unit, bytes }
+    }
+
+    /// Samples in which line 1 is set wherever they are known, and any line changes every `gap` samples or so; zeros in the
+    /// stretches. So line 1 changes where a stretch begins and where it ends, and no such change is certain.
+    pub fn stretched(unit: usize, len: u64, gap: u64, stretches: &[usize]) -> Samples {
+        let mut samples = Samples::with_changes(unit, len, gap);
+        samples.bytes.iter_mut().step_by(unit).for_each(|byte| *byte |= 2);
+        for stretch in stretches.chunks(2) {
+            samples.bytes[stretch[0] * unit..][..stretch[1] * unit].fill(0);
+        }
+        samples
     }
 
     /// An encoder on two lines, with at least and at most so many samples from step to step, or no step at all. It turns back
@@ -99,6 +111,28 @@ pub struct Pushes<'a> {
 pub struct Walk {
     pub mask: u16,
     pub len: u64,
+}
+
+#[derive(Clone, Copy)]
+pub enum Sort {
+    Certain,
+    Possible,
+}
+
+/// From change to change across unknown stretches: over the whole capture, forward or backward.
+pub struct Across {
+    pub walk: Walk,
+    pub sort: Sort,
+    pub back: bool,
+    /// First place and count of each.
+    pub stretches: Vec<usize>,
+}
+
+/// The stretches of a capture in whose file every so many-th block is bad.
+pub fn stretches(unit: usize, len: u64, every: usize) -> Vec<usize> {
+    let each = plain_file::PAYLOAD / unit;
+    let firsts = (each..len as usize - each).step_by(each * every);
+    firsts.flat_map(|first| [first, each]).collect()
 }
 
 /// A question for each range of this length.
