@@ -103,11 +103,10 @@ fn without_stretches(table: &Table, mask: u16, name: &str) {
             table.line_beside(
                 [&format!("{kind} {way}, {name}"), way],
                 "change",
-                |side| side.across(&work),
-                |side| match back {
+                [&|side| side.across(&work), &|side| match back {
                     false => side.next_change(&work.walk),
                     true => side.prev_change(&work.walk),
-                },
+                }],
             );
         }
     }
@@ -129,8 +128,7 @@ fn across(table: &mut Table) {
                     table.line_beside(
                         [&name, "a find"],
                         "stretch",
-                        |side| side.crossed(&work),
-                        |side| side.finds(&work),
+                        [&|side| side.crossed(&work), &|side| side.finds(&work)],
                     );
                 }
             }
@@ -152,8 +150,7 @@ fn list_check(table: &mut Table) {
     table.line_beyond(
         ["list of 1000 stretches", "the search without one"],
         "stretch",
-        |side| side.first(&listed, 1_000),
-        |side| side.first(&empty, 1_000),
+        [&|side| side.first(&listed, 1_000), &|side| side.first(&empty, 1_000)],
     );
 }
 
@@ -171,8 +168,7 @@ fn questions(table: &mut Table) {
     table.line_beside(
         ["density of the whole capture", "its summary"],
         "call",
-        |side| side.density(&work),
-        |side| side.summary(&work),
+        [&|side| side.density(&work), &|side| side.summary(&work)],
     );
     for (len, count) in [(1_000, 100), (1_000_000, 1)] {
         let work = Ranges::random(LEN, len, count);
@@ -233,8 +229,7 @@ fn files(table: &mut Table) {
         table.line_beside(
             [&format!("read of {name}"), "append and one pass of the check"],
             "sample",
-            |side| side.read(&work),
-            |side| side.append_and_check(&work),
+            [&|side| side.read(&work), &|side| side.append_and_check(&work)],
         );
         salvage(table, &format!("salvage of {name}"), Salvaging { filing: &work, every: None });
         if len == LEN {
@@ -249,8 +244,7 @@ fn salvage(table: &Table, name: &str, work: Salvaging) {
     table.line_beside(
         [name, "read"],
         "sample",
-        |side| side.salvage(&work),
-        |side| side.read(work.filing),
+        [&|side| side.salvage(&work), &|side| side.read(work.filing)],
     );
 }
 

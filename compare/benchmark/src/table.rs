@@ -9,6 +9,9 @@ use std::time::{Duration, Instant};
 /// Each line takes at least five rounds of both sides, and this long.
 const LONG: Duration = Duration::from_millis(600);
 
+/// A work as a side does it.
+pub type Work<'a> = &'a dyn Fn(&dyn Side) -> Option<Timed>;
+
 pub struct Table {
     pub unit: usize,
     rust: Rust,
@@ -52,42 +55,35 @@ impl Table {
     }
 
     /// For work that the Rust has no call for: the port's, and its ratio to other work of the port.
-    pub fn line_beside(
-        &self,
-        [name, beside]: [&str; 2],
-        per: &str,
-        work: impl Fn(&dyn Side) -> Option<Timed>,
-        other: impl Fn(&dyn Side) -> Option<Timed>,
-    ) {
-        if !self.wanted(name) {
-            return;
-        }
-        let [work, other] = best([&|| work(&self.rattle), &|| other(&self.rattle)]);
-        let both = work.as_ref().zip(other.as_ref());
-        let note = both.map_or(String::new(), |(work, other)| {
-            let (ratio, other) = (each(work) / each(other), each(other));
-            format!(" ({ratio:.2} of {beside}, which took {other:.2})")
+    pub fn line_beside(&self, [name, beside]: [&str; 2], per: &str, works: [Work; 2]) {
+        self.line_of_two(name, per, works, |work, other| {
+            let (ratio, other) = (each(&work) / each(&other), each(&other));
+            (work, format!(" ({ratio:.2} of {beside}, which took {other:.2})"))
         });
-        self.print(name, per, None, work, &note);
     }
 
     /// For work that holds other work of the port: what it takes beyond that.
-    pub fn line_beyond(
+    pub fn line_beyond(&self, [name, beyond]: [&str; 2], per: &str, works: [Work; 2]) {
+        self.line_of_two(name, per, works, |work, other| {
+            let time = work.time.saturating_sub(other.time);
+            (Timed { time, ..work }, format!(" (beyond {beyond})"))
+        });
+    }
+
+    /// A work of the port as it is shown with another, and a note.
+    fn line_of_two(
         &self,
-        [name, beyond]: [&str; 2],
+        name: &str,
         per: &str,
-        work: impl Fn(&dyn Side) -> Option<Timed>,
-        other: impl Fn(&dyn Side) -> Option<Timed>,
+        [work, other]: [Work; 2],
+        shown: impl Fn(Timed, Timed) -> (Timed, String),
     ) {
         if !self.wanted(name) {
             return;
         }
         let [work, other] = best([&|| work(&self.rattle), &|| other(&self.rattle)]);
-        let more = work.zip(other).map(|(work, other)| {
-            let time = work.time.saturating_sub(other.time);
-            Timed { time, ..work }
-        });
-        self.print(name, per, None, more, &format!(" (beyond {beyond})"));
+        let (work, note) = work.zip(other).map(|(work, other)| shown(work, other)).unzip();
+        self.print(name, per, None, work, &note.unwrap_or_default());
     }
 
     fn print(&self, name: &str, per: &str, rust: Option<Timed>, rattle: Option<Timed>, note: &str) {
