@@ -12,6 +12,8 @@ use replay_start::begin;
 use replay_start::begins;
 use replay_start::leaves;
 use replay_text::operations::Operation;
+use replay_unknown::about_unknown;
+use replay_unknown::unknown_line;
 
 // The lengths that the lent slices have.
 pub struct Lent {
@@ -38,6 +40,9 @@ fn read_only<'a>(
 ) -> Change {
     if begins(o.code) {
         return begin(o, line, f, samples, l1, l2, l3, l4, ring);
+    }
+    if about_unknown(o.code) {
+        return unknown_line(o, line, f, samples, l1, l2, l3, l4);
     }
     leaves(f, ask(o, f, samples, l1, l2, l3, l4, output), o.next)
 }

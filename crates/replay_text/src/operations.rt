@@ -2,7 +2,7 @@
 use crate::numbers::number;
 use number::lesser;
 
-// The code, its arguments, and where the bytes after them start. The last argument of 11, 12, 51, 52 and 53 is
+// The code, its arguments, and where the bytes after them start. The last argument of 11, 12, 25 to 28, 51, 52 and 53 is
 // how many entries follow.
 pub struct Operation {
     pub code: usize,
@@ -14,7 +14,7 @@ fn arguments_of(code: usize) -> usize {
     match code {
         11 | 12 | 15 | 17 | 52 | 53 | 60 | 62 => 1,
         5 | 10 | 20 | 21 | 22 | 23 | 24 | 61 => 2,
-        4 | 13 | 16 | 50 | 54 | 64 => 3,
+        4 | 13 | 16 | 25..=28 | 50 | 54 | 64 => 3,
         3 | 40 | 41 => 4,
         2 | 30 => 5,
         1 => 6,
