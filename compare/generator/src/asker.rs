@@ -8,6 +8,9 @@ use crate::port::Port;
 use crate::rust::Rust;
 use crate::side::{Answer, Side};
 
+/// The first differences come with the lines that lead to them. Nobody is shown more, and there may be very many.
+const TRACED: usize = 10;
+
 pub struct Asker {
     document: Document,
     rust: Rust,
@@ -66,7 +69,8 @@ impl Asker {
 
     /// Notes a difference beside those that asking finds.
     pub fn differs(&mut self, what: &str) {
-        let lines = self.trace.join("\n");
+        let traced = self.differences.len() < TRACED;
+        let lines = if traced { self.trace.join("\n") } else { "..".into() };
         self.differences.push(format!("{lines}\n{what}"));
     }
 
