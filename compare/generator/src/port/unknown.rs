@@ -1,5 +1,6 @@
-//! Searches across unknown stretches. Over any memory what is found lies in the part that is asked about; without stretches it
-//! is what the port's own ordinary search finds.
+//! Searches across unknown stretches. Over any memory what is found lies in the part that is asked about. Without stretches it
+//! is what the port's own ordinary search finds; a possible change is this where calls made the memory: the nodes of other
+//! memory may speak of lines that the unit lacks, and no filling has these.
 
 use super::memory::GUARD;
 use super::{found, Port};
@@ -32,7 +33,7 @@ impl Port {
         if code == 0 {
             self.within(way, from, place);
         }
-        if stretches.is_empty() {
+        if stretches.is_empty() && (self.made || sort == Sort::Certain) {
             self.beside_ordinary(way, mask, from, (code, place));
         }
         self.across += (code == 0 || code == NONE) as u64;
