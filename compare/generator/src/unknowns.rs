@@ -60,7 +60,8 @@ impl Unknowns {
             return;
         }
         // A plain scan of a long capture takes its time.
-        for _ in 0..if store.len > 100_000 { 2 } else { 6 } {
+        let lists = if store.len > 100_000 { 2 } else { 6 };
+        for _ in 0..lists {
             let mut stretches = random(rng, store.len);
             if rng.once_in(8) {
                 stretches = spoiled(rng, &stretches, store.len);
