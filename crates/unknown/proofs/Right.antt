@@ -2,7 +2,7 @@
 -- filling of the unknown stretches, or in some (rules' unknown-is says what that is).
 use mathlib.Core.Path.{_≡_, refl, sym, ap, ap₂, _∙_, subst}
 use mathlib.Core.Bool.{Bool, true, false, cond, not, _&&_, _||_, false≢true}
-use mathlib.Core.List.{List}
+use mathlib.Core.List.{List, [], _∷_}
 use mathlib.Core.Logic.{_⊎_, inl, inr}
 use mathlib.Core.Option.{Option, none, some}
 use Prim.Native.Nat.{ℕ, zero, suc, _+_, _-_, _^_, _≤_, _<_}
@@ -11,7 +11,7 @@ use native.Mathlib.Decide.{decLt}
 use native.Mathlib.Omega.{arith}
 use lib.Dec.{ltb, leb, eqb}
 use lib.ListN.{length}
-use borrow.Author.Tests.{leb-true, ltb-true, ltb-false, eqb-true, eqb-false}
+use borrow.Author.Tests.{leb-true, ltb-true, ltb-false, eqb-true, eqb-false, ne-eqb}
 use Rattle.rules.specs.Sample.{UnitSize, sampleOf}
 use Rattle.rules.specs.Node.{Node}
 use Rattle.rules.specs.Search.{changed, startBack}
@@ -25,13 +25,13 @@ use Rattle.rules.proofs.Block.{both}
 use Rattle.rules.proofs.Stretches.{among-yes}
 use Rattle.rules.proofs.Listed.{Lies, each-lies, each-rises, holds, HeldBy, covered-by, holds-covers}
 use Rattle.rules.proofs.Nearest.{Holds, asked-least, asked-most, nearest-as, search-nearest, is-search}
-use Rattle.rules.proofs.Unknown.{list-passes, itself, line-there}
+use Rattle.rules.proofs.Unknown.{list-passes, none-unknown, itself, line-there}
 use Rattle.node.specs.Memory.{readerOf, Right}
 use Rattle.node.proofs.Memory.{right-true}
 use Rattle.capture.specs.declared.Capture.{Capture}
 use Rattle.capture.specs.Record.{storeOf, lentOf}
 use Rattle.unknown.specs.Crossing.{walked, nthNumber, stretchCount, nthStretch, certainIn}
-use Rattle.unknown.specs.Meeting.{entry, met, entered, possibleIn}
+use Rattle.unknown.specs.Meeting.{entry, met, entered, possibleAcross, possibleIn}
 use Rattle.unknown.specs.Answer.{certainOf, possibleOf}
 use Rattle.search.specs.Part.{Stored}
 use Rattle.unknown.proofs.Crossing.{nth-inside}
@@ -159,9 +159,9 @@ module _ (len : ℕ) (list : List ℕ) (w : listWrong len list ≡ false) (back 
         of i l true q x = absurd (false≢true x)
         of i l false q x = (x, λ j h t. false≢true (sym q ∙ touched-beside i l (record { number = j; below = h; touch = t })))
 
-    pub possible-right : (from : ℕ) → possibleIn back unit reader len list mask from ≡ searchAt back (possibleAt unit (covers (pairsIn list)) s mask) len from
+    across-right : (from : ℕ) → possibleAcross back unit reader len list mask from ≡ searchAt back (possibleAt unit (covers (pairsIn list)) s mask) len from
     unfolding Nearest
-    possible-right from = go (hasLine unit mask) refl
+    across-right from = go (hasLine unit mask) refl
       where
         -- a mask that has a line of the unit, or none
         test : Bool → ℕ → Bool
@@ -195,6 +195,17 @@ module _ (len : ℕ) (list : List ℕ) (w : listWrong len list ≡ false) (back 
           where
             none-nearest : ((i : ℕ) → Asked back len from i → Holds (test false) i → ⊥) → Nearest back (Holds (test false)) len from none
             none-nearest h = h
+
+    pub possible-right : (from : ℕ) → possibleIn back unit reader len list mask from ≡ searchAt back (possibleAt unit (covers (pairsIn list)) s mask) len from
+    unfolding pairsIn
+    possible-right from = go list refl
+      where
+        go : (l : List ℕ) → list ≡ l → cond (eqb (length l) 0) (walked back reader mask len from) (possibleAcross back unit reader len list mask from) ≡ searchAt back (possibleAt unit (covers (pairsIn list)) s mask) len from
+        go [] e =
+            is-search back (changed s mask) len from (walked back reader mask len from) (walked-nearest len (le-refl len) from)
+            ∙ sym (none-unknown possible back unit s len mask from)
+            ∙ ap (λ (x : List ℕ). searchAt back (possibleAt unit (covers (pairsIn x)) s mask) len from) (sym e)
+        go (x ∷ l) e = ap (λ (b : Bool). cond b (walked back reader mask len from) (possibleAcross back unit reader len list mask from)) (ne-eqb (suc (length l)) 0 (λ z. omega (arith, z))) ∙ across-right from
 
 -- ---- the calls
 module _ (back : Bool) (c : Capture) (samples : List ℕ) (levels : ℕ → List ℕ) (list : List ℕ) (mask from : ℕ) where

@@ -4,6 +4,7 @@ use mathlib.Core.List.{List}
 use mathlib.Core.Option.{Option, none, some}
 use Prim.Native.Nat.{ℕ, zero, suc, _+_, min, max}
 use lib.Dec.{ltb, leb, eqb}
+use lib.ListN.{length}
 use Rattle.rules.specs.Node.{Node}
 use Rattle.rules.specs.Search.{startBack}
 use Rattle.rules.specs.Walk.{orFound}
@@ -47,5 +48,9 @@ entered back search len list from none = none
 entered back search len list from (some p) = besides back search len from p (met back p (nthStretch back list) (stretchCount list))
 
 -- nothing changes under a mask that has no line of the unit
+abbrev pub possibleAcross : Bool → ℕ → (ℕ → ℕ → Node) → ℕ → List ℕ → ℕ → ℕ → Option ℕ
+possibleAcross back unit reader len list mask from = cond (hasLine unit mask) (entered back (walked back reader mask) len list from (entry back len from)) none
+
+-- without stretches it is 01's search
 abbrev pub possibleIn : Bool → ℕ → (ℕ → ℕ → Node) → ℕ → List ℕ → ℕ → ℕ → Option ℕ
-possibleIn back unit reader len list mask from = cond (hasLine unit mask) (entered back (walked back reader mask) len list from (entry back len from)) none
+possibleIn back unit reader len list mask from = cond (eqb (length list) 0) (walked back reader mask len from) (possibleAcross back unit reader len list mask from)

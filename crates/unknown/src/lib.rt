@@ -19,7 +19,7 @@ ghost use Rattle.node.specs.Memory.{levelOf, readerOf};
 ghost use Rattle.find.specs.Way.{placeOf};
 ghost use Rattle.search.specs.Part.{Stored};
 ghost use Rattle.unknown.specs.Crossing.{walked, nthNumber, stretchCount, nthStretch, beyond, crossing, certainIn};
-ghost use Rattle.unknown.specs.Meeting.{entry, meets, met, nearer, cutAt, entered, possibleIn};
+ghost use Rattle.unknown.specs.Meeting.{entry, meets, met, nearer, cutAt, entered, possibleAcross};
 ghost use Rattle.unknown.specs.Answer.{spotOf, locatedOf, certainOf, possibleOf};
 
 // A place, or none.
@@ -291,7 +291,7 @@ fn possible_from<'a>(
     )
 }
 
-// The next possible change, of a capture and a list that passed their rows.
+// The next possible change across stretches, of a capture and a list that passed their rows.
 fn possible_in<'a>(
     samples: &[u8],
     l1: &'a [Mask],
@@ -306,7 +306,7 @@ fn possible_in<'a>(
     from: usize,
 ) -> Spot
     requires { ⌜ Stored unitsize len (now samples) (levelOf (now l1) (now l2) (now l3) (now l4)) × (listWrong len (now list) ≡ false) ⌝ }
-    ensures { λ r. ⌜ spotOf r ≡ possibleIn back unitsize (readerOf unitsize (now (samples .entry)) (levelOf (now (l1 .entry)) (now (l2 .entry)) (now (l3 .entry)) (now (l4 .entry)))) len (now (list .entry)) mask from ⌝ }
+    ensures { λ r. ⌜ spotOf r ≡ possibleAcross back unitsize (readerOf unitsize (now (samples .entry)) (levelOf (now (l1 .entry)) (now (l2 .entry)) (now (l3 .entry)) (now (l4 .entry)))) len (now (list .entry)) mask from ⌝ }
 {
     if !lines::has_line(mask, unitsize) {
         return Spot::Nothing;
@@ -331,7 +331,7 @@ fn possible_in<'a>(
     )
 }
 
-// ---- the calls
+// ---- the calls. Without stretches each is 01's search, and costs what that costs.
 
 // A search's answer where no row refuses.
 fn given(found: Spot) -> Located
@@ -360,6 +360,20 @@ pub fn next_certain<'a>(
     let number = stretches::refusal(c, samples, l1, l2, l3, l4, list);
     if number != 0 {
         return Located::Refused(number);
+    }
+    if list.len() == 0 {
+        return given(change(
+            samples,
+            l1,
+            l2,
+            l3,
+            l4,
+            c.unitsize,
+            c.len,
+            false,
+            mask,
+            from,
+        ));
     }
     given(certain_in(
         samples,
@@ -394,6 +408,9 @@ pub fn prev_certain<'a>(
     if number != 0 {
         return Located::Refused(number);
     }
+    if list.len() == 0 {
+        return given(change(samples, l1, l2, l3, l4, c.unitsize, c.len, true, mask, from));
+    }
     given(certain_in(
         samples,
         l1,
@@ -427,6 +444,20 @@ pub fn next_possible<'a>(
     if number != 0 {
         return Located::Refused(number);
     }
+    if list.len() == 0 {
+        return given(change(
+            samples,
+            l1,
+            l2,
+            l3,
+            l4,
+            c.unitsize,
+            c.len,
+            false,
+            mask,
+            from,
+        ));
+    }
     given(possible_in(
         samples,
         l1,
@@ -459,6 +490,9 @@ pub fn prev_possible<'a>(
     let number = stretches::refusal(c, samples, l1, l2, l3, l4, list);
     if number != 0 {
         return Located::Refused(number);
+    }
+    if list.len() == 0 {
+        return given(change(samples, l1, l2, l3, l4, c.unitsize, c.len, true, mask, from));
     }
     given(possible_in(
         samples,
