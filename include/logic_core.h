@@ -211,11 +211,42 @@ uint32_t lc_read(size_t capacity, const uint8_t *file, size_t file_len, LC_MEMOR
 uint32_t lc_salvage(size_t capacity, const uint8_t *file, size_t file_len, LC_MEMORY,
                     size_t *stretches, size_t stretches_len, size_t record[5], size_t counts[2]);
 
+/* Searches across unknown stretches, as lc_salvage leaves them: lc_next_certain, lc_prev_certain, lc_next_possible and
+ * lc_prev_possible. Samples in a stretch may have had any value that the unit holds; what is stored there does not matter. A
+ * change at a place, 1 or above and below len, is certain where a line of the mask differs there from the sample before
+ * whatever these values were, and possible where one does for some of them. So none is certain at a place of a stretch or at
+ * the one right behind it, and one is possible at each of these where the mask has a line that the unit has: lines 8 to 15
+ * are 0 throughout where a sample is one byte. Elsewhere the changes are those that are stored, certain and possible.
+ *
+ * stretches has two numbers for each stretch, its first place and its count of samples, and stretches_len counts numbers:
+ * of lc_salvage's list, two for each stretch that it found, and not what the list holds behind them. Where it is 0, the
+ * answers are those of lc_next_change and lc_prev_change. Nodes are not counted here. Each call writes place alone, and that
+ * with 0 alone.
+ *
+ * Refuses with 1, 2, and 18 where stretches_len is odd, a stretch has no samples or reaches past len, or one begins at or
+ * before the place right behind the one before it: they rise, and none overlaps or touches the next. Any from is allowed. */
+
+/* The smallest place above from with a certain change; LC_NONE where there is none. */
+uint32_t lc_next_certain(const size_t record[5], LC_CONST_MEMORY, const size_t *stretches, size_t stretches_len,
+                         uint16_t mask, size_t from, size_t *place);
+
+/* The same backward: the largest such place that is not above from. */
+uint32_t lc_prev_certain(const size_t record[5], LC_CONST_MEMORY, const size_t *stretches, size_t stretches_len,
+                         uint16_t mask, size_t from, size_t *place);
+
+/* The smallest place above from with a possible change, which may be a certain one; LC_NONE where there is none. */
+uint32_t lc_next_possible(const size_t record[5], LC_CONST_MEMORY, const size_t *stretches, size_t stretches_len,
+                          uint16_t mask, size_t from, size_t *place);
+
+/* The same backward: the largest such place that is not above from. */
+uint32_t lc_prev_possible(const size_t record[5], LC_CONST_MEMORY, const size_t *stretches, size_t stretches_len,
+                          uint16_t mask, size_t from, size_t *place);
+
 /* A mill's reader: the calls lc_mill_*, for whoever may see some lines only. Each takes a grant, a mask of lines, and tells
  * nothing of the others: to it, two captures of equal length, mark and granted lines look alike, refusals too, each with its
  * memory lent whole; unit, capacity and the other lines may differ. Who holds the memory can read all lines in it, so the
  * caller keeps the memory and hands on the answers. lc_density, lc_raw, lc_whole and a capture's file are not for mills: the
- * count of changes, the bytes and the nodes tell of every line.
+ * count of changes, the bytes and the nodes tell of every line. The searches across unknown stretches are the service's alone.
  *
  * Samples, nodes and pixels show granted lines only: each number is ANDed with the grant. Places are int64_t numbers that
  * count from the mark, negative before it, or from the first sample where there is no mark: the first sample is at -mark, or

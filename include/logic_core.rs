@@ -147,17 +147,41 @@ exports! {
         node: *mut [u16; 3]
     ) -> u32;
     fn lc_needs(channels: usize, capacity: usize, sizes: *mut [usize; 5]) -> u32;
+    fn lc_next_certain(
+        record: *const [usize; 5], samples: *const u8, samples_len: usize,
+        l1: *const u16, l1_len: usize, l2: *const u16, l2_len: usize,
+        l3: *const u16, l3_len: usize, l4: *const u16, l4_len: usize,
+        stretches: *const usize, stretches_len: usize, mask: u16, from: usize, place: *mut usize
+    ) -> u32;
     fn lc_next_change(
         record: *const [usize; 5], samples: *const u8, samples_len: usize,
         l1: *const u16, l1_len: usize, l2: *const u16, l2_len: usize,
         l3: *const u16, l3_len: usize, l4: *const u16, l4_len: usize, mask: u16, from: usize,
         place: *mut usize, read: *mut usize
     ) -> u32;
+    fn lc_next_possible(
+        record: *const [usize; 5], samples: *const u8, samples_len: usize,
+        l1: *const u16, l1_len: usize, l2: *const u16, l2_len: usize,
+        l3: *const u16, l3_len: usize, l4: *const u16, l4_len: usize,
+        stretches: *const usize, stretches_len: usize, mask: u16, from: usize, place: *mut usize
+    ) -> u32;
+    fn lc_prev_certain(
+        record: *const [usize; 5], samples: *const u8, samples_len: usize,
+        l1: *const u16, l1_len: usize, l2: *const u16, l2_len: usize,
+        l3: *const u16, l3_len: usize, l4: *const u16, l4_len: usize,
+        stretches: *const usize, stretches_len: usize, mask: u16, from: usize, place: *mut usize
+    ) -> u32;
     fn lc_prev_change(
         record: *const [usize; 5], samples: *const u8, samples_len: usize,
         l1: *const u16, l1_len: usize, l2: *const u16, l2_len: usize,
         l3: *const u16, l3_len: usize, l4: *const u16, l4_len: usize, mask: u16, from: usize,
         place: *mut usize, read: *mut usize
+    ) -> u32;
+    fn lc_prev_possible(
+        record: *const [usize; 5], samples: *const u8, samples_len: usize,
+        l1: *const u16, l1_len: usize, l2: *const u16, l2_len: usize,
+        l3: *const u16, l3_len: usize, l4: *const u16, l4_len: usize,
+        stretches: *const usize, stretches_len: usize, mask: u16, from: usize, place: *mut usize
     ) -> u32;
     fn lc_push(
         record: *mut [usize; 17], samples: *mut u8, samples_len: usize,
