@@ -7,7 +7,7 @@
 
 use crate::memory::Memory;
 use crate::mode::DefaultMode;
-use crate::{Burst, Counted, Encoder, Extent, Lines, MillNode, Node, Refusal, Said};
+use crate::{Burst, Counted, Encoder, Extent, Lines, MillNode, Node, Refusal, Said, Stretch};
 
 /// The record of a capture; [`record`] says which number is which.
 pub type Record = [usize; 5];
@@ -268,7 +268,38 @@ pub fn salvage(
         memory.as_mut_ptr,
         (stretches.as_mut_ptr(), room, &mut record, &mut counts)
     );
-    answered(code).map(|_| (record, counts[out::SALVAGED_STRETCHES], counts[out::SALVAGED_REPLACED]))
+    answered(code)
+        .map(|_| (record, counts[out::SALVAGED_STRETCHES], counts[out::SALVAGED_REPLACED]))
+}
+
+/// Defines searches across unknown stretches, which write a place alone.
+macro_rules! searches_across {
+    ($(fn $name:ident = $call:ident;)*) => {
+        $(pub fn $name(
+            record: &Record,
+            memory: &Memory,
+            stretches: &[Stretch],
+            mask: Lines,
+            from: usize,
+        ) -> Result<Option<usize>, Refusal> {
+            let mut place = 0;
+            // A stretch is two numbers in memory too, first and count.
+            let code = call!(
+                $call,
+                (record),
+                memory.as_ptr,
+                (stretches.as_ptr().cast(), 2 * stretches.len(), mask, from, &mut place)
+            );
+            answered(code).map(|found| found.then_some(place))
+        })*
+    };
+}
+
+searches_across! {
+    fn next_certain = lc_next_certain;
+    fn prev_certain = lc_prev_certain;
+    fn next_possible = lc_next_possible;
+    fn prev_possible = lc_prev_possible;
 }
 
 pub fn mill_extent(record: &Record, memory: &Memory) -> Result<Extent, Refusal> {

@@ -32,7 +32,8 @@
 //! turned.
 //!
 //! [`Capture::write`] gives a capture's file, and [`Capture::read`] the capture again, mark and all. [`Capture::salvage`] reads
-//! what is good of a damaged one, and says which samples are unknown.
+//! what is good of a damaged one, and says which samples are unknown; [`Capture::next_certain`] and
+//! [`Capture::next_possible`] search across these.
 //!
 //! [`Capture::mill`] gives a [`Mill`], a reader that sees some lines only and counts places from the mark.
 //!
@@ -56,6 +57,7 @@ mod recorder;
 mod refusal;
 mod salvage;
 mod settings;
+mod unknown;
 
 pub use answers::{Burst, Counted, Encoder, Extent, MillNode, Node, Pixel, View, WrongNode};
 pub use capture::Capture;

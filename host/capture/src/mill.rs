@@ -71,6 +71,28 @@ use std::fmt;
 /// let capture = capture::Capture::start(8, 1000).unwrap();
 /// capture.mill(0b1).write_to(Vec::new());
 /// ```
+///
+/// Searches across unknown stretches are the service's too:
+///
+/// ```compile_fail,E0599
+/// let capture = capture::Capture::start(8, 1000).unwrap();
+/// capture.mill(0b1).next_certain(&[], 0b1, 0);
+/// ```
+///
+/// ```compile_fail,E0599
+/// let capture = capture::Capture::start(8, 1000).unwrap();
+/// capture.mill(0b1).prev_certain(&[], 0b1, 0);
+/// ```
+///
+/// ```compile_fail,E0599
+/// let capture = capture::Capture::start(8, 1000).unwrap();
+/// capture.mill(0b1).next_possible(&[], 0b1, 0);
+/// ```
+///
+/// ```compile_fail,E0599
+/// let capture = capture::Capture::start(8, 1000).unwrap();
+/// capture.mill(0b1).prev_possible(&[], 0b1, 0);
+/// ```
 #[derive(Clone, Copy)]
 pub struct Mill<'a> {
     record: Record,

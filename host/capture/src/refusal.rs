@@ -56,10 +56,12 @@ pub enum Refusal {
     /// 17: no capture's file has such a block 0, so that nothing of it can be salvaged. [`Fault::of`](crate::Fault::of) says
     /// what is wrong with the block.
     Block0,
+    /// 18: unknown stretches that are out of order, overlap or touch, or of which one has no samples or reaches past the end.
+    Stretches,
 }
 
 /// Each refusal at its number less 1, with its words.
-const WORDS: [(Refusal, &str); 17] = [
+const WORDS: [(Refusal, &str); 18] = [
     (Refusal::Capacity, "a capacity is 1 to 67108864 samples"),
     (Refusal::Memory, "lent memory is too short"),
     (Refusal::Line, "a trigger's lines are 0 to 15"),
@@ -80,10 +82,14 @@ const WORDS: [(Refusal, &str); 17] = [
     (Refusal::FileRoom, "the file does not fit in the output, or its samples in the capacity"),
     (Refusal::File, "no capture has this file"),
     (Refusal::Block0, "no capture's file begins like this"),
+    (
+        Refusal::Stretches,
+        "unknown stretches rise, none touches the next, and none is empty or reaches past the end",
+    ),
 ];
 
 impl Refusal {
-    /// The refusal's number in the library's header, 1 to 17.
+    /// The refusal's number in the library's header, 1 to 18.
     pub fn number(self) -> u32 {
         self as u32 + 1
     }
@@ -113,7 +119,7 @@ mod tests {
             assert_eq!(refusal as usize, index);
             assert_eq!(Refusal::of_number(refusal.number()), Some(refusal));
         }
-        for number in [0, 18, 100, u32::MAX] {
+        for number in [0, 19, 100, u32::MAX] {
             assert_eq!(Refusal::of_number(number), None);
         }
     }

@@ -9,6 +9,8 @@ use std::io::{self, Read, Seek, SeekFrom};
 const PIECE: usize = 2048 * BLOCK;
 
 /// An unknown stretch of a capture: samples that stood in bad blocks, and are stored as 0.
+// As the library has it in a list: two numbers, in this order.
+#[repr(C)]
 #[derive(Clone, Copy, Debug, PartialEq, Eq, Hash)]
 pub struct Stretch {
     /// The place of its first sample.
@@ -22,7 +24,8 @@ pub struct Stretch {
 pub struct Salvaged {
     /// The capture, with 0 for each sample that is unknown.
     pub capture: Capture,
-    /// Where they are: the unknown stretches in rising order, none touching the next.
+    /// Where they are: the unknown stretches in rising order, none touching the next, as
+    /// [`next_certain`](Capture::next_certain) and its like take them.
     pub stretches: Vec<Stretch>,
     /// How many samples are unknown, in all stretches together.
     pub replaced: usize,

@@ -14,18 +14,6 @@ fn samples(capture: &Capture) -> Vec<Lines> {
     capture.samples(0, usize::MAX)
 }
 
-/// The unknown stretches, sample by sample.
-fn unknown(samples: &[Option<Lines>]) -> Vec<Stretch> {
-    let mut stretches: Vec<Stretch> = Vec::new();
-    for first in (0..samples.len()).filter(|&place| samples[place].is_none()) {
-        match stretches.last_mut() {
-            Some(last) if last.first + last.count == first => last.count += 1,
-            _ => stretches.push(Stretch { first, count: 1 }),
-        }
-    }
-    stretches
-}
-
 /// Holds what was salvaged of a file against the plain model.
 fn hold(salvage: &Salvaged, file: &[u8]) {
     let (unit, mark, known) = salvaged(file).unwrap();
@@ -33,7 +21,7 @@ fn hold(salvage: &Salvaged, file: &[u8]) {
     assert_eq!((capture.unit(), capture.len(), capture.mark()), (unit, known.len(), mark));
     let stored: Vec<Lines> = known.iter().map(|sample| sample.unwrap_or(0)).collect();
     assert!(samples(capture) == stored);
-    assert_eq!(*stretches, unknown(&known));
+    assert_eq!(*stretches, plain::unknown::stretches(known.iter().map(Option::is_none)));
     assert_eq!(*replaced, known.iter().filter(|sample| sample.is_none()).count());
     assert_eq!(capture.whole(), Ok(()));
     assert_eq!(capture.summary(0, stored.len()), plain::summary(&stored, 0, stored.len()));

@@ -115,6 +115,23 @@ pub fn salvage(l: &Lent) -> u32 {
     )
 }
 
+/// Defines the searches across unknown stretches.
+macro_rules! across {
+    ($($name:ident = $call:ident),*) => {
+        $(pub fn $name(l: &Lent) -> u32 {
+            let Given { ref unknown, mask, place, .. } = l.given;
+            lent!(l, $call, (l.store()), (l.unknown, unknown.len(), mask, place, l.number(0)))
+        })*
+    };
+}
+
+across!(
+    next_certain = lc_next_certain,
+    prev_certain = lc_prev_certain,
+    next_possible = lc_next_possible,
+    prev_possible = lc_prev_possible
+);
+
 pub fn mill_extent(l: &Lent) -> u32 {
     lent!(l, lc_mill_extent, (l.store()), (l.mill_place(0), l.mill_place(1), l.number(0)))
 }

@@ -44,8 +44,10 @@ pub struct Given {
     pub file: Vec<u8>,
     /// The length of the output for a file.
     pub file_room: usize,
-    /// The length of the list of unknown stretches, in numbers.
+    /// The length of the list of unknown stretches that a salvage gives, in numbers.
     pub stretches: usize,
+    /// Such a list of the capture, for searches across it.
+    pub unknown: Vec<usize>,
 }
 
 /// The numbers of a node.
@@ -113,6 +115,8 @@ impl Given {
             file_room: file.len() + 9,
             file,
             stretches: 4,
+            // The first two are one place apart, and the last one ends with the capture.
+            unknown: vec![10, 3, 14, 2, LEN - 9, 9],
         }
     }
 
@@ -146,6 +150,7 @@ pub struct Lent {
     pub ring: *mut u8,
     pub bytes: *const u8,
     pub file: *const u8,
+    pub unknown: *const usize,
     pub begun: *mut [usize; 17],
     pub output: *mut u16,
     pub file_output: *mut u8,
@@ -166,6 +171,7 @@ impl Lent {
             ring: kept.put(&given.ring),
             bytes: kept.put(&given.bytes),
             file: kept.put(&given.file),
+            unknown: kept.put(&given.unknown),
             begun: out.put(&[[77; 17]]),
             output: out.put(&vec![77; given.output]),
             file_output: out.put(&vec![77; given.file_room]),

@@ -1,5 +1,6 @@
 //! What include/logic_core.h promises and asks, beside the answers themselves.
 
+mod across;
 mod calls;
 mod given;
 mod lists;

@@ -80,6 +80,10 @@ fn exports() -> Vec<Tried> {
             calls::salvage,
             &[rows::CHANNELS, rows::SALVAGE_BLOCK_0, rows::FILE_ROOM, rows::LIST],
         ),
+        question("lc_next_certain", calls::next_certain, &[rows::STRETCHES]),
+        question("lc_prev_certain", calls::prev_certain, &[rows::STRETCHES]),
+        question("lc_next_possible", calls::next_possible, &[rows::STRETCHES]),
+        question("lc_prev_possible", calls::prev_possible, &[rows::STRETCHES]),
         question("lc_mill_extent", calls::mill_extent, &[]),
         question("lc_mill_get", calls::mill_get, &[rows::BEFORE, rows::MILL_PLACE]),
         question("lc_mill_samples", calls::mill_samples, &[rows::BEFORE, rows::OUTPUT]),
@@ -157,6 +161,8 @@ fn the_first_row_that_holds_refuses() {
     let given = Given::new();
     let mut lines = Vec::new();
     let named = ["lc_encoder", "lc_mill_encoder", "lc_write", "lc_read", "lc_salvage"];
+    let across = ["lc_next_certain", "lc_prev_certain", "lc_next_possible", "lc_prev_possible"];
+    let named = [&named[..], &across].concat();
     for tried in exports().iter().filter(|tried| named.contains(&tried.name)) {
         for (at, &first) in tried.rows.iter().enumerate() {
             for &(_, other, also) in tried.rows[at + 1..].iter().copied().flatten() {
@@ -230,6 +236,15 @@ fn a_question_that_finds_nothing_stores_nothing_or_its_count() {
     asked("lc_mill_next_change", calls::mill_next_change, count, NONE, quiet);
     asked("lc_mill_prev_change", calls::mill_prev_change, count, NONE, quiet);
     asked("lc_mill_burst_at", calls::mill_burst_at, count, NONE, quiet);
+    // nor is there a change of it that is certain; unknown samples may change in any line that there is
+    asked("lc_next_certain", calls::next_certain, all, NONE, quiet);
+    asked("lc_prev_certain", calls::prev_certain, all, NONE, quiet);
+    let no_line: fn(&mut Given) = |g| g.mask = 0;
+    asked("lc_next_possible", calls::next_possible, all, NONE, no_line);
+    asked("lc_prev_possible", calls::prev_possible, all, NONE, no_line);
+    let known: fn(&mut Given) = |g| (g.mask, g.unknown) = (0b100, vec![]);
+    asked("lc_next_possible", calls::next_possible, all, NONE, known);
+    asked("lc_prev_possible", calls::prev_possible, all, NONE, known);
     none(lines);
 }
 

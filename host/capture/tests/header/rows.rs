@@ -201,3 +201,25 @@ pub const LIST: &[Row] = &[
         g.stretches = 1;
     }),
 ];
+
+/// Of a list of unknown stretches. That which is given is taken.
+pub const STRETCHES: &[Row] = &[
+    (18, "one number", |g| g.unknown = vec![10]),
+    (18, "an odd count of numbers", |g| shorten(&mut g.unknown)),
+    (18, "a number behind the stretches", |g| g.unknown.push(0)),
+    (18, "a stretch of no samples", |g| g.unknown = vec![10, 0]),
+    (18, "a second one of no samples", |g| g.unknown[3] = 0),
+    (18, "one of no samples at the end", |g| g.unknown = vec![LEN, 0]),
+    (18, "a stretch that reaches past len", |g| g.unknown = vec![0, LEN + 1]),
+    (18, "one that reaches past len by its last sample", |g| g.unknown[5] += 1),
+    (18, "one that begins at len", |g| g.unknown = vec![LEN, 1]),
+    (18, "one that ends at 2^64", |g| g.unknown = vec![1, usize::MAX]),
+    (18, "one that ends below len, modulo 2^64", |g| g.unknown = vec![11, usize::MAX]),
+    (18, "the greatest place", |g| g.unknown = vec![usize::MAX, 1]),
+    (18, "the greatest numbers", |g| g.unknown = vec![usize::MAX; 2]),
+    (18, "two that touch", |g| g.unknown[2] = 13),
+    (18, "two that overlap", |g| g.unknown[2] = 12),
+    (18, "one twice", |g| g.unknown = vec![10, 3, 10, 3]),
+    (18, "two out of order", |g| g.unknown = vec![14, 2, 10, 3]),
+    (18, "two out of order that touch", |g| g.unknown = vec![13, 2, 10, 3]),
+];

@@ -3,6 +3,7 @@
 #![allow(dead_code)]
 
 pub mod file;
+pub mod unknown;
 pub mod walk;
 
 use capture::{Burst, Condition, Encoder, Lines, Node, Pixel, Term, View};
