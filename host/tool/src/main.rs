@@ -18,6 +18,7 @@ mod place;
 mod plain;
 mod progress;
 mod reader;
+mod search;
 mod source;
 mod stretches;
 mod svg;

@@ -165,7 +165,7 @@ impl<'a> Reader<'a> {
 }
 
 /// A place of the service. What was read as a place is one; sums of places keep to what there is.
-fn from_first(place: Place) -> usize {
+pub fn from_first(place: Place) -> usize {
     place.clamp(0, usize::MAX as Place) as usize
 }
 

@@ -25,8 +25,13 @@ fn boxes(step: Step) -> (char, char) {
         Step::Fall => ('┐', '└'),
         Step::Pulse => ('│', '┴'),
         Step::Dip => ('┬', '│'),
+        Step::Unknown => (SHADE, SHADE),
     }
 }
+
+/// What unknown samples are shaded with: all that is drawn of a column, or what a line leaves free of it.
+const SHADE: char = '░';
+const ASCII_SHADE: char = '?';
 
 fn ascii(step: Step) -> char {
     match step {
@@ -35,6 +40,7 @@ fn ascii(step: Step) -> char {
         Step::Rise => '/',
         Step::Fall => '\\',
         Step::Pulse | Step::Dip => '|',
+        Step::Unknown => ASCII_SHADE,
     }
 }
 
@@ -43,11 +49,15 @@ fn before(step: Step) -> Step {
     match step {
         Step::Low | Step::Rise | Step::Pulse => Step::Low,
         Step::High | Step::Fall | Step::Dip => Step::High,
+        Step::Unknown => Step::Unknown,
     }
 }
 
-/// Draws labelled lines in at most `room` characters, the labels not counted; above them places, and where the mark
-/// is.
+/// The label of the row that shows in which columns samples are unknown.
+const UNKNOWN: &str = "unknown";
+
+/// Draws labelled lines in at most `room` characters, the labels not counted; above them places, where the mark is, and
+/// which columns have unknown samples.
 pub fn draw(
     out: &mut dyn Write,
     wave: &Wave,
@@ -57,14 +67,21 @@ pub fn draw(
     room: usize,
 ) -> io::Result<()> {
     let stretch = (room / wave.width()).clamp(1, WIDEST);
-    let indent =
-        lines.iter().map(|(_, label)| label.chars().count()).max().unwrap_or(0).max("place".len())
-            + 1;
+    let shaded: Vec<bool> =
+        wave.shaded().flat_map(|shaded| std::iter::repeat_n(shaded, stretch)).collect();
+    let unknown = shaded.contains(&true).then_some(UNKNOWN);
+    let labels = lines.iter().map(|(_, label)| label.as_str()).chain(["place"]).chain(unknown);
+    let indent = labels.map(|label| label.chars().count()).max().unwrap_or(0) + 1;
 
     writeln!(out, "{:indent$}{}", "place", ruler(wave, stretch))?;
     if let Some((mark, column)) = mark.and_then(|mark| Some((mark, wave.column(mark)?))) {
         let arrow = if style == Style::Ascii { 'v' } else { '▼' };
         writeln!(out, "{:indent$}{:shift$}{arrow} {mark}", "mark", "", shift = column * stretch)?;
+    }
+    if let Some(label) = unknown {
+        let shade = if style == Style::Ascii { ASCII_SHADE } else { SHADE };
+        let row: String = shaded.iter().map(|&shaded| if shaded { shade } else { ' ' }).collect();
+        writeln!(out, "{label:indent$}{}", row.trim_end())?;
     }
     for (line, label) in lines {
         let steps = wave.steps(*line).flat_map(|step| {
@@ -76,7 +93,10 @@ pub fn draw(
                 writeln!(out, "{label:indent$}{}", steps.map(ascii).collect::<String>())?
             }
             Style::Boxes => {
-                let (upper, lower): (String, String) = steps.map(boxes).unzip();
+                let fill = |c, shaded| if shaded && c == ' ' { SHADE } else { c };
+                let steps = steps.map(boxes).zip(&shaded);
+                let (upper, lower): (String, String) =
+                    steps.map(|((up, low), &shaded)| (fill(up, shaded), fill(low, shaded))).unzip();
                 writeln!(out, "{}", format!("{:indent$}{upper}", "").trim_end())?;
                 writeln!(out, "{}", format!("{label:indent$}{lower}").trim_end())?;
             }
@@ -103,6 +123,7 @@ mod tests {
     use super::*;
     use crate::file::captured;
     use crate::reader::Reader;
+    use crate::stretches::listed;
 
     fn drawn(samples: &[u8], style: Style, room: usize, mark: Option<usize>) -> String {
         drawn_for(&Reader::Service(&captured(samples, mark)), style, room)
@@ -110,9 +131,13 @@ mod tests {
 
     fn drawn_for(reader: &Reader, style: Style, room: usize) -> String {
         let wave = Wave::new(reader, reader.first(), reader.end(), room).unwrap().unwrap();
+        drawn_wave(&wave, reader.mark(), style, room)
+    }
+
+    fn drawn_wave(wave: &Wave, mark: Option<Place>, style: Style, room: usize) -> String {
         let lines = [(0, "0".to_string()), (1, "1 turner".to_string())];
         let mut out = Vec::new();
-        draw(&mut out, &wave, &lines, reader.mark(), style, room).unwrap();
+        draw(&mut out, wave, &lines, mark, style, room).unwrap();
         String::from_utf8(out).unwrap()
     }
 
@@ -162,6 +187,76 @@ mod tests {
             "1 turner ______",
         ];
         assert_eq!(text.lines().collect::<Vec<_>>(), expected);
+    }
+
+    fn drawn_across(
+        samples: &[u8],
+        unknown: &[(usize, usize)],
+        style: Style,
+        room: usize,
+    ) -> String {
+        let capture = captured(samples, Some(0));
+        let reader = Reader::Service(&capture);
+        let mut wave = Wave::new(&reader, 0, reader.end(), room).unwrap().unwrap();
+        wave.shade(&capture, &listed(unknown));
+        drawn_wave(&wave, reader.mark(), style, room)
+    }
+
+    #[test]
+    fn unknown_columns_are_shaded() {
+        let samples = [3, 3, 0, 0, 1, 0, 0];
+        let unknown = [(2, 2), (6, 1)];
+        let text = drawn_across(&samples, &unknown, Style::Boxes, 14);
+        let expected = [
+            "place    0         5",
+            "mark     ▼ 0",
+            "unknown      ░░░░    ░░",
+            "         ────░░░░─┐  ░░",
+            "0            ░░░░ └──░░",
+            "         ────░░░░    ░░",
+            "1 turner     ░░░░────░░",
+        ];
+        assert_eq!(text.lines().collect::<Vec<_>>(), expected);
+        let text = drawn_across(&samples, &unknown, Style::Ascii, 7);
+        let expected = [
+            "place    0",
+            "mark     v 0",
+            "unknown    ??  ?",
+            "0        --??\\_?",
+            "1 turner --??__?",
+        ];
+        assert_eq!(text.lines().collect::<Vec<_>>(), expected);
+    }
+
+    #[test]
+    fn a_column_with_some_unknown_samples_keeps_its_lines() {
+        let mut samples = [0; 40];
+        samples[20..].fill(3);
+        // Line 0 has a pulse in the first column, and line 1 none.
+        samples[3] = 1;
+        let unknown = [(7, 1), (25, 4)];
+        let text = drawn_across(&samples, &unknown, Style::Boxes, 4);
+        let expected = [
+            "place    0",
+            "mark     ▼ 0",
+            "unknown  ░ ░",
+            "         │┌──",
+            "0        ┴┘░",
+            "         ░┌──",
+            "1 turner ─┘░",
+        ];
+        assert_eq!(text.lines().collect::<Vec<_>>(), expected);
+        let text = drawn_across(&samples, &unknown, Style::Ascii, 4);
+        let rows: Vec<_> = text.lines().skip(2).collect();
+        assert_eq!(rows, ["unknown  ? ?", "0        |/--", "1 turner _/--"]);
+    }
+
+    #[test]
+    fn without_unknown_samples_in_it_a_drawing_is_as_before() {
+        for style in [Style::Boxes, Style::Ascii] {
+            let plain = drawn(&[0, 1, 3, 1], style, 8, Some(0));
+            assert_eq!(drawn_across(&[0, 1, 3, 1], &[], style, 8), plain);
+        }
     }
 
     #[test]

@@ -1,7 +1,8 @@
 //! A stretch of a capture as columns, for the drawings in text and in SVG.
 
 use crate::reader::{Place, Reader};
-use capture::{Lines, Refusal, View, MOST_PIXELS};
+use crate::stretches::unknown_in;
+use capture::{Capture, Lines, Refusal, Stretch, View, MOST_PIXELS};
 
 /// What a line does in a column.
 #[derive(Clone, Copy, Debug, PartialEq, Eq)]
@@ -14,6 +15,16 @@ pub enum Step {
     Pulse,
     /// It goes down and comes up again.
     Dip,
+    /// Nobody knows.
+    Unknown,
+}
+
+/// Which samples of a column are known.
+#[derive(Clone, Copy, Debug, PartialEq, Eq)]
+enum Known {
+    All,
+    Some,
+    None,
 }
 
 /// The lines in a column: as it is entered, those that change under it, as it is left.
@@ -22,6 +33,7 @@ struct Column {
     entered: Lines,
     toggles: Lines,
     left: Lines,
+    known: Known,
 }
 
 /// A drawn stretch. There is a sample in each column.
@@ -60,8 +72,32 @@ impl Wave {
             entered: pixel.first,
             toggles: pixel.toggles,
             left,
+            known: Known::All,
         });
         Ok(Some(Wave { view, end: to, columns: columns.collect() }))
+    }
+
+    /// Tells it which samples of the service's capture are unknown. What is stored there was never measured: a column without
+    /// a known sample shows no line, and one before an unknown sample not the change into that.
+    pub fn shade(&mut self, capture: &Capture, stretches: &[Stretch]) {
+        for at in 0..self.width() {
+            let [a, b] = [at, at + 1].map(|column| self.place(column).min(self.end) as usize);
+            let column = &mut self.columns[at];
+            column.known = match unknown_in(stretches, a, b) {
+                0 => Known::All,
+                unknown if unknown < b - a => Known::Some,
+                _ => Known::None,
+            };
+            let edge = column.known == Known::All && unknown_in(stretches, b, b + 1) > 0;
+            if let Some(node) = capture.summary(a, b).filter(|_| edge) {
+                (column.toggles, column.left) = (node.toggles, node.last);
+            }
+        }
+    }
+
+    /// Whether each column has unknown samples, one or more.
+    pub fn shaded(&self) -> impl Iterator<Item = bool> + '_ {
+        self.columns.iter().map(|column| column.known != Known::All)
     }
 
     /// How many columns there are.
@@ -85,6 +121,9 @@ impl Wave {
     /// What a line does, column by column.
     pub fn steps(&self, line: u8) -> impl Iterator<Item = Step> + '_ {
         self.columns.iter().map(move |column| {
+            if column.known == Known::None {
+                return Step::Unknown;
+            }
             let has = |lines: Lines| lines >> line & 1 == 1;
             match (has(column.toggles), has(column.entered), has(column.left)) {
                 (true, false, true) => Step::Rise,
@@ -113,6 +152,7 @@ fn view(from: Place, to: Place, width: usize) -> View {
 mod tests {
     use super::*;
     use crate::file::captured;
+    use crate::stretches::listed;
     use Step::*;
 
     fn wave(samples: &[u8], from: Place, to: Place, width: usize) -> Wave {
@@ -182,6 +222,56 @@ mod tests {
             assert!(drawn.steps(0).all(|step| step == Low));
             for column in 0..width {
                 assert_eq!(drawn.place(column), whole.place(column) - mark as Place);
+            }
+        }
+    }
+
+    /// Columns of unknown samples show nothing, and columns without any what was measured alone.
+    #[test]
+    fn what_is_stored_in_unknown_samples_is_not_drawn() {
+        let samples = [1, 1, 0, 0, 1, 1, 0, 0, 1, 1, 0, 1];
+        let shaded = |pairs: &[(usize, usize)], from, to, width| {
+            let capture = captured(&samples, None);
+            let mut wave = Wave::new(&Reader::Service(&capture), from, to, width).unwrap().unwrap();
+            wave.shade(&capture, &listed(pairs));
+            (wave.steps(0).collect::<Vec<_>>(), wave.shaded().collect::<Vec<_>>())
+        };
+        let one = shaded(&[(2, 2)], 0, 6, 6);
+        assert_eq!(one.0, [High, High, Unknown, Unknown, High, Fall]);
+        assert_eq!(one.1, [false, false, true, true, false, false]);
+        // Two samples a column. The change at 10 is a measured one, that at 8 comes of what is stored at 7.
+        let two = shaded(&[(7, 1)], 4, 12, 4);
+        assert_eq!(two.0, [Fall, Rise, Fall, Rise]);
+        assert_eq!(two.1, [false, true, false, false]);
+        let two = shaded(&[(4, 3)], 0, 12, 6);
+        assert_eq!(two.0, [Fall, Low, Unknown, Rise, Fall, Rise]);
+        assert_eq!(two.1, [false, false, true, true, false, false]);
+        // The stretch begins right behind what is drawn, or is outside.
+        assert_eq!(shaded(&[(2, 1)], 0, 2, 1), (vec![High], vec![false]));
+        assert_eq!(shaded(&[(0, 1), (11, 1)], 4, 8, 2).1, [false; 2]);
+        let all = shaded(&[(0, 12)], 0, 12, 5);
+        assert_eq!(all, (vec![Unknown; 5], vec![true; 5]));
+    }
+
+    #[test]
+    fn a_column_is_shaded_where_a_sample_is_unknown() {
+        let capture = captured(&[0; 1000], None);
+        let reader = Reader::Service(&capture);
+        for (first, count) in [(0, 1), (499, 1), (999, 1), (300, 400), (0, 1000), (17, 983)] {
+            for (from, to, width) in [(0, 1000, 1), (0, 1000, 7), (0, 1000, 999), (250, 751, 33)] {
+                let mut wave = Wave::new(&reader, from, to, width).unwrap().unwrap();
+                wave.shade(&capture, &listed(&[(first, count)]));
+                let unknown = (first..first + count).map(|place| wave.column(place as Place));
+                let unknown: Vec<_> = unknown.flatten().collect();
+                let shaded = wave.shaded().enumerate().filter(|(_, shaded)| *shaded);
+                let mut columns = unknown.clone();
+                columns.dedup();
+                assert!(shaded.map(|(column, _)| column).eq(columns), "{first} {from} {width}");
+                for (column, step) in wave.steps(0).enumerate() {
+                    let places = (wave.place(column + 1) - wave.place(column)) as usize;
+                    let all = unknown.iter().filter(|&&at| at == column).count() == places;
+                    assert_eq!(step == Unknown, all, "{first} {from} {width} {column}");
+                }
             }
         }
     }

@@ -4,8 +4,9 @@ use super::{chosen_lines, Command};
 use crate::args::Takes;
 use crate::failure::{bad, Outcome};
 use crate::reader::Reader;
+use crate::search::Search;
 use crate::value::Form;
-use crate::{file, lines, place};
+use crate::{lines, place};
 
 pub const COMMAND: Command = Command {
     name: "changes",
@@ -18,11 +19,14 @@ pub const COMMAND: Command = Command {
         ("--total", Takes::Nothing),
         ("--hex", Takes::Nothing),
         ("--bits", Takes::Nothing),
+        ("--stretches", Takes::Value),
+        ("--certain", Takes::Nothing),
+        ("--possible", Takes::Nothing),
         ("--grant", Takes::Value),
         ("--unit", Takes::Value),
     ],
     run: |args, out| {
-        let capture = file::load("changes", args)?;
+        let (capture, search) = Search::load("changes", args)?;
         let reader = Reader::asked(args, &capture)?;
         let mask = lines::mask(&chosen_lines(args, &reader)?);
         let from = place::asked(args, "--from", &reader)?.unwrap_or(reader.first());
@@ -33,17 +37,25 @@ pub const COMMAND: Command = Command {
             return Err(bad("--total prints a number; it takes no --hex or --bits"));
         }
         // A change at `from` is one of the stretch, so the search begins before it. There is none at the first place.
-        let mut found = reader.next_change(mask, (from - 1).max(reader.first()))?.found;
+        let next = |from| search.next(&reader, &capture, mask, from).map(|answer| answer.found);
+        let mut found = next((from - 1).max(reader.first()))?;
         let mut count = 0;
         while let Some(place) = found.filter(|&place| place < to) {
             count += 1;
             if !total {
                 let (before, now) = (reader.get(place - 1)? & mask, reader.get(place)? & mask);
-                let [now, changed] =
-                    [now, before ^ now].map(|lines| form.written(lines, reader.unit()));
+                let known = search.knows(place);
+                let both = known && search.knows(place - 1);
+                let [now, changed] = [(now, known), (before ^ now, both)].map(|(lines, known)| {
+                    if known {
+                        form.written(lines, reader.unit())
+                    } else {
+                        "?".into()
+                    }
+                });
                 writeln!(out, "{place} {now} {changed}")?;
             }
-            found = reader.next_change(mask, place)?.found;
+            found = next(place)?;
         }
         if total {
             writeln!(out, "{count}")?;

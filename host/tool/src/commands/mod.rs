@@ -87,14 +87,14 @@ fn needed<T>(value: Option<T>, what: &str) -> Result<T, Failure> {
 }
 
 /// Options that are of no use without another.
-fn only_with(args: &Args, owner: &str, names: &[&str]) -> Result<(), Failure> {
+pub fn only_with(args: &Args, owner: &str, names: &[&str]) -> Result<(), Failure> {
     match names.iter().find(|name| args.flag(name) && !args.flag(owner)) {
         Some(name) => Err(bad(format!("{name} goes with {owner}"))),
         None => Ok(()),
     }
 }
 
-fn exclude(args: &Args, one: &str, other: &str) -> Result<(), Failure> {
+pub fn exclude(args: &Args, one: &str, other: &str) -> Result<(), Failure> {
     if args.flag(one) && args.flag(other) {
         return Err(bad(format!("{one} and {other} exclude each other")));
     }

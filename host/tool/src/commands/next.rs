@@ -3,7 +3,8 @@
 use super::{chosen_lines, print_found, Command};
 use crate::args::Takes;
 use crate::reader::Reader;
-use crate::{file, lines, place};
+use crate::search::Search;
+use crate::{lines, place};
 
 pub const COMMAND: Command = Command {
     name: "next",
@@ -13,14 +14,18 @@ pub const COMMAND: Command = Command {
         ("--lines", Takes::Value),
         ("--from", Takes::Value),
         ("--read", Takes::Nothing),
+        ("--stretches", Takes::Value),
+        ("--certain", Takes::Nothing),
+        ("--possible", Takes::Nothing),
         ("--grant", Takes::Value),
         ("--unit", Takes::Value),
     ],
     run: |args, out| {
-        let capture = file::load("next", args)?;
+        let (capture, search) = Search::load("next", args)?;
         let reader = Reader::asked(args, &capture)?;
         let mask = lines::mask(&chosen_lines(args, &reader)?);
         let from = place::asked(args, "--from", &reader)?.unwrap_or(reader.first());
-        print_found(args, reader.next_change(mask, from)?.map(|place| place.to_string()), out)
+        let found = search.next(&reader, &capture, mask, from)?;
+        print_found(args, found.map(|place| place.to_string()), out)
     },
 };

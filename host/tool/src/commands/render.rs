@@ -5,6 +5,7 @@ use crate::args::{Args, Takes};
 use crate::failure::{bad, Failure, Outcome};
 use crate::output::Output;
 use crate::reader::Reader;
+use crate::stretches::List;
 use crate::text::{self, Style};
 use crate::value::Form;
 use crate::wave::Wave;
@@ -29,6 +30,7 @@ pub const COMMAND: Command = Command {
         ("--spp", Takes::Value),
         ("--hex", Takes::Nothing),
         ("--bits", Takes::Nothing),
+        ("--stretches", Takes::Value),
         ("--grant", Takes::Value),
         ("--unit", Takes::Value),
     ],
@@ -41,13 +43,15 @@ const SVG_WIDTH: usize = 1000;
 
 fn run(args: &Args, out: &mut dyn Write) -> Result<Outcome, Failure> {
     only_with(args, "--pixels", &["--start", "--spp", "--hex", "--bits"])?;
-    for name in ["--ascii", "--svg", "--from", "--to", "--name"] {
+    for name in ["--ascii", "--svg", "--from", "--to", "--name", "--stretches"] {
         exclude(args, "--pixels", name)?;
     }
     exclude(args, "--ascii", "--svg")?;
     let width = args.read_value("--width", read_width)?;
+    let list = List::asked(args)?;
     let picture = args.path("--svg").map(Output::open).transpose()?;
     let capture = file::load("render", args)?;
+    let unknown = list.map(|list| list.of(&capture)).transpose()?;
     let reader = Reader::asked(args, &capture)?;
     if args.flag("--pixels") {
         return pixels(args, &reader, width.unwrap_or(TEXT_WIDTH), out);
@@ -56,10 +60,13 @@ fn run(args: &Args, out: &mut dyn Write) -> Result<Outcome, Failure> {
     let from = place::asked(args, "--from", &reader)?.unwrap_or(reader.first());
     let to = place::asked(args, "--to", &reader)?.unwrap_or(reader.end());
     let width = width.unwrap_or(if picture.is_some() { SVG_WIDTH } else { TEXT_WIDTH });
-    let Some(wave) = Wave::new(&reader, from, to, width)? else {
+    let Some(mut wave) = Wave::new(&reader, from, to, width)? else {
         note("render", "no samples to draw");
         return Ok(Outcome::No);
     };
+    if let Some(unknown) = unknown {
+        wave.shade(&capture, &unknown);
+    }
     let mark = reader.mark();
     match picture {
         Some(picture) => picture.write(out, |file| svg::draw(file, &wave, &chosen, mark, width))?,
