@@ -1,6 +1,6 @@
 /* Records the lines of a log turner through a trigger, searches and draws what was recorded, replays its encoder to see that
- * the log came home, writes its file and reads that again, damages it and salvages what is good, and checks each answer by a
- * plain scan. Prints the answers; exits with 1 at the first that is wrong. */
+ * the log came home, writes its file and reads that again, damages it, salvages what is good and searches that, and checks
+ * each answer by a plain scan. Prints the answers; exits with 1 at the first that is wrong. */
 #include "logic_core.h"
 
 #include <inttypes.h>
@@ -78,6 +78,14 @@ static size_t scan(const uint8_t *s, size_t len, uint16_t mask, size_t from) {
         if ((s[i] ^ s[i - 1]) & mask)
             return i;
     return len;
+}
+
+/* Whether a sample is known: it lies in none of the stretches. */
+static bool known(const size_t *list, size_t numbers, size_t i) {
+    for (size_t s = 0; s < numbers; s += 2)
+        if (i >= list[s] && i - list[s] < list[s + 1])
+            return false;
+    return true;
 }
 
 /* Where a sample stands in the order in which an encoder goes forward, (A,B) = 00, 10, 11, 01. */
@@ -255,16 +263,39 @@ int main(void) {
         printf(", %zu from %zu on", list[2 * s + 1], list[2 * s]);
     printf("\n");
     must(again[LC_LEN] == len && again[LC_MARK] == mark, "the salvaged length and mark");
+    const size_t numbers = 2 * found[LC_SALVAGED_STRETCHES];
     size_t unknown = 0;
-    for (size_t i = 0, s = 0; i < len; i++) {
-        while (s < found[LC_SALVAGED_STRETCHES] && i >= list[2 * s] + list[2 * s + 1])
-            s++;
-        const int known = s == found[LC_SALVAGED_STRETCHES] || i < list[2 * s];
-        must(r.samples[i] == (known ? m.samples[i] : 0), "the salvaged samples");
-        unknown += !known;
+    for (size_t i = 0; i < len; i++) {
+        const bool good = known(list, numbers, i);
+        must(r.samples[i] == (good ? m.samples[i] : 0), "the salvaged samples");
+        unknown += !good;
     }
     must(unknown == found[LC_SALVAGED_REPLACED], "the samples replaced");
     must(lc_whole(again, LC_LEND(r), &level, &number) == 0, "the levels of what was salvaged");
+
+    /* The encoder's steps across what is unknown. A certain one is there whatever stood in the bad blocks, and each one that
+     * the machine made is possible. */
+    size_t certain = 0, possible = 0, at = 0;
+    while (lc_next_certain(again, LC_LEND(r), list, numbers, ENCODER, at, &at) == 0) {
+        must((m.samples[at] ^ m.samples[at - 1]) & ENCODER, "a certain step");
+        certain++;
+    }
+    for (at = 0; lc_next_possible(again, LC_LEND(r), list, numbers, ENCODER, at, &at) == 0;)
+        possible++;
+    printf("across them: %zu of %zu steps are certain, and steps possible at %zu places\n", certain, steps, possible);
+    for (size_t i = 1; i < len; i++) {
+        const bool step = (m.samples[i] ^ m.samples[i - 1]) & ENCODER;
+        const bool both = known(list, numbers, i - 1) && known(list, numbers, i);
+        certain -= step && both;
+        possible -= step || !both;
+    }
+    must(certain == 0 && possible == 0, "all certain and all possible steps");
+    at = 77;
+    const uint32_t odd = lc_next_certain(again, LC_LEND(r), list, numbers - 1, ENCODER, 0, &at);
+    const size_t touching[] = {100, 10, 110, 10};
+    const uint32_t touch = lc_prev_possible(again, LC_LEND(r), touching, 4, ENCODER, len, &at);
+    printf("an odd count of numbers, and stretches that touch: refused with %u and %u\n", (unsigned)odd, (unsigned)touch);
+    must(odd == 18 && touch == 18 && at == 77, "a list's refusals");
     const uint32_t no_list = lc_salvage(room, file, torn, LC_LEND(r), list, 3, again, found);
     file[0] ^= 1;
     const uint32_t no_block_0 = lc_salvage(room, file, torn, LC_LEND(r), list, blocks, again, found);

@@ -5,7 +5,7 @@ use crate::commands::{exclude, only_with};
 use crate::failure::{bad, Failure};
 use crate::file;
 use crate::reader::{from_first, Place, Reader};
-use crate::stretches::{unknown_in, List};
+use crate::stretches::{known_runs, List};
 use capture::{Capture, Counted, Lines, Refusal, Stretch};
 
 pub enum Search {
@@ -75,7 +75,7 @@ impl Search {
         match self {
             Search::Stored => true,
             Search::Certain(list) | Search::Possible(list) => {
-                unknown_in(list, place, place + 1) == 0
+                known_runs(list, place, place + 1).next().is_some()
             }
         }
     }

@@ -9,7 +9,7 @@ use crate::number;
 use crate::source::Source;
 use capture::{Capture, Stretch};
 use std::io::{self, BufRead, BufReader, Read, Write};
-use std::str;
+use std::{iter, str};
 
 /// What is added to a file's name for its list.
 pub const ENDING: &str = ".stretches";
@@ -108,12 +108,19 @@ fn read_line(line: &[u8]) -> Result<Option<Stretch>, String> {
     }
 }
 
-/// How many of the places from `a` up to `b` are unknown.
-pub fn unknown_in(stretches: &[Stretch], a: usize, b: usize) -> usize {
+/// The known places from `a` up to `b`, run by run: where each begins, and the place behind it.
+pub fn known_runs(
+    stretches: &[Stretch],
+    a: usize,
+    b: usize,
+) -> impl Iterator<Item = (usize, usize)> + '_ {
     let end = |stretch: &Stretch| stretch.first + stretch.count;
-    let behind = stretches.partition_point(|stretch| end(stretch) <= a);
-    let inside = stretches[behind..].iter().take_while(|stretch| stretch.first < b);
-    inside.map(|stretch| end(stretch).min(b) - stretch.first.max(a)).sum()
+    let from = stretches.partition_point(move |stretch| end(stretch) <= a);
+    let to = stretches.partition_point(|stretch| stretch.first < b);
+    let inside = stretches.get(from..to).unwrap_or_default();
+    let begins = iter::once(a).chain(inside.iter().map(end));
+    let ends = inside.iter().map(|stretch| stretch.first).chain([b]);
+    begins.zip(ends).filter(|(begin, end)| begin < end)
 }
 
 /// For tests: stretches by first places and counts.
@@ -217,16 +224,19 @@ mod tests {
     }
 
     #[test]
-    fn how_many_places_are_unknown() {
+    fn known_places() {
         let stretches = listed(&[(0, 2), (5, 3), (9, 1), (20, 10)]);
-        let unknown =
-            |place: usize| stretches.iter().any(|s| (s.first..s.first + s.count).contains(&place));
+        let known = |&place: &usize| {
+            !stretches.iter().any(|s| (s.first..s.first + s.count).contains(&place))
+        };
         for a in 0..32 {
-            for b in a..32 {
-                let count = (a..b).filter(|&place| unknown(place)).count();
-                assert_eq!(unknown_in(&stretches, a, b), count, "{a} {b}");
+            for b in 0..32 {
+                let runs: Vec<_> = known_runs(&stretches, a, b).collect();
+                let places = runs.iter().flat_map(|&(begin, end)| begin..end);
+                assert!(places.eq((a..b).filter(known)), "{a} {b}");
+                assert!(runs.windows(2).all(|pair| pair[0].1 < pair[1].0), "{a} {b}");
             }
         }
-        assert_eq!(unknown_in(&[], 0, usize::MAX), 0);
+        assert!(known_runs(&[], 3, usize::MAX).eq([(3, usize::MAX)]));
     }
 }

@@ -1,8 +1,8 @@
 //! A stretch of a capture as columns, for the drawings in text and in SVG.
 
 use crate::reader::{Place, Reader};
-use crate::stretches::unknown_in;
-use capture::{Capture, Lines, Refusal, Stretch, View, MOST_PIXELS};
+use crate::stretches::known_runs;
+use capture::{Capture, Lines, Node, Refusal, Stretch, View, MOST_PIXELS};
 
 /// What a line does in a column.
 #[derive(Clone, Copy, Debug, PartialEq, Eq)]
@@ -77,20 +77,29 @@ impl Wave {
         Ok(Some(Wave { view, end: to, columns: columns.collect() }))
     }
 
-    /// Tells it which samples of the service's capture are unknown. What is stored there was never measured: a column without
-    /// a known sample shows no line, and one before an unknown sample not the change into that.
+    /// Tells it which samples of the service's capture are unknown. What is stored there was never measured: each column is
+    /// drawn by its known samples alone.
     pub fn shade(&mut self, capture: &Capture, stretches: &[Stretch]) {
         for at in 0..self.width() {
             let [a, b] = [at, at + 1].map(|column| self.place(column).min(self.end) as usize);
+            let known: usize = known_runs(stretches, a, b).map(|(begin, end)| end - begin).sum();
             let column = &mut self.columns[at];
-            column.known = match unknown_in(stretches, a, b) {
-                0 => Known::All,
-                unknown if unknown < b - a => Known::Some,
-                _ => Known::None,
+            column.known = match known {
+                0 => Known::None,
+                known if known < b - a => Known::Some,
+                _ => Known::All,
             };
-            let edge = column.known == Known::All && unknown_in(stretches, b, b + 1) > 0;
-            if let Some(node) = capture.summary(a, b).filter(|_| edge) {
-                (column.toggles, column.left) = (node.toggles, node.last);
+            // As a pixel, up to and with the first sample of the next one. Where a line is another behind a stretch than before
+            // it, it has changed.
+            let runs = known_runs(stretches, a, capture.len().min(b + 1));
+            let nodes = runs.filter_map(|(begin, end)| capture.summary(begin, end));
+            let seen = nodes.reduce(|left, right| Node {
+                toggles: left.toggles | right.toggles | left.last ^ right.first,
+                last: right.last,
+                ..left
+            });
+            if let Some(Node { first, last, toggles, .. }) = seen {
+                (column.entered, column.toggles, column.left) = (first, toggles, last);
             }
         }
     }
@@ -152,6 +161,8 @@ fn view(from: Place, to: Place, width: usize) -> View {
 mod tests {
     use super::*;
     use crate::file::captured;
+    use crate::plain::unknown::stretches;
+    use crate::plain::Rng;
     use crate::stretches::listed;
     use Step::*;
 
@@ -226,7 +237,6 @@ mod tests {
         }
     }
 
-    /// Columns of unknown samples show nothing, and columns without any what was measured alone.
     #[test]
     fn what_is_stored_in_unknown_samples_is_not_drawn() {
         let samples = [1, 1, 0, 0, 1, 1, 0, 0, 1, 1, 0, 1];
@@ -239,18 +249,49 @@ mod tests {
         let one = shaded(&[(2, 2)], 0, 6, 6);
         assert_eq!(one.0, [High, High, Unknown, Unknown, High, Fall]);
         assert_eq!(one.1, [false, false, true, true, false, false]);
-        // Two samples a column. The change at 10 is a measured one, that at 8 comes of what is stored at 7.
-        let two = shaded(&[(7, 1)], 4, 12, 4);
-        assert_eq!(two.0, [Fall, Rise, Fall, Rise]);
-        assert_eq!(two.1, [false, true, false, false]);
+        // Two samples a column: a stretch within one, and at its end.
         let two = shaded(&[(4, 3)], 0, 12, 6);
         assert_eq!(two.0, [Fall, Low, Unknown, Rise, Fall, Rise]);
         assert_eq!(two.1, [false, false, true, true, false, false]);
+        assert_eq!(shaded(&[(2, 1), (11, 1)], 0, 12, 6).0, [High, Rise, Fall, Rise, Fall, Low]);
+        // Four: the line is as before behind the stretch, or is not, and has changed then.
+        let four = shaded(&[(2, 2), (9, 2)], 0, 12, 3);
+        assert_eq!((four.0, four.1), (vec![High, Dip, High], vec![true, false, true]));
+        assert_eq!(shaded(&[(1, 1), (5, 2)], 0, 12, 3).0, [Dip, Dip, Dip]);
+        assert_eq!(shaded(&[(5, 2), (8, 4)], 4, 12, 2).0, [Fall, Unknown]);
         // The stretch begins right behind what is drawn, or is outside.
         assert_eq!(shaded(&[(2, 1)], 0, 2, 1), (vec![High], vec![false]));
         assert_eq!(shaded(&[(0, 1), (11, 1)], 4, 8, 2).1, [false; 2]);
         let all = shaded(&[(0, 12)], 0, 12, 5);
         assert_eq!(all, (vec![Unknown; 5], vec![true; 5]));
+    }
+
+    /// Whatever is stored in unknown samples, the drawing is the same; without any it is as before.
+    #[test]
+    fn a_drawing_is_that_of_the_known_samples() {
+        let mut rng = Rng(81);
+        for _ in 0..200 {
+            let len = 1 + rng.below(300);
+            let mut samples: Vec<u8> = (0..len).map(|_| rng.below(3) as u8 / 2).collect();
+            let width = 1 + rng.below(40);
+            let stretches = stretches((0..len).map(|_| rng.below(8) == 0));
+            let drawn = |samples: &[u8], stretches: Option<&[Stretch]>| {
+                let capture = captured(samples, None);
+                let reader = Reader::Service(&capture);
+                let mut wave = Wave::new(&reader, 0, len as Place, width).unwrap().unwrap();
+                stretches.into_iter().for_each(|stretches| wave.shade(&capture, stretches));
+                wave.columns
+            };
+            assert_eq!(drawn(&samples, Some(&[])), drawn(&samples, None));
+            let one: Vec<_> = drawn(&samples, Some(&stretches));
+            for &Stretch { first, count } in &stretches {
+                samples[first..first + count].iter_mut().for_each(|sample| *sample ^= 1);
+            }
+            let other = drawn(&samples, Some(&stretches));
+            for (one, other) in one.iter().zip(&other) {
+                assert!(one == other || one.known == Known::None && other.known == Known::None);
+            }
+        }
     }
 
     #[test]

@@ -16,6 +16,9 @@ fn what_is_wrong_is_said() {
     folder.write("a.bin", &[0, 1, 0]);
     folder.write("zeros", &[0; 512]);
     folder.write("empty", b"");
+    folder.write("a.list", b"1 1\n");
+    folder.write("b.list", b"# list\n0 1\n2 one\n");
+    folder.write("c.list", b"0 1\n2 18446744073709551616\n");
     for (line, what) in [
         ("", ": which command? 'logic-capture --help' lists them"),
         ("fly", ": there is no command 'fly'; 'logic-capture --help' lists them"),
@@ -99,6 +102,68 @@ fn what_is_wrong_is_said() {
         ("burst a.shelf --read", " burst: --at PLACE is missing; see --help"),
         ("changes a.shelf --read", " changes: there is no option '--read'; see --help"),
         ("next a.shelf a.shelf", " next: 'a.shelf' is one file too many beside 'a.shelf'"),
+        ("next a.shelf --certain", " next: --certain goes with --stretches"),
+        ("prev a.shelf --possible", " prev: --possible goes with --stretches"),
+        ("changes a.shelf --certain --total", " changes: --certain goes with --stretches"),
+        (
+            "next a.shelf --stretches a.list",
+            " next: --stretches goes with --certain or --possible",
+        ),
+        (
+            "changes a.shelf --stretches a.list --total",
+            " changes: --stretches goes with --certain or --possible",
+        ),
+        (
+            "prev a.shelf --stretches a.list --certain --possible",
+            " prev: --certain and --possible exclude each other",
+        ),
+        ("next a.shelf --certain --possible", " next: --certain and --possible exclude each other"),
+        (
+            "next a.shelf --stretches a.list --certain --read",
+            " next: --stretches and --read exclude each other",
+        ),
+        ("next a.shelf --stretches", " next: --stretches needs a value behind it"),
+        ("next a.shelf --stretches a.list --stretches a.list", " next: --stretches is given twice"),
+        ("next a.shelf --certain=1 --stretches a.list", " next: --certain takes no value"),
+        ("next --stretches a.list --certain", " next: which file? - is standard input"),
+        (
+            "next - --stretches - --certain",
+            " next: --stretches -: standard input is taken; name a file",
+        ),
+        (
+            "render --stretches nowhere a.shelf",
+            " render: nowhere: No such file or directory (os error 2)",
+        ),
+        ("changes --stretches . --possible a.shelf", " changes: .: Is a directory (os error 21)"),
+        (
+            "next --stretches a.bin --certain a.shelf",
+            " next: a.bin: line 1: a stretch is two numbers, its first place and its count, as in 4500 500",
+        ),
+        (
+            "render --stretches a.shelf a.shelf",
+            " render: a.shelf: line 1: it has 1000 bytes or more",
+        ),
+        ("prev --stretches b.list --certain a.shelf", " prev: b.list: line 3: not a whole number"),
+        (
+            "prev --stretches c.list --certain a.shelf",
+            " prev: c.list: line 2: above 18446744073709551615",
+        ),
+        (
+            "render --stretches /dev/zero a.shelf",
+            " render: /dev/zero: line 1: it has 1000 bytes or more",
+        ),
+        (
+            "render a.shelf --pixels --stretches a.list",
+            " render: --pixels and --stretches exclude each other",
+        ),
+        (
+            "render a.shelf --stretches a.list --certain",
+            " render: there is no option '--certain'; see --help",
+        ),
+        (
+            "samples a.shelf --stretches a.list",
+            " samples: there is no option '--stretches'; see --help",
+        ),
         ("burst a.shelf", " burst: --at PLACE is missing; see --help"),
         ("burst a.shelf --at 1", " burst: --gap SAMPLES is missing; see --help"),
         ("burst a.shelf --at 1 --gap -1", " burst: --gap -1: not a whole number"),
@@ -198,6 +263,7 @@ fn garbage_is_answered_or_refused() {
     let folder = Folder::new("bad-garbage");
     folder.write("a.shelf", &file(1, Some(1), &[0, 1, 0]));
     folder.write("a.bin", &[0, 1, 0]);
+    folder.write("a.list", b"1 1\n");
     let words = [
         "record",
         "info",
@@ -250,6 +316,10 @@ fn garbage_is_answered_or_refused() {
         "--bits",
         "--total",
         "--read",
+        "--stretches",
+        "--certain",
+        "--possible",
+        "a.list",
         "--width",
         "--parts",
         "--a",

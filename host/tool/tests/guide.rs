@@ -103,6 +103,7 @@ fn refusals_say_what_the_guide_says() {
         Refusal::FileRoom,
         Refusal::File,
         Refusal::Block0,
+        Refusal::Stretches,
     ];
     let rows = rows("| No. |");
     assert_eq!(rows.len(), refusals.len());

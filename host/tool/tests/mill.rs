@@ -241,6 +241,22 @@ fn what_a_mill_may_not_ask_is_refused() {
             " salvage: --grant: files are not given to mills",
         ),
         (
+            "next --grant 0 --stretches x.list --certain one.shelf",
+            " next: --grant: unknown stretches are not given to mills",
+        ),
+        (
+            "prev --grant 0 --stretches x.list --possible one.shelf",
+            " prev: --grant: unknown stretches are not given to mills",
+        ),
+        (
+            "changes --grant 0 --stretches x.list --certain one.shelf",
+            " changes: --grant: unknown stretches are not given to mills",
+        ),
+        (
+            "render --grant 0 --stretches x.list one.shelf",
+            " render: --grant: unknown stretches are not given to mills",
+        ),
+        (
             "encoder --grant 0,2 --a 16 --b 0 one.shelf",
             " encoder: --a 16: '16' is no line: lines are 0 to 15",
         ),
