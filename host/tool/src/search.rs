@@ -8,12 +8,19 @@ use crate::reader::{from_first, Place, Reader};
 use crate::stretches::{known_runs, List};
 use capture::{Capture, Counted, Lines, Refusal, Stretch};
 
-pub enum Search {
-    Stored,
-    /// There whatever the unknown samples were.
-    Certain(Vec<Stretch>),
-    /// There for some values of them.
-    Possible(Vec<Stretch>),
+pub struct Search {
+    /// None where stored changes are looked for.
+    across: Option<Across>,
+}
+
+/// A search of the service across unknown stretches.
+type Ask = fn(&Capture, &[Stretch], Lines, usize) -> Result<Option<usize>, Refusal>;
+
+/// The stretches, and the searches for the changes that are wanted across them.
+struct Across {
+    stretches: Vec<Stretch>,
+    next: Ask,
+    prev: Ask,
 }
 
 impl Search {
@@ -29,12 +36,13 @@ impl Search {
         }
         let list = List::asked(args)?;
         let capture = file::load(command, args)?;
-        let search = match list.map(|list| list.of(&capture)).transpose()? {
-            None => Search::Stored,
-            Some(stretches) if certain => Search::Certain(stretches),
-            Some(stretches) => Search::Possible(stretches),
+        let stretches = list.map(|list| list.of(&capture)).transpose()?;
+        let (next, prev): (Ask, Ask) = match certain {
+            true => (Capture::next_certain, Capture::prev_certain),
+            false => (Capture::next_possible, Capture::prev_possible),
         };
-        Ok((capture, search))
+        let across = stretches.map(|stretches| Across { stretches, next, prev });
+        Ok((capture, Search { across }))
     }
 
     /// The next such change. Across stretches no nodes are counted.
@@ -45,12 +53,10 @@ impl Search {
         mask: Lines,
         from: Place,
     ) -> Result<Counted<Place>, Refusal> {
-        let found = match self {
-            Search::Stored => return reader.next_change(mask, from),
-            Search::Certain(list) => capture.next_certain(list, mask, from_first(from)),
-            Search::Possible(list) => capture.next_possible(list, mask, from_first(from)),
-        };
-        Ok(uncounted(found?))
+        match &self.across {
+            None => reader.next_change(mask, from),
+            Some(across) => across.ask(across.next, capture, mask, from),
+        }
     }
 
     /// The previous one, the same way.
@@ -61,26 +67,30 @@ impl Search {
         mask: Lines,
         from: Place,
     ) -> Result<Counted<Place>, Refusal> {
-        let found = match self {
-            Search::Stored => return reader.prev_change(mask, from),
-            Search::Certain(list) => capture.prev_certain(list, mask, from_first(from)),
-            Search::Possible(list) => capture.prev_possible(list, mask, from_first(from)),
-        };
-        Ok(uncounted(found?))
+        match &self.across {
+            None => reader.prev_change(mask, from),
+            Some(across) => across.ask(across.prev, capture, mask, from),
+        }
     }
 
     /// Whether the sample at a place is known.
     pub fn knows(&self, place: Place) -> bool {
         let place = from_first(place);
-        match self {
-            Search::Stored => true,
-            Search::Certain(list) | Search::Possible(list) => {
-                known_runs(list, place, place + 1).next().is_some()
-            }
-        }
+        self.across
+            .as_ref()
+            .is_none_or(|across| known_runs(&across.stretches, place, place + 1).next().is_some())
     }
 }
 
-fn uncounted(found: Option<usize>) -> Counted<Place> {
-    Counted { found: found.map(|place| place as Place), read: 0 }
+impl Across {
+    fn ask(
+        &self,
+        ask: Ask,
+        capture: &Capture,
+        mask: Lines,
+        from: Place,
+    ) -> Result<Counted<Place>, Refusal> {
+        let found = ask(capture, &self.stretches, mask, from_first(from))?;
+        Ok(Counted { found: found.map(|place| place as Place), read: 0 })
+    }
 }
