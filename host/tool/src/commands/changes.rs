@@ -44,16 +44,13 @@ pub const COMMAND: Command = Command {
             count += 1;
             if !total {
                 let (before, now) = (reader.get(place - 1)? & mask, reader.get(place)? & mask);
+                let shown = |lines, known| match known {
+                    true => form.written(lines, reader.unit()),
+                    false => "?".into(),
+                };
                 let known = search.knows(place);
-                let both = known && search.knows(place - 1);
-                let [now, changed] = [(now, known), (before ^ now, both)].map(|(lines, known)| {
-                    if known {
-                        form.written(lines, reader.unit())
-                    } else {
-                        "?".into()
-                    }
-                });
-                writeln!(out, "{place} {now} {changed}")?;
+                let changed = shown(before ^ now, known && search.knows(place - 1));
+                writeln!(out, "{place} {} {changed}", shown(now, known))?;
             }
             found = next(place)?;
         }
