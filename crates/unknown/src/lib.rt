@@ -362,18 +362,7 @@ pub fn next_certain<'a>(
         return Located::Refused(number);
     }
     if list.len() == 0 {
-        return given(change(
-            samples,
-            l1,
-            l2,
-            l3,
-            l4,
-            c.unitsize,
-            c.len,
-            false,
-            mask,
-            from,
-        ));
+        return given(uncounted(next_in(samples, l1, l2, l3, l4, c.unitsize, c.len, mask, from)));
     }
     given(certain_in(
         samples,
@@ -409,7 +398,7 @@ pub fn prev_certain<'a>(
         return Located::Refused(number);
     }
     if list.len() == 0 {
-        return given(change(samples, l1, l2, l3, l4, c.unitsize, c.len, true, mask, from));
+        return given(uncounted(prev_in(samples, l1, l2, l3, l4, c.unitsize, c.len, mask, from)));
     }
     given(certain_in(
         samples,
@@ -445,18 +434,7 @@ pub fn next_possible<'a>(
         return Located::Refused(number);
     }
     if list.len() == 0 {
-        return given(change(
-            samples,
-            l1,
-            l2,
-            l3,
-            l4,
-            c.unitsize,
-            c.len,
-            false,
-            mask,
-            from,
-        ));
+        return given(uncounted(next_in(samples, l1, l2, l3, l4, c.unitsize, c.len, mask, from)));
     }
     given(possible_in(
         samples,
@@ -492,7 +470,7 @@ pub fn prev_possible<'a>(
         return Located::Refused(number);
     }
     if list.len() == 0 {
-        return given(change(samples, l1, l2, l3, l4, c.unitsize, c.len, true, mask, from));
+        return given(uncounted(prev_in(samples, l1, l2, l3, l4, c.unitsize, c.len, mask, from)));
     }
     given(possible_in(
         samples,
