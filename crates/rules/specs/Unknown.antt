@@ -39,11 +39,12 @@ pub data Sureness : Type 0 where
   certain : Sureness
   possible : Sureness
 
--- and the next or, back, the previous of it
+-- whether it is at place i
 abbrev pub testAt : Sureness → ℕ → (ℕ → Bool) → (ℕ → ℕ) → ℕ → ℕ → Bool
 testAt certain unit unknown s mask i = certainAt unknown s mask i
 testAt possible unit unknown s mask i = possibleAt unit unknown s mask i
 
+-- the next place at which a test holds, or back the previous
 abbrev pub searchAt : Bool → (ℕ → Bool) → ℕ → ℕ → Option ℕ
 searchAt true test len from = previousAt test len from
 searchAt false test len from = nextAt test len from

@@ -8,7 +8,7 @@ use native.Mathlib.Omega.{arith}
 use Rattle.rules.specs.Stretches.{Stretch}
 use Rattle.rules.specs.Unknown.{Asked, Sooner, Nearest}
 use Rattle.rules.proofs.Nearest.{nearest-as}
-use Rattle.unknown.specs.Crossing.{beyond, crossing, crossed}
+use Rattle.unknown.specs.Crossing.{resume, crossing, crossed}
 use Rattle.unknown.proofs.Crossing.{stays-before, stays-behind, goes-on}
 
 -- ---- a stretch and a place
@@ -49,16 +49,16 @@ Before false a b = endOf a < b .first
 -- ---- behind a stretch
 module _ (back : Bool) (len from : ℕ) (s : Stretch) where
   -- what does not come before a touched place, and is not touched, lies behind
-  goes-behind : (i j : ℕ) → Touch s i → (Sooner back j i → ⊥) → (Touch s j → ⊥) → Asked back len from j → Asked back len (beyond back (s .first) (endOf s)) j
+  goes-behind : (i j : ℕ) → Touch s i → (Sooner back j i → ⊥) → (Touch s j → ⊥) → Asked back len from j → Asked back len (resume back (s .first) (endOf s)) j
   goes-behind i j t h k a = go back h a
     where
       outside : s .first ≤ j → j ≤ endOf s → ⊥
       outside x y = k (record { least = x; most = y })
 
-      go : (b : Bool) → (Sooner b j i → ⊥) → Asked b len from j → Asked b len (beyond b (s .first) (endOf s)) j
+      go : (b : Bool) → (Sooner b j i → ⊥) → Asked b len from j → Asked b len (resume b (s .first) (endOf s)) j
       go true h a = (a .0, side (decLt j (s .first)), a .2)
         where
-          side : Dec (j < s .first) → j ≤ beyond true (s .first) (endOf s)
+          side : Dec (j < s .first) → j ≤ resume true (s .first) (endOf s)
           side (yes x) = omega (arith, x)
           side (no x) = absurd (outside (omega (arith, x)) (not-more (decLt i j)))
             where
@@ -81,18 +81,18 @@ module _ (back : Bool) (len from : ℕ) (s : Stretch) where
     pub free : Touch s j → ⊥
     pub others : (r : Stretch) → Before back r s → Touch r j → ⊥
 
-  lies-behind : (i j : ℕ) → Touch s i → Asked back len from i → Asked back len (beyond back (s .first) (endOf s)) j → Behind j
+  lies-behind : (i j : ℕ) → Touch s i → Asked back len from i → Asked back len (resume back (s .first) (endOf s)) j → Behind j
   lies-behind i j t a h = record { asked = go back a h; free = λ x. alone back h x; others = λ r o x. apart back r h o x }
     where
-      go : (b : Bool) → Asked b len from i → Asked b len (beyond b (s .first) (endOf s)) j → Asked b len from j
+      go : (b : Bool) → Asked b len from i → Asked b len (resume b (s .first) (endOf s)) j → Asked b len from j
       go true a h = (h .0, omega (arith, h .0, h .1, a .1, t .least), h .2)
       go false a h = (omega (arith, h .0, a .0, t .most), h .1)
 
-      alone : (b : Bool) → Asked b len (beyond b (s .first) (endOf s)) j → Touch s j → ⊥
+      alone : (b : Bool) → Asked b len (resume b (s .first) (endOf s)) j → Touch s j → ⊥
       alone true h x = omega (arith, h .0, h .1, x .least)
       alone false h x = omega (arith, h .0, x .most)
 
-      apart : (b : Bool) (r : Stretch) → Asked b len (beyond b (s .first) (endOf s)) j → Before b r s → Touch r j → ⊥
+      apart : (b : Bool) (r : Stretch) → Asked b len (resume b (s .first) (endOf s)) j → Before b r s → Touch r j → ⊥
       apart true r h o x = omega (arith, h .0, h .1, o, x .least)
       apart false r h o x = omega (arith, h .0, o, x .most)
 
@@ -118,7 +118,7 @@ module _ (back : Bool) (P : ℕ → Type 0) (len : ℕ) (search : ℕ → Option
       s = stretch k
 
       b : ℕ
-      b = beyond back (s .first) (endOf s)
+      b = resume back (s .first) (endOf s)
 
       -- none of those left lies before the place behind which the search goes on
       left-behind : Touch s i → (j : ℕ) → Asked back len from j → Left P stretch (suc k) j → Asked back len b j

@@ -10,16 +10,16 @@ use lib.Dec.{leb}
 use lib.ListN.{length}
 use borrow.Author.Tests.{le-leb, lt-leb}
 use Rattle.rules.specs.Stretches.{Stretch, stretchAt}
-use Rattle.unknown.specs.Crossing.{nthNumber, stretchCount, nthStretch, beyond, crossing, crossed}
+use Rattle.unknown.specs.Crossing.{nthNumber, stretchCount, nthStretch, resume, crossing, crossed}
 
 -- ---- places
-pub beyond-back : (back : Bool) (first end m : ℕ) → back ≡ true → m ≡ min first 1 → first - m ≡ beyond back first end
-beyond-back true first end m e h = omega (arith, h)
-beyond-back false first end m e h = cc
+pub resume-back : (back : Bool) (first end m : ℕ) → back ≡ true → m ≡ min first 1 → first - m ≡ resume back first end
+resume-back true first end m e h = omega (arith, h)
+resume-back false first end m e h = cc
 
-pub beyond-on : (back : Bool) (first end : ℕ) → back ≡ false → end ≡ beyond back first end
-beyond-on true first end e = cc
-beyond-on false first end e = refl
+pub resume-on : (back : Bool) (first end : ℕ) → back ≡ false → end ≡ resume back first end
+resume-on true first end e = cc
+resume-on false first end e = refl
 
 -- a stretch on the way is one of the list
 pub nth-inside : (back : Bool) (list : List ℕ) (k : ℕ) → k < stretchCount list → 2 * nthNumber back (stretchCount list) k + 1 < length list
@@ -28,8 +28,8 @@ nth-inside false list k h = omega (arith, h, div-add-mod' (length list) 2)
 
 -- ---- a find at a stretch
 module _ (search : ℕ → Option ℕ) (back : Bool) (first end i : ℕ) where
-  tested : (b : Bool) → (leb first i && leb i end) ≡ b → cond b (search (beyond back first end)) (some i) ≡ crossing search back first end (some i)
-  tested b e = ap (λ (x : Bool). cond x (search (beyond back first end)) (some i)) (sym e)
+  tested : (b : Bool) → (leb first i && leb i end) ≡ b → cond b (search (resume back first end)) (some i) ≡ crossing search back first end (some i)
+  tested b e = ap (λ (x : Bool). cond x (search (resume back first end)) (some i)) (sym e)
 
   pub stays-before : i < first → some i ≡ crossing search back first end (some i)
   stays-before h = tested false (ap (λ (x : Bool). x && leb i end) (lt-leb first i h))
@@ -37,7 +37,7 @@ module _ (search : ℕ → Option ℕ) (back : Bool) (first end i : ℕ) where
   pub stays-behind : first ≤ i → end < i → some i ≡ crossing search back first end (some i)
   stays-behind h l = tested false (ap₂ _&&_ (le-leb first i h) (lt-leb i end l))
 
-  pub goes-on : first ≤ i → i ≤ end → search (beyond back first end) ≡ crossing search back first end (some i)
+  pub goes-on : first ≤ i → i ≤ end → search (resume back first end) ≡ crossing search back first end (some i)
   goes-on h l = tested true (ap₂ _&&_ (le-leb first i h) (le-leb i end l))
 
 -- ---- over stretches

@@ -13,7 +13,7 @@ use Rattle.rules.specs.Walk.{orFound}
 use Rattle.rules.specs.Stretches.{Stretch}
 use Rattle.rules.specs.Unknown.{Asked, Sooner, Nearest}
 use Rattle.rules.proofs.Nearest.{nearest-as}
-use Rattle.unknown.specs.Meeting.{meets, met, nearer, cutAt, besides}
+use Rattle.unknown.specs.Meeting.{meets, met, earlier, cutAt, besides}
 use Rattle.unknown.proofs.Certain.{endOf, Touch, Touched, Before}
 
 -- p is the first place that a search from `from` looks at
@@ -121,7 +121,7 @@ module _ (back : Bool) (P T : ℕ → Type 0) (len from p : ℕ) (e : Entry back
   neither f g (inr x) = g x
 
   -- with a stretch met at c, of those that are touched the first
-  with-met : (b : Bool) (c : ℕ) → Nearest b T len from (some c) → (f : Option ℕ) → Nearest b P (cutAt b len c) from f → Nearest b (λ i. P i ⊎ T i) len from (nearer b f c)
+  with-met : (b : Bool) (c : ℕ) → Nearest b T len from (some c) → (f : Option ℕ) → Nearest b P (cutAt b len c) from f → Nearest b (λ i. P i ⊎ T i) len from (earlier b f c)
   unfolding Nearest
   with-met true c m none s = (m .0, inr (m .1), λ j a x. neither (s j a) (m .2 j a x))
   with-met true c m (some j) s = go (decLt c j)
@@ -149,6 +149,6 @@ module _ (back : Bool) (P T : ℕ → Type 0) (len from p : ℕ) (e : Entry back
       cut true a = le-refl len
       cut false a = omega (arith, a .1)
 
-      go : (t : Bool) → eqb c p ≡ t → Nearest back Either len from (cond t (some c) (nearer back (search (cutAt back len c) from) c))
+      go : (t : Bool) → eqb c p ≡ t → Nearest back Either len from (cond t (some c) (earlier back (search (cutAt back len c) from) c))
       go true q = (m .0, inr (m .1), λ j a x y. e .first j a (subst (Sooner back j) (eqb-true c p q) x))
       go false q = with-met back c m (search (cutAt back len c) from) (s (cutAt back len c) (cut back (m .0)))

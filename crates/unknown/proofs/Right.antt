@@ -31,7 +31,7 @@ use Rattle.node.proofs.Memory.{right-true}
 use Rattle.capture.specs.declared.Capture.{Capture}
 use Rattle.capture.specs.Record.{storeOf, lentOf}
 use Rattle.unknown.specs.Crossing.{walked, nthNumber, stretchCount, nthStretch, certainIn}
-use Rattle.unknown.specs.Meeting.{entry, met, entered, possibleAcross, possibleIn}
+use Rattle.unknown.specs.Meeting.{entry, met, fromEntry, possibleAcross, possibleIn}
 use Rattle.unknown.specs.Answer.{certainOf, possibleOf}
 use Rattle.search.specs.Part.{Stored}
 use Rattle.unknown.proofs.Crossing.{nth-inside}
@@ -176,9 +176,9 @@ module _ (len : ℕ) (list : List ℕ) (w : listWrong len list ≡ false) (back 
         of i l true q x = inr (beside-touched i l q)
         of i l false q x = inl x
 
-        entered-right : (a : Option ℕ) → Enters back len from a → Nearest back (λ i. Holds (changed s mask) i ⊎ Touched stretch n i) len from (entered back (walked back reader mask) len list from a)
-        entered-right none e = λ j a x. e j a
-        entered-right (some p) e =
+        searched-right : (a : Option ℕ) → Enters back len from a → Nearest back (λ i. Holds (changed s mask) i ⊎ Touched stretch n i) len from (fromEntry back (walked back reader mask) len list from a)
+        searched-right none e = λ j a x. e j a
+        searched-right (some p) e =
             besides-nearest back (Holds (changed s mask)) (Touched stretch n) len from p e (walked back reader mask) (met back p stretch n)
             (met-nearest back len from p e stretch n (λ k h. lies k h .some-places) (λ k h. lies k h .inside) rises n (le-refl n)) (λ hi h. walked-nearest hi h from)
 
@@ -186,11 +186,11 @@ module _ (len : ℕ) (list : List ℕ) (w : listWrong len list ≡ false) (back 
         nobody e i l m true q x = false≢true x
         nobody e i l m false q x = false≢true (sym e ∙ line-there unit len r (λ j. false) s words mask i l m (itself unit len r (λ j. false) s words) x)
 
-        go : (h : Bool) → hasLine unit mask ≡ h → cond h (entered back (walked back reader mask) len list from (entry back len from)) none ≡ searchAt back (test h) len from
+        go : (h : Bool) → hasLine unit mask ≡ h → cond h (fromEntry back (walked back reader mask) len list from (entry back len from)) none ≡ searchAt back (test h) len from
         go true e =
-            is-search back (test true) len from (entered back (walked back reader mask) len list from (entry back len from))
+            is-search back (test true) len from (fromEntry back (walked back reader mask) len list from (entry back len from))
             (nearest-as back (λ i. Holds (changed s mask) i ⊎ Touched stretch n i) (Holds (test true)) len from (λ i a x. to i (asked-least back len from i a) (beside i) refl x) (λ i a x. of i (asked-least back len from i a) (beside i) refl x)
-            (entered back (walked back reader mask) len list from (entry back len from)) (entered-right (entry back len from) (entry-enters back len from)))
+            (fromEntry back (walked back reader mask) len list from (entry back len from)) (searched-right (entry back len from) (entry-enters back len from)))
         go false e = is-search back (test false) len from none (none-nearest (λ i a x. nobody e i (asked-least back len from i a) (asked-most back len from i a) (beside i) refl x))
           where
             none-nearest : ((i : ℕ) → Asked back len from i → Holds (test false) i → ⊥) → Nearest back (Holds (test false)) len from none

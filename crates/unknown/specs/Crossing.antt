@@ -31,14 +31,14 @@ abbrev pub touches : ℕ → ℕ → ℕ → Bool
 touches first end i = leb first i && leb i end
 
 -- from where a search goes on behind it
-abbrev pub beyond : Bool → ℕ → ℕ → ℕ
-beyond true first end = first - 1
-beyond false first end = end
+abbrev pub resume : Bool → ℕ → ℕ → ℕ
+resume true first end = first - 1
+resume false first end = end
 
 -- what becomes of a find
 abbrev pub crossing : (ℕ → Option ℕ) → Bool → ℕ → ℕ → Option ℕ → Option ℕ
 crossing search back first end none = none
-crossing search back first end (some i) = cond (touches first end i) (search (beyond back first end)) (some i)
+crossing search back first end (some i) = cond (touches first end i) (search (resume back first end)) (some i)
 
 -- k stretches, one after the other
 unfoldable pub crossed : (ℕ → Option ℕ) → Bool → (ℕ → Stretch) → ℕ → Option ℕ → Option ℕ

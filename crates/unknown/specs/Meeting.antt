@@ -28,10 +28,10 @@ met back p stretch zero = none
 met back p stretch (suc k) = orFound (met back p stretch k) (meets back p (stretch k .first) (stretch k .first + stretch k .count))
 
 -- a find and place c, at which a stretch is met: the one that comes first. Forward the search ends before c
-abbrev pub nearer : Bool → Option ℕ → ℕ → Option ℕ
-nearer back none c = some c
-nearer true (some j) c = some (max j c)
-nearer false (some j) c = some j
+abbrev pub earlier : Bool → Option ℕ → ℕ → Option ℕ
+earlier back none c = some c
+earlier true (some j) c = some (max j c)
+earlier false (some j) c = some j
 
 -- how many samples it is given
 abbrev pub cutAt : Bool → ℕ → ℕ → ℕ
@@ -41,15 +41,15 @@ cutAt false len c = c
 -- with a stretch met or none; `search len from` is 01's. At the first place itself there is nothing to search
 abbrev pub besides : Bool → (ℕ → ℕ → Option ℕ) → ℕ → ℕ → ℕ → Option ℕ → Option ℕ
 besides back search len from p none = search len from
-besides back search len from p (some c) = cond (eqb c p) (some c) (nearer back (search (cutAt back len c) from) c)
+besides back search len from p (some c) = cond (eqb c p) (some c) (earlier back (search (cutAt back len c) from) c)
 
-abbrev pub entered : Bool → (ℕ → ℕ → Option ℕ) → ℕ → List ℕ → ℕ → Option ℕ → Option ℕ
-entered back search len list from none = none
-entered back search len list from (some p) = besides back search len from p (met back p (nthStretch back list) (stretchCount list))
+abbrev pub fromEntry : Bool → (ℕ → ℕ → Option ℕ) → ℕ → List ℕ → ℕ → Option ℕ → Option ℕ
+fromEntry back search len list from none = none
+fromEntry back search len list from (some p) = besides back search len from p (met back p (nthStretch back list) (stretchCount list))
 
 -- nothing changes under a mask that has no line of the unit
 abbrev pub possibleAcross : Bool → ℕ → (ℕ → ℕ → Node) → ℕ → List ℕ → ℕ → ℕ → Option ℕ
-possibleAcross back unit reader len list mask from = cond (hasLine unit mask) (entered back (walked back reader mask) len list from (entry back len from)) none
+possibleAcross back unit reader len list mask from = cond (hasLine unit mask) (fromEntry back (walked back reader mask) len list from (entry back len from)) none
 
 -- without stretches it is 01's search
 abbrev pub possibleIn : Bool → ℕ → (ℕ → ℕ → Node) → ℕ → List ℕ → ℕ → ℕ → Option ℕ

@@ -18,8 +18,8 @@ ghost use Rattle.rules.specs.Unknown.{listWrong};
 ghost use Rattle.node.specs.Memory.{levelOf, readerOf};
 ghost use Rattle.find.specs.Way.{placeOf};
 ghost use Rattle.search.specs.Part.{Stored};
-ghost use Rattle.unknown.specs.Crossing.{walked, nthNumber, stretchCount, nthStretch, beyond, crossing, certainIn};
-ghost use Rattle.unknown.specs.Meeting.{entry, meets, met, nearer, cutAt, entered, possibleAcross};
+ghost use Rattle.unknown.specs.Crossing.{walked, nthNumber, stretchCount, nthStretch, resume, crossing, certainIn};
+ghost use Rattle.unknown.specs.Meeting.{entry, meets, met, earlier, cutAt, fromEntry, possibleAcross};
 ghost use Rattle.unknown.specs.Answer.{spotOf, locatedOf, certainOf, possibleOf};
 
 // A place, or none.
@@ -77,8 +77,8 @@ fn nth(back: bool, n: usize, k: usize) -> usize
 // ---- certain changes
 
 // From where a search goes on behind a stretch: backward at the place before it, and at 0, where nothing is found, if there is none.
-fn beyond(back: bool, first: usize, end: usize) -> usize
-    ensures { λ r. ⌜ r ≡ beyond back first end ⌝ }
+fn resume(back: bool, first: usize, end: usize) -> usize
+    ensures { λ r. ⌜ r ≡ resume back first end ⌝ }
 {
     if back { first - lesser(first, 1) } else { end }
 }
@@ -117,7 +117,7 @@ fn cross<'a>(
         len,
         back,
         mask,
-        beyond(back, first, end),
+        resume(back, first, end),
     )
 }
 
@@ -239,8 +239,8 @@ fn met(list: &[usize], len: usize, back: bool, p: usize) -> Spot
 }
 
 // A find and the place c at which a stretch is met: the one that comes first. Forward the search ended before c.
-fn nearer(back: bool, found: Spot, c: usize) -> Spot
-    ensures { λ r. ⌜ spotOf r ≡ nearer back (spotOf found) c ⌝ }
+fn earlier(back: bool, found: Spot, c: usize) -> Spot
+    ensures { λ r. ⌜ spotOf r ≡ earlier back (spotOf found) c ⌝ }
 {
     let Spot::At(j) = found else {
         return Spot::At(c);
@@ -274,7 +274,7 @@ fn possible_from<'a>(
     p: usize,
 ) -> Spot
     requires { ⌜ Stored unitsize len (now samples) (levelOf (now l1) (now l2) (now l3) (now l4)) × (listWrong len (now list) ≡ false) ⌝ }
-    ensures { λ r. ⌜ spotOf r ≡ entered back (walked back (readerOf unitsize (now (samples .entry)) (levelOf (now (l1 .entry)) (now (l2 .entry)) (now (l3 .entry)) (now (l4 .entry)))) mask) len (now (list .entry)) from (some p) ⌝ }
+    ensures { λ r. ⌜ spotOf r ≡ fromEntry back (walked back (readerOf unitsize (now (samples .entry)) (levelOf (now (l1 .entry)) (now (l2 .entry)) (now (l3 .entry)) (now (l4 .entry)))) mask) len (now (list .entry)) from (some p) ⌝ }
 {
     let stretch = met(list, len, back, p);
     let Spot::At(c) = stretch else {
@@ -284,7 +284,7 @@ fn possible_from<'a>(
         return Spot::At(c);
     }
     let hi = cut_at(back, len, c);
-    nearer(
+    earlier(
         back,
         change(samples, l1, l2, l3, l4, unitsize, hi, back, mask, from),
         c,
