@@ -1,29 +1,31 @@
 -- Searches in what was salvaged: the stretches that salvaging told are accepted, and every capture that has the good blocks is a filling of them.
 use mathlib.Core.Path.{_≡_, refl, sym, ap, ap₂, _∙_, subst, subst⁻¹}
-use mathlib.Core.Bool.{Bool, true, false, cond, not, _||_, false≢true}
+use mathlib.Core.Bool.{Bool, true, false, cond, not, _&&_, _||_, false≢true}
 use mathlib.Core.List.{List, [], _∷_}
 use mathlib.Core.Option.{Option, none, some}
 use Prim.Native.Nat.{ℕ, _-_, _*_, _%_, _^_, _≤_, _<_}
-use native.Mathlib.Nat.{mod-lt, div-add-mod', zero-lt-suc}
+use native.Mathlib.Nat.{mod-lt, div-add-mod', mul-le-mul-right, suc-mul, zero-lt-suc}
 use native.Mathlib.Decide.{decLt}
 use native.Mathlib.Omega.{arith}
 use lib.Dec.{eqb}
 use lib.ListN.{length, take, length-take}
-use borrow.Author.Tests.{not-false}
+use borrow.Author.Tests.{not-false, lt-ltb}
 use Rattle.rules.specs.Answer.{Answer, refused, given, unless}
 use Rattle.rules.specs.Sample.{sampleOf}
 use Rattle.rules.specs.SampleBytes.{Bytes}
 use Rattle.rules.specs.Refusal.{Store, firstOf}
 use Rattle.rules.specs.Search.{changed}
-use Rattle.rules.specs.Shelf.{Heading, headingOf, headingIn}
+use Rattle.rules.specs.Block.{payloadMost}
+use Rattle.rules.specs.Shelf.{headingOf, bytesFor, headingIn}
 use Rattle.rules.specs.ShelfCalls.{capacityWrong, storeIn}
 use Rattle.rules.specs.Stretches.{Stretch, apart, covers, pairsIn}
 use Rattle.rules.specs.Salvage.{goodAt, blockOfByte, isKnown, AgreeOutside, Salvaged}
 use Rattle.rules.specs.Unknown.{Sureness, certain, possible, Filling, Nearest, Change, listRow, listWrong, unknownSearch}
+use Rattle.rules.proofs.Refusal.{sound}
 use Rattle.rules.proofs.Unknown.{list-passes}
 use Rattle.capture.specs.declared.Capture.{Capture}
-use Rattle.capture.specs.Record.{storeOf}
-use Rattle.claim_captures.specs.Words.{Memory, at}
+use Rattle.capture.specs.Record.{storeOf, lentOf}
+use Rattle.claim_captures.specs.Words.{Memory, levels, at}
 use Rattle.claim_captures.specs.Claim.{Held}
 use Rattle.claim_shelf.specs.Files.{runIn, StoredBytes}
 use Rattle.claim_shelf.proofs.Files.{run-at, run-length, bytes-words}
@@ -111,12 +113,24 @@ module _ {C : Type 0} (recordOf : C → Capture) (Looks : ℕ → C → Memory �
     good : (i : ℕ) → i < length run → covers (pairsIn stretches) i ≡ false → badIn file (blockOfByte (i * st .unit)) ≡ false
     good i l e =
         ap (λ (u : ℕ). badIn file (blockOfByte (i * u))) (ap (λ (x : Store). x .unit) (sym store-is ∙ reported .store-is))
-        ∙ ap (λ (b : Bool). not (eqb (blockOfByte (i * headingIn file .unit)) 0 || b)) (not-false (isKnown file i) (sym (reported .unknown-are i (omega (arith, l, len-is))) ∙ e))
+        ∙ ap₂ (λ (a b : Bool). not (eqb (blockOfByte (i * headingIn file .unit)) 0 || (a && b))) (lt-ltb (payloadMost * (blockOfByte (i * headingIn file .unit) - 1)) (bytesFor (headingIn file)) called)
+        (not-false (isKnown file i) (sym (reported .unknown-are i (omega (arith, l, len-is))) ∙ e))
         ∙ either (eqb (blockOfByte (i * headingIn file .unit)) 0)
       where
         either : (a : Bool) → not (a || true) ≡ false
         either true = refl
         either false = refl
+
+        stored-place : i < headingIn file .len
+        stored-place = omega (arith, l, len-is, ap (λ (x : Store). x .len) (reported .store-is))
+
+        -- block 0 calls for the block of a stored sample
+        called : payloadMost * (blockOfByte (i * headingIn file .unit) - 1) < bytesFor (headingIn file)
+        called =
+            omega (arith, div-add-mod' (i * headingIn file .unit) payloadMost, mul-le-mul-right (headingIn file .unit) stored-place, suc-mul i (headingIn file .unit), unit-some)
+          where
+            unit-some : 1 ≤ headingIn file .unit
+            unit-some = omega (arith, sound (storeOf (recordOf c)) (lentOf (m′ .samples) (levels m′)) (reported .held bytes (recordOf c) c-is .passes) .unit-size .least, ap (λ (x : Store). x .unit) (c-is ∙ reported .store-is))
 
     filling : Filling (recordOf c .unitsize) (length run) (covers (pairsIn stretches)) (at run) (at (runIn st m₀))
     filling = record {

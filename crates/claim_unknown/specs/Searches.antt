@@ -3,18 +3,20 @@
 -- `Ask sure back c m list mask from answer`: the next, or back the previous, certain or possible change of a capture with a list of stretches, with this answer, a place,
 -- none or a refusal. No range is asked of list, mask and place, beyond what a statement names.
 use mathlib.Core.Path.{_≡_}
-use mathlib.Core.Bool.{Bool, true, false, not, _||_}
+use mathlib.Core.Bool.{Bool, true, false, not, _&&_, _||_}
 use mathlib.Core.List.{List, [], _∷_}
 use mathlib.Core.Logic.{_↔_}
 use mathlib.Core.Option.{Option, some}
 use Prim.Native.Nat.{ℕ, _-_, _*_, _≤_, _<_}
-use lib.Dec.{eqb}
+use lib.Dec.{ltb, eqb}
 use lib.ListN.{length, take}
 use Rattle.rules.specs.Sample.{Word, Within}
 use Rattle.rules.specs.SampleBytes.{Bytes}
 use Rattle.rules.specs.Answer.{Answer, refused, given, unless}
 use Rattle.rules.specs.Refusal.{Store, firstOf}
 use Rattle.rules.specs.Search.{changed}
+use Rattle.rules.specs.Block.{payloadMost}
+use Rattle.rules.specs.Shelf.{bytesFor, headingIn}
 use Rattle.rules.specs.ShelfCalls.{capacityWrong}
 use Rattle.rules.specs.Stretches.{covers, pairsIn}
 use Rattle.rules.specs.Salvage.{goodAt, AgreeOutside, Salvaged}
@@ -30,9 +32,9 @@ pub record KnownSame (list run₁ run₂ : List ℕ) : Type 0 where
   pub len : length run₁ ≡ length run₂
   pub samples : (i : ℕ) → i < length run₁ → covers (pairsIn list) i ≡ false → at run₁ i ≡ at run₂ i
 
--- a block of a file, but for block 0, that is not good
+-- every block of a file but block 0 and the good ones among those that block 0 calls for, which begin with byte 500 × (k − 1) of the samples
 abbrev pub badIn : List ℕ → ℕ → Bool
-badIn file k = not (eqb k 0 || goodAt file k)
+badIn file k = not (eqb k 0 || (ltb (payloadMost * (k - 1)) (bytesFor (headingIn file)) && goodAt file k))
 
 module _ {C : Type 0} (recordOf : C → Capture) (Looks : ℕ → C → Memory → C → Memory → Type 0) (Ask : Sureness → Bool → C → Memory → List ℕ → ℕ → ℕ → Answer (Option ℕ) → Type 0) where
   -- ---- a capture that holds a run
