@@ -41,7 +41,6 @@ pub mod SalvageRead
 pub mod Listed
 pub mod Nearest
 pub mod Unknown
-pub mod Bursts
 pub mod BorderShelf
 pub mod BorderSalvage
 pub mod BorderUnknown

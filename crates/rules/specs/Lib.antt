@@ -25,5 +25,4 @@ pub mod ShelfCalls
 pub mod Stretches
 pub mod Salvage
 pub mod Unknown
-pub mod Bursts
 pub mod Mill
