@@ -12,7 +12,7 @@ use Rattle.rules.specs.Walk.{Counted, best, walk, chunks}
 use Rattle.rules.specs.Burst.{sum, Burst, End, jump, lastEnd, firstEnd, burstBy, jumpSteps, stepsBy, burstedBy, burst, burstSearch}
 
 -- one line, which changes at the places of a list
-abbrev turning : List ℕ → ℕ → ℕ
+abbrev pub turning : List ℕ → ℕ → ℕ
 turning [] i = 0
 turning (c ∷ cs) i = bitXor (cond (ltb i c) 0 1) (turning cs i)
 

@@ -41,6 +41,10 @@ pub mod SalvageRead
 pub mod Listed
 pub mod Nearest
 pub mod Unknown
+pub mod Neighbours
+pub mod Jumps
+pub mod Bursts
+pub mod BurstList
 pub mod BorderShelf
 pub mod BorderSalvage
 pub mod BorderUnknown
@@ -51,3 +55,4 @@ pub mod BorderPixel
 pub mod BorderRun
 pub mod BorderPush
 pub mod BorderReading
+pub mod BorderBursts

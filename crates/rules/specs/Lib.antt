@@ -25,4 +25,5 @@ pub mod ShelfCalls
 pub mod Stretches
 pub mod Salvage
 pub mod Unknown
+pub mod Bursts
 pub mod Mill
