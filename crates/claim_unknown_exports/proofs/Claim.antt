@@ -1,17 +1,17 @@
 -- The claims over the exports' contracts.
 use mathlib.Core.Path.{_≡_, refl, sym, ap, ap₂, _∙_, subst}
 use mathlib.Core.Bool.{Bool, true, false, cond}
-use mathlib.Core.List.{List, [], _∷_}
+use mathlib.Core.List.{List, []}
 use mathlib.Core.Option.{Option, none, some}
 use Prim.Native.Nat.{ℕ, zero, suc, _≤_}
+use native.Mathlib.Nat.{suc-ne-zero}
 use native.Mathlib.Omega.{arith}
-use lib.Dec.{eqb}
-use borrow.Author.Tests.{ne-eqb}
 use Rattle.rules.specs.Answer.{Answer, refused, given, unless}
 use Rattle.rules.specs.Refusal.{Store, Lent, storeWrong, lentShort}
 use Rattle.rules.specs.Unknown.{Sureness, certain, possible, unknownRefusal, listWrong}
-use Rattle.codes.specs.Code.{noneCode, perhaps, Out}
+use Rattle.codes.specs.Code.{noneCode, perhaps, perhapsIn, Out}
 use Rattle.codes.specs.Record.{captureIn, number}
+use Rattle.codes.proofs.ReadBack.{refusal-back}
 use Rattle.capture.specs.declared.Capture.{Capture}
 use Rattle.capture.specs.Record.{storeOf, lentOf}
 use Rattle.node.specs.Memory.{readerOf}
@@ -31,7 +31,7 @@ use Rattle.claim_unknown.proofs.Salvaged.{salvaged-searched, made-alike}
 use Rattle.claim_shelf_exports.specs.Claim.{Writes, Reads}
 use Rattle.claim_salvage_exports.specs.Claim.{Salvage}
 use Rattle.claim_salvage_exports.proofs.Claim.{files-salvaged}
-use Rattle.claim_unknown_exports.specs.Claim.{MayLocate, located, Locates, UnknownSearched, SalvagedAcross, Stored, recorded, appended, AllAlike, PlaceKept}
+use Rattle.claim_unknown_exports.specs.Claim.{MayLocate, Locates, UnknownSearched, SalvagedAcross, Stored, recorded, appended, AllAlike, PlaceKept}
 
 -- ---- codes
 -- a refusal's number is none of 0 and 100
@@ -45,11 +45,11 @@ small st lent list = go (storeWrong st) (lentShort st lent) (listWrong (st .len)
     go false false false = omega arith
 
 -- the code and what stands behind the pointer, read, are the answer
-read-back : (n : ℕ) → n ≤ 18 → (a : Option ℕ) {code old new : ℕ} → Out number (perhaps (unless n a)) code old new → located code new ≡ unless n a
-read-back zero h none o = ap₂ located (o .code-is) (o .value-is)
-read-back zero h (some i) o = ap₂ located (o .code-is) (o .value-is)
+read-back : (n : ℕ) → n ≤ 18 → (a : Option ℕ) {code old new : ℕ} → Out number (perhaps (unless n a)) code old new → perhapsIn code new ≡ unless n a
+read-back zero h none o = ap₂ perhapsIn (o .code-is) (o .value-is)
+read-back zero h (some i) o = ap₂ perhapsIn (o .code-is) (o .value-is)
 read-back (suc n) h a {code} {old} {new} o =
-    ap (λ (k : ℕ). located k new) (o .code-is) ∙ ap (λ (b : Bool). cond b (given none) (refused (suc n))) (ne-eqb (suc n) noneCode (λ e. omega (arith, h, e)))
+    ap (λ (k : ℕ). perhapsIn k new) (o .code-is) ∙ refusal-back (suc n) new (omega (arith, h)) (suc-ne-zero n)
 
 kept : (n : ℕ) (a : Option ℕ) {code old new : ℕ} → Out number (perhaps (unless n a)) code old new → (code ≡ 0 → ⊥) → new ≡ old
 kept zero none o h = o .value-is
@@ -91,7 +91,7 @@ reply-for (given (some i)) old = (0, i, record { code-is = refl; value-is = refl
 may : (sure : Sureness) (back : Bool) (numbers : List ℕ) (m : Memory) (list : List ℕ) (mask from : ℕ) → (answer : Answer (Option ℕ)) × Locates sure back numbers m list mask from answer
 may sure back numbers m list mask from =
     let r = reply-for (answerOf sure back (captureIn numbers) (m .samples) (levels m) list mask from) 0 in
-    (located (r .0) (r .1), (0, r .0, r .1, allowed sure back (r .0) (r .1) (r .2), refl))
+    (perhapsIn (r .0) (r .1), (0, r .0, r .1, allowed sure back (r .0) (r .1) (r .2), refl))
   where
     allowed : (w : Sureness) (b : Bool) (code new : ℕ) → Out number (perhaps (answerOf w b (captureIn numbers) (m .samples) (levels m) list mask from)) code 0 new → MayLocate w b numbers m list mask from 0 code new
     allowed certain false code new o = (([], ([], ([], ([], ([], tt))))), anywhere, somewhere, anywhere, nowhere, o)

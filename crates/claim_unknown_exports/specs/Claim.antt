@@ -1,16 +1,15 @@
 -- Searches across unknown stretches over the exports, to be held beside include/logic_core.h: `Searches` (claim_unknown) says what is promised. 02: CR 9.
 -- A capture is its record's five numbers and its memory. No range is asked of list, mask and place, nor of what stands behind the out pointer.
 use mathlib.Core.Path.{_≡_}
-use mathlib.Core.Bool.{Bool, true, false, cond}
+use mathlib.Core.Bool.{Bool, true, false}
 use mathlib.Core.List.{List}
-use mathlib.Core.Option.{Option, none, some}
-use Prim.Native.Nat.{ℕ, zero, suc}
-use lib.Dec.{eqb}
+use mathlib.Core.Option.{Option, none}
+use Prim.Native.Nat.{ℕ}
 use contract.Lifetimes.{Lfts}
 use denote.Ref.{at-last}
-use Rattle.rules.specs.Answer.{Answer, refused, given}
+use Rattle.rules.specs.Answer.{Answer}
 use Rattle.rules.specs.Unknown.{Sureness, certain, possible}
-use Rattle.codes.specs.Code.{noneCode}
+use Rattle.codes.specs.Code.{perhapsIn}
 use Rattle.codes.specs.Record.{captureIn}
 use Rattle.logic_core.proofs.unknown_stretches.lc_next_certain.Reads as lc-next-certain
 use Rattle.logic_core.proofs.unknown_stretches.lc_prev_certain.Reads as lc-prev-certain
@@ -39,14 +38,9 @@ MayLocate possible true numbers m list mask from place code place′ =
     (κs : Lfts 5) × (n : Ref) × (p : Places) × (l : Ref) × (o : One)
     × lc-prev-possible.Post κs (lending (at-last n numbers) p m (at-last l list, (mask, (from, (at-last o place, tt))))) code (lending (at-last n numbers) p m (at-last l list, (mask, (from, (at-last o place′, tt)))))
 
--- what a code says, with the number behind `place`: 0 is a place, 100 none, and another the number of a refusal
-abbrev pub located : ℕ → ℕ → Answer (Option ℕ)
-located zero place = given (some place)
-located (suc n) place = cond (eqb (suc n) noneCode) (given none) (refused (suc n))
-
 abbrev pub Locates : Sureness → Bool → List ℕ → Memory → List ℕ → ℕ → ℕ → Answer (Option ℕ) → Type 0
 Locates sure back numbers m list mask from answer =
-    (place code place′ : ℕ) × MayLocate sure back numbers m list mask from place code place′ × (located code place′ ≡ answer)
+    (place code place′ : ℕ) × MayLocate sure back numbers m list mask from place code place′ × (perhapsIn code place′ ≡ answer)
 
 -- ---- the claims
 abbrev pub UnknownSearched : Type 0

@@ -1,17 +1,22 @@
--- What is written behind pointers reads back, whatever stood there before: a store as five numbers, which start writes, the len that append writes, and an encoder's numbers.
-use mathlib.Core.Path.{_≡_, refl, subst⁻¹}
+-- What is written behind pointers reads back, whatever stood there before: a store as five numbers, which start writes, the len that append writes, an encoder's numbers, and refusals.
+use mathlib.Core.Path.{_≡_, refl, ap, subst⁻¹}
+use mathlib.Core.Bool.{Bool, cond}
 use mathlib.Core.List.{List, [], _∷_}
 use mathlib.Core.Option.{Option, none, some}
-use Prim.Native.Nat.{ℕ}
+use Prim.Native.Nat.{ℕ, zero, suc, _<_}
+use native.Mathlib.Omega.{arith}
+use borrow.Author.Tests.{ne-eqb}
 use lib.IntN.{ℤ}
 use lib.ListN.{length}
 use lib.Seq.{sets}
+use Rattle.rules.specs.Answer.{refused, given}
 use Rattle.rules.specs.Sample.{listFrom}
 use Rattle.rules.specs.Refusal.{Store}
 use Rattle.rules.specs.Encoder.{Turns}
 use Rattle.rules.proofs.SampleBytes.{list-whole}
 use Rattle.capture.specs.Record.{storeOf}
 use Rattle.capture.specs.Numbers.{markedAt, markedIn, markPlaceIn}
+use Rattle.codes.specs.Code.{noneCode, perhapsIn}
 use Rattle.codes.specs.Turned.{positionNumber, stepNumbers, turnsIn}
 use Rattle.codes.specs.Record.{captureIn, markNumbers, storeNumbers, lenNumber}
 
@@ -34,3 +39,8 @@ module _ (old : List ℕ) (size : length old ≡ 5) where
 pub turns-back : (t : Turns) (place : ℤ) (old : List ℕ) → length old ≡ 3 → turnsIn (positionNumber t place) (stepNumbers t old) ≡ t
 unfolding listFrom
 turns-back t place old size = subst⁻¹ (λ (l : List ℕ). turnsIn (positionNumber t place) (stepNumbers t l) ≡ t) (list-whole 3 old size) refl
+
+-- ---- an answer that may be none: a refusal's number is neither 0 nor that of none
+pub refusal-back : {A : Type 0} (n : ℕ) (a : A) → n < noneCode → (n ≡ 0 → ⊥) → perhapsIn n a ≡ refused n
+refusal-back zero a few some-row = absurd (some-row refl)
+refusal-back (suc n) a few some-row = ap (λ (b : Bool). cond b (given none) (refused (suc n))) (ne-eqb (suc n) noneCode (λ e. omega (arith, few, e)))

@@ -1,7 +1,9 @@
 -- What a call of the boundary says: a code, and what it writes behind its out pointers.
 use mathlib.Core.Path.{_≡_}
+use mathlib.Core.Bool.{cond}
 use mathlib.Core.Option.{Option, none, some}
-use Prim.Native.Nat.{ℕ}
+use Prim.Native.Nat.{ℕ, zero, suc}
+use lib.Dec.{eqb}
 use Rattle.rules.specs.Answer.{Answer, refused, given}
 
 pub record Reply (A : Type 0) : Type 0 where
@@ -29,6 +31,11 @@ abbrev pub perhaps : {A : Type 0} → Answer (Option A) → Reply A
 perhaps (refused n) = only n
 perhaps (given none) = only noneCode
 perhaps (given (some a)) = wrote 0 a
+
+-- and how it is read, with what stands behind the pointers
+abbrev pub perhapsIn : {A : Type 0} → ℕ → A → Answer (Option A)
+perhapsIn zero a = given (some a)
+perhapsIn (suc n) a = cond (eqb (suc n) noneCode) (given none) (refused (suc n))
 
 -- whole: what is written is the wrong node, so none of them is yes
 abbrev pub fault : {A : Type 0} → Answer (Option A) → Reply A
