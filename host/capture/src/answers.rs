@@ -80,6 +80,17 @@ pub struct Burst<Place = usize> {
     pub jumps_at_start: usize,
 }
 
+/// A burst as [`Bursts`](crate::Bursts) lists it. It has all its changes: no other is less than the gap away from it.
+#[derive(Clone, Copy, Debug, PartialEq, Eq, Hash)]
+pub struct ListedBurst<Place = usize> {
+    /// The place of the first change.
+    pub first: Place,
+    /// The place of the last change.
+    pub last: Place,
+    /// How many changes it has, the first and the last among them.
+    pub changes: usize,
+}
+
 /// How an encoder has turned from the first sample of a capture to the last.
 ///
 /// Its lines A and B go round (A, B) = 00, 10, 11, 01, 00 forward, and the other way round backward. The three counts add up

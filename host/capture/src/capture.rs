@@ -3,7 +3,8 @@
 use crate::boundary::{self, record, Record};
 use crate::memory::{Memory, Needs};
 use crate::{
-    Burst, Changes, Counted, Encoder, Lines, Node, Pixel, Refusal, View, WrongNode, MOST_PIXELS,
+    Burst, Bursts, Changes, Counted, Encoder, Lines, Node, Pixel, Refusal, View, WrongNode,
+    MOST_PIXELS,
 };
 use std::fmt;
 
@@ -244,6 +245,9 @@ impl Capture {
     /// side, the nearer of them at most `tolerance` away. Then each end jumps, at most `budget` times, to the
     /// furthest change that is less than `max_gap` off. The nodes read are those of all searches that this takes.
     ///
+    /// Two bursts of one mask and gap, from wherever they were found, have the same first and last or share no change, if the
+    /// jumps at both ends of each stayed below its budget. A larger budget, all else equal, never gives a smaller burst.
+    ///
     /// ```
     /// use capture::{Burst, Capture};
     ///
@@ -264,6 +268,26 @@ impl Capture {
     ) -> Counted<Burst> {
         let bounds = [max_gap, tolerance, budget];
         answer(boundary::burst_at(&self.record, &self.memory, mask, sample, bounds))
+    }
+
+    /// All bursts of the mask's lines, in order, each once: changes that follow each other in less than `max_gap`, two or more,
+    /// with no other change less than `max_gap` away.
+    ///
+    /// ```
+    /// use capture::{Capture, ListedBurst};
+    ///
+    /// let mut capture = Capture::start(8, 1000)?;
+    /// // Changes at 2, 4, 5, 9 and 13, and at 20 and 22.
+    /// capture.append(&[0, 0, 1, 1, 0, 1, 1, 1, 1, 0, 0, 0, 0, 1, 1, 1, 1, 1, 1, 1, 0, 0, 1])?;
+    /// let bursts: Vec<ListedBurst> = capture.bursts(0b1, 4).collect();
+    /// let early = ListedBurst { first: 2, last: 5, changes: 3 };
+    /// let late = ListedBurst { first: 20, last: 22, changes: 2 };
+    /// assert_eq!(bursts, [early, late]);
+    /// assert_eq!(capture.bursts(0b1, 2).count(), 1);
+    /// # Ok::<(), capture::Refusal>(())
+    /// ```
+    pub fn bursts(&self, mask: Lines, max_gap: usize) -> Bursts<&Capture> {
+        Bursts::new(self, mask, max_gap, 0)
     }
 
     /// How an encoder with the lines `a` and `b` has turned, over the whole capture: its position from 0, and its steps

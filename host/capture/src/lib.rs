@@ -28,8 +28,8 @@
 //! ```
 //!
 //! Places count samples from 0. A mask has bit k for line k. Searches say beside what they found how many nodes they read
-//! ([`Counted`]). [`Capture::density`] says how many changes a stretch has, and [`Capture::encoder`] how far an encoder has
-//! turned.
+//! ([`Counted`]). [`Capture::bursts`] lists the bursts of a capture, [`Capture::density`] says how many changes a stretch has,
+//! and [`Capture::encoder`] how far an encoder has turned.
 //!
 //! [`Capture::write`] gives a capture's file, and [`Capture::read`] the capture again, mark and all. [`Capture::salvage`] reads
 //! what is good of a damaged one, and says which samples are unknown; [`Capture::next_certain`] and
@@ -45,6 +45,7 @@
 mod answers;
 #[allow(unsafe_code)]
 mod boundary;
+mod bursts;
 mod capture;
 mod changes;
 mod fault;
@@ -59,7 +60,10 @@ mod salvage;
 mod settings;
 mod unknown;
 
-pub use answers::{Burst, Counted, Encoder, Extent, MillNode, Node, Pixel, View, WrongNode};
+pub use answers::{
+    Burst, Counted, Encoder, Extent, ListedBurst, MillNode, Node, Pixel, View, WrongNode,
+};
+pub use bursts::Bursts;
 pub use capture::Capture;
 pub use changes::Changes;
 pub use fault::{Fault, Wrong};

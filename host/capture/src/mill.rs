@@ -3,7 +3,8 @@
 use crate::boundary::{self, record, Record};
 use crate::memory::Memory;
 use crate::{
-    Burst, Capture, Counted, Encoder, Extent, Lines, MillNode, Pixel, Refusal, View, MOST_PIXELS,
+    Burst, Bursts, Capture, Counted, Encoder, Extent, Lines, MillNode, Pixel, Refusal, View,
+    MOST_PIXELS,
 };
 use std::fmt;
 
@@ -260,8 +261,8 @@ impl Mill<'_> {
         boundary::mill_prev_change(&self.record, self.memory, self.grant, mask, from)
     }
 
-    /// The burst of changes of the mask's lines at a place, or none, as [`Capture::burst_at`] finds and counts it. It
-    /// refuses as [`next_change`](Mill::next_change) does.
+    /// The burst of changes of the mask's lines at a place, or none, as [`Capture::burst_at`] finds and counts it, and what is
+    /// said there of two bursts holds here. It refuses as [`next_change`](Mill::next_change) does.
     ///
     /// ```
     /// use capture::{Burst, Capture};
@@ -283,6 +284,26 @@ impl Mill<'_> {
     ) -> Result<Counted<Burst<i64>>, Refusal> {
         let bounds = [max_gap, tolerance, budget];
         boundary::mill_burst_at(&self.record, self.memory, self.grant, mask, sample, bounds)
+    }
+
+    /// All bursts of the mask's lines, in order, each once, as [`Capture::bursts`] lists them. Refuses with [`Refusal::Grant`]
+    /// a mask that has a line beyond the grant.
+    ///
+    /// ```
+    /// use capture::{Capture, ListedBurst, Refusal};
+    ///
+    /// let mut capture = Capture::start(8, 1000)?;
+    /// capture.append(&[0, 0, 1, 1, 0, 2, 2, 3])?;
+    /// let mill = capture.mill_with_mark(0b01, 5).unwrap();
+    /// assert!(mill.bursts(0b01, 3)?.eq([ListedBurst { first: -3, last: -1, changes: 2 }]));
+    /// assert_eq!(mill.bursts(0b11, 3).err(), Some(Refusal::Grant));
+    /// # Ok::<(), Refusal>(())
+    /// ```
+    pub fn bursts(&self, mask: Lines, max_gap: usize) -> Result<Bursts<Self>, Refusal> {
+        let first = self.extent().first;
+        // Whether the mask is refused.
+        self.next_change(mask, first)?;
+        Ok(Bursts::new(*self, mask, max_gap, first))
     }
 
     /// How an encoder with the lines `a` and `b` has turned, from the first sample on, as [`Capture::encoder`] says. Refuses

@@ -4,8 +4,8 @@
 mod plain;
 
 use capture::{
-    Burst, Capture, Condition, Counted, Encoder, Extent, Lines, Mill, MillNode, Pixel, Recorder,
-    Refusal, Settings, View, Wish, MOST_PIXELS,
+    Burst, Capture, Condition, Counted, Encoder, Extent, Lines, ListedBurst, Mill, MillNode, Pixel,
+    Recorder, Refusal, Settings, View, Wish, MOST_PIXELS,
 };
 use plain::walk::Walk;
 use plain::Rng;
@@ -111,6 +111,18 @@ fn ask(rng: &mut Rng, s: &[Lines], mill: Mill, mark: Option<usize>, times: usize
         });
         let asked = mill.burst_at(mask, a, gap, tolerance, budget);
         assert_eq!(asked, burst, "burst {mask} {a} {gap} {tolerance} {budget}");
+        match mill.bursts(mask, gap) {
+            Ok(asked) => {
+                let listed = |burst: ListedBurst| ListedBurst {
+                    first: seen(burst.first),
+                    last: seen(burst.last),
+                    changes: burst.changes,
+                };
+                let bursts = plain::bursts(s, mask, gap).into_iter().map(listed);
+                assert!(mask & !grant == 0 && asked.eq(bursts), "bursts {mask} {gap}");
+            }
+            Err(refusal) => assert!(mask & !grant != 0 && refusal == Refusal::Grant),
+        }
 
         let (line_a, line_b) = encoder_lines(rng);
         let turned = if line_a == line_b || line_a > 15 || line_b > 15 {
@@ -182,7 +194,8 @@ fn told(mill: Mill, seed: u64) -> String {
         write!(told, "{:?} {:?}", mill.next_change(mask, a), mill.prev_change(mask, a)).unwrap();
         let (line_a, line_b) = encoder_lines(&mut rng);
         let (burst, turned) = (mill.burst_at(mask, a, count, 9, 3), mill.encoder(line_a, line_b));
-        write!(told, "{burst:?} {turned:?}").unwrap();
+        let bursts = mill.bursts(mask, count).map(|bursts| bursts.take(len).collect::<Vec<_>>());
+        write!(told, "{burst:?} {bursts:?} {turned:?}").unwrap();
     }
     told
 }
@@ -225,6 +238,7 @@ fn refusals_and_their_order() {
     assert_eq!(mill.prev_change(0b11, i64::MIN), Err(Refusal::Grant));
     assert_eq!(mill.burst_at(0x8000, -3, 0, 0, 0), Err(Refusal::Grant));
     assert_eq!(mill.burst_at(0b01, -3, 0, 0, 0), Err(Refusal::Before));
+    assert_eq!(mill.bursts(0b10, 0).err(), Some(Refusal::Grant));
     // A line that the unit lacks is beyond the grant all the same, and may be granted.
     let none = Counted { found: None, read: 3 };
     assert_eq!(capture.mill(0x8001).next_change(0x8000, 0), Ok(none));

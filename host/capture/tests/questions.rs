@@ -63,6 +63,8 @@ fn ask(rng: &mut Rng, samples: &[Lines], unit: usize, times: usize) {
             walk.burst_at(mask, a, gap, tolerance, budget),
             "burst {mask} {a} {gap} {tolerance} {budget}"
         );
+        let bursts = plain::bursts(samples, mask, gap);
+        assert!(capture.bursts(mask, gap).eq(bursts), "bursts {mask} {gap}");
         let (line_a, line_b) = (line(rng), line(rng));
         let turned = match line_a == line_b || line_a > 15 || line_b > 15 {
             true => Err(Refusal::EncoderLines),

@@ -6,7 +6,7 @@ pub mod file;
 pub mod unknown;
 pub mod walk;
 
-use capture::{Burst, Condition, Encoder, Lines, Node, Pixel, Term, View};
+use capture::{Burst, Condition, Encoder, Lines, ListedBurst, Node, Pixel, Term, View};
 
 /// Whether a line of the mask differs at a place from the sample before.
 fn changed(s: &[Lines], mask: Lines, i: usize) -> bool {
@@ -104,6 +104,22 @@ pub fn burst_by(
         jumps_at_start += 1;
     }
     Some(Burst { first, last, jumps_at_end, jumps_at_start })
+}
+
+/// All changes in groups, a new one where the gap is reached. A change alone is no burst.
+pub fn bursts(s: &[Lines], mask: Lines, gap: usize) -> Vec<ListedBurst> {
+    let mut groups: Vec<ListedBurst> = Vec::new();
+    for place in (1..s.len()).filter(|&i| changed(s, mask, i)) {
+        match groups.last_mut() {
+            Some(group) if place - group.last < gap => {
+                group.last = place;
+                group.changes += 1;
+            }
+            _ => groups.push(ListedBurst { first: place, last: place, changes: 1 }),
+        }
+    }
+    groups.retain(|group| group.changes > 1);
+    groups
 }
 
 pub fn render(s: &[Lines], view: View, width: usize) -> Vec<Pixel> {
