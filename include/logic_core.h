@@ -144,6 +144,9 @@ uint32_t lc_prev_change(const size_t record[5], LC_CONST_MEMORY, uint16_t mask, 
  * at the start. A change counts as near up to tolerance; each end jumps at most budget times. LC_NONE where there is no
  * burst (ends is not written). Refuses with 1 and 2.
  *
+ * Two bursts of one capture, mask and max_gap, each with the jumps at both its ends below its own budget, have the same first
+ * and last or share no change. A larger budget, all else equal, never gives a smaller burst.
+ *
  * read becomes, with 0 and with LC_NONE, the sum of the nodes read by the searches that it makes, each as in
  * lc_next_change. */
 uint32_t lc_burst_at(const size_t record[5], LC_CONST_MEMORY, uint16_t mask, size_t sample, size_t max_gap,
@@ -281,9 +284,9 @@ uint32_t lc_mill_next_change(const size_t record[5], LC_CONST_MEMORY, uint16_t g
 uint32_t lc_mill_prev_change(const size_t record[5], LC_CONST_MEMORY, uint16_t grant, uint16_t mask, int64_t from,
                              int64_t *place, size_t *read);
 
-/* As lc_burst_at: first and last become the places of the burst's first and last change, and jumps the jumps made at the end
- * and those made at the start. LC_NONE where there is no burst (of these nothing is written). Refuses with 1, 2, 12 and
- * 13. */
+/* As lc_burst_at, with all that it says of two bursts: first and last become the places of the burst's first and last change,
+ * and jumps the jumps made at the end and those made at the start. LC_NONE where there is no burst (of these nothing is
+ * written). Refuses with 1, 2, 12 and 13. */
 uint32_t lc_mill_burst_at(const size_t record[5], LC_CONST_MEMORY, uint16_t grant, uint16_t mask, int64_t sample,
                           size_t max_gap, size_t tolerance, size_t budget, int64_t *first, int64_t *last, size_t jumps[2],
                           size_t *read);

@@ -161,6 +161,22 @@ int main(void) {
            ends[LC_BURST_JUMPS_END], ends[LC_BURST_JUMPS_START]);
     must(ends[LC_BURST_FIRST] == first && ends[LC_BURST_LAST] == last, "the burst's ends");
 
+    /* With the rest as gap there is a burst each way. No jump reaches this budget, so bursts share no change, and the next
+     * one is searched for behind the last. */
+    size_t bursts = 0, samples = 0;
+    printf("a burst each way");
+    place = 0;
+    while (lc_next_change(record, LC_LEND(m), ENCODER, place, &place, &read) == 0) {
+        if (lc_burst_at(record, LC_LEND(m), ENCODER, place, REST, 0, SIZE_MAX, ends, &read) == 0) {
+            printf(", %zu to %zu", ends[LC_BURST_FIRST], ends[LC_BURST_LAST]);
+            samples += ends[LC_BURST_LAST] - ends[LC_BURST_FIRST];
+            place = ends[LC_BURST_LAST];
+            bursts++;
+        }
+    }
+    printf("\n");
+    must(bursts == 2 && samples == 2 * (TURNS * TURN - 1) * STEP && place == last, "a burst each way");
+
     uint16_t node[3];
     uint32_t count;
     must(lc_summary(record, LC_LEND(m), 0, mark, node, &count) == 0, "summary");
