@@ -4,7 +4,8 @@ use crate::args::Args;
 use crate::failure::Failure;
 use crate::lines;
 use capture::{
-    Burst, Capture, Counted, Encoder, Lines, Mill, MillNode, Node, Pixel, Refusal, View,
+    Burst, Capture, Counted, Encoder, Lines, ListedBurst, Mill, MillNode, Node, Pixel, Refusal,
+    View,
 };
 
 /// A place as its reader counts. It holds those of both readers, and sums of them.
@@ -149,6 +150,22 @@ impl<'a> Reader<'a> {
         })
     }
 
+    /// All bursts, in order, each once.
+    pub fn bursts(
+        &self,
+        mask: Lines,
+        max_gap: usize,
+    ) -> Result<Box<dyn Iterator<Item = ListedBurst<Place>> + '_>, Refusal> {
+        Ok(match self {
+            Reader::Service(capture) => Box::new(
+                capture.bursts(mask, max_gap).map(|burst| listed(burst, |place| place as Place)),
+            ),
+            Reader::Mill(mill) => {
+                Box::new(mill.bursts(mask, max_gap)?.map(|burst| listed(burst, Place::from)))
+            }
+        })
+    }
+
     pub fn encoder(&self, a: u8, b: u8) -> Result<Encoder, Refusal> {
         match self {
             Reader::Service(capture) => capture.encoder(a.into(), b.into()),
@@ -177,4 +194,9 @@ fn from_mark(place: Place) -> i64 {
 fn placed<P>(burst: Burst<P>, place: impl Fn(P) -> Place) -> Burst<Place> {
     let Burst { first, last, jumps_at_end, jumps_at_start } = burst;
     Burst { first: place(first), last: place(last), jumps_at_end, jumps_at_start }
+}
+
+fn listed<P>(burst: ListedBurst<P>, place: impl Fn(P) -> Place) -> ListedBurst<Place> {
+    let ListedBurst { first, last, changes } = burst;
+    ListedBurst { first: place(first), last: place(last), changes }
 }

@@ -167,6 +167,21 @@ fn what_is_wrong_is_said() {
         ("burst a.shelf", " burst: --at PLACE is missing; see --help"),
         ("burst a.shelf --at 1", " burst: --gap SAMPLES is missing; see --help"),
         ("burst a.shelf --at 1 --gap -1", " burst: --gap -1: not a whole number"),
+        ("bursts --gap 9", " bursts: which file? - is standard input"),
+        ("bursts a.shelf", " bursts: --gap SAMPLES is missing; see --help"),
+        ("bursts a.shelf --total --lines 0", " bursts: --gap SAMPLES is missing; see --help"),
+        ("bursts a.shelf --gap", " bursts: --gap needs a value behind it"),
+        ("bursts a.shelf --gap few", " bursts: --gap few: not a whole number"),
+        (
+            "bursts a.shelf --gap 18446744073709551616",
+            " bursts: --gap 18446744073709551616: above 18446744073709551615",
+        ),
+        ("bursts a.shelf --gap 9 --gap 9", " bursts: --gap is given twice"),
+        ("bursts a.shelf --gap 9 --lines 8", " bursts: --lines 8: '8' is no line: lines are 0 to 7"),
+        ("bursts a.shelf --gap 9 --lines=", " bursts: --lines : '' is no line: lines are 0 to 7"),
+        ("bursts a.shelf --gap 9 --total=1", " bursts: --total takes no value"),
+        ("bursts a.shelf --gap 9 --at 1", " bursts: there is no option '--at'; see --help"),
+        ("bursts a.shelf --gap 9 --read", " bursts: there is no option '--read'; see --help"),
         ("samples a.shelf --hex --bits", " samples: --hex and --bits exclude each other"),
         ("samples a.shelf --hex=2", " samples: --hex takes no value"),
         (
@@ -271,6 +286,7 @@ fn garbage_is_answered_or_refused() {
         "prev",
         "changes",
         "burst",
+        "bursts",
         "summary",
         "samples",
         "render",
@@ -363,7 +379,7 @@ fn garbage_is_answered_or_refused() {
     ];
     let mut rng = Rng(9);
     for _ in 0..600 {
-        let mut line = vec![words[rng.below(14)]];
+        let mut line = vec![words[rng.below(15)]];
         line.extend((0..rng.below(7)).map(|_| rng.pick(&words)));
         let run = folder.run_words(&line, &[0, 1, 0, 1]);
         assert!((0..=2).contains(&run.status), "{line:?} {}", run.err);

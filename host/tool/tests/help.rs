@@ -18,7 +18,7 @@ fn each_command_has_help() {
     let names: Vec<&str> = names.map(|line| line.split_whitespace().next().unwrap()).collect();
     let expected = [
         "demo", "record", "info", "shelf", "salvage", "next", "prev", "changes", "density",
-        "burst", "encoder", "summary", "samples", "render", "check",
+        "burst", "bursts", "encoder", "summary", "samples", "render", "check",
     ];
     assert_eq!(names, expected);
     for name in names {

@@ -4,7 +4,7 @@ mod common;
 #[path = "../../capture/tests/plain/mod.rs"]
 mod plain;
 
-use capture::{Burst, View};
+use capture::{Burst, ListedBurst, View};
 use common::{turned, Folder, Run};
 use plain::file::file;
 use plain::walk::Walk;
@@ -72,6 +72,12 @@ fn answers_are_those_of_plain_scans_moved_and_cut() {
         let how = format!("--at {from} --gap {gap} --tolerance {tolerance} --budget {budget}");
         folder.search(&format!("burst {how} {asked}"), burst);
 
+        let bursts = plain::bursts(s, seen, gap);
+        let bursts = bursts.into_iter().map(|ListedBurst { first, last, changes }| {
+            [moved(first), moved(last), changes as i64]
+        });
+        ask(&folder, &format!("bursts --gap {gap} {asked}"), &text(bursts));
+
         let (line_a, line_b) = if seen == 0x202 { (9, 1) } else { (4, 0) };
         let still = walk.next_change(1 << line_a | 1 << line_b, 0).found.is_none();
         let run = folder.run(&format!("encoder --a {line_a} --b {line_b} {asked}"));
@@ -129,6 +135,12 @@ fn files_alike_in_granted_lines_give_the_same() {
         "burst --at mark-2 --gap 9 --lines 2,0",
         "burst --at 0 --gap 3 --read",
         "burst --at 0 --gap 1 --read",
+        "bursts --gap 3",
+        "bursts --gap 2",
+        "bursts --gap 9 --lines 2",
+        "bursts --gap 9 --lines 1",
+        "bursts --gap 3 --total",
+        "bursts",
         "summary",
         "summary --hex --from 0",
         "summary --from -3 --to -4",
@@ -175,6 +187,14 @@ fn a_mill_and_what_it_is_shown() {
     // Numbers are as wide as those of sixteen lines: a mill is not told the unit.
     assert_eq!(folder.run("samples --grant 2 --from 0 --to 1 --hex one.shelf").yes(), "0 0x0004\n");
     folder.run("next --unit 1 --grant 9 raw").none();
+    // Lines 0 and 2 change at -2, 0, 1, 2 and 4; line 2 alone at 0 and 2.
+    assert_eq!(folder.run("bursts --grant 0,2 --gap 2 one.shelf").yes(), "0 2 3\n");
+    assert_eq!(folder.run("bursts --grant 0,2 --gap 3 one.shelf").yes(), "-2 4 5\n");
+    assert_eq!(folder.run("bursts --grant 0,2 --lines 2 --gap 3 one.shelf").yes(), "0 2 2\n");
+    assert_eq!(folder.run("bursts --grant 0,2 --gap 2 --total one.shelf").yes(), "1 3\n");
+    folder.run("bursts --grant 2 --gap 2 one.shelf").none();
+    // Without a mark they count from the first sample.
+    assert_eq!(folder.run_on("bursts --unit 1 --grant 0 --gap 2 -", b"0010").yes(), "2 3 2\n");
 
     let drawn = folder.run("render --grant 2,0 --ascii --width 8 one.shelf").yes();
     let rows = ["place -3", "mark     v 0", " 0    /--\\__/-", " 2    __/-\\___"];
@@ -211,6 +231,8 @@ fn what_a_mill_may_not_ask_is_refused() {
             assert_eq!(said.bad(), format!("logic-capture {name}: {place} {place_text}: {before}"));
         }
     }
+    let said = folder.run("bursts --gap 9 --grant 0,2 --lines 1,2 one.shelf").bad();
+    assert_eq!(said, format!("logic-capture bursts: --lines 1,2: {BEYOND}"));
     for lines in ["--a 0 --b 1", "--a 1 --b 2", "--a 15 --b 0"] {
         let said = folder.run(&format!("encoder --grant 0,2 {lines} one.shelf")).bad();
         assert_eq!(said, format!("logic-capture encoder: {lines}: {BEYOND}"));

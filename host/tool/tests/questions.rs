@@ -4,7 +4,7 @@ mod common;
 #[path = "../../capture/tests/plain/mod.rs"]
 mod plain;
 
-use capture::{Burst, Lines, View};
+use capture::{Burst, Lines, ListedBurst, View};
 use common::{turned, Folder, Run};
 use plain::file::file;
 use plain::walk::Walk;
@@ -109,6 +109,15 @@ fn answers_are_those_of_plain_scans() {
         let asked = format!("--at {a} --gap {gap} --tolerance {tolerance} --budget {budget}");
         folder.search(&format!("burst {lines} {asked} {file}"), burst);
 
+        let bursts = plain::bursts(s, mask, gap);
+        let (count, sum) = (bursts.len(), bursts.iter().map(|burst| burst.changes).sum());
+        let bursts =
+            bursts.into_iter().map(|ListedBurst { first, last, changes }| [first, last, changes]);
+        ask(&folder, &format!("bursts {lines} --gap {gap} {file}"), &text(bursts));
+        let total = folder.run(&format!("bursts {lines} --gap {gap} --total {file}"));
+        let status = i32::from(count == 0);
+        assert_eq!(total, Run { status, out: text([[count, sum]]), err: String::new() });
+
         let (line_a, line_b) = (rng.below(4), 4 + rng.below(8 * unit - 4));
         let still = walk.next_change(1 << line_a | 1 << line_b, 0).found.is_none();
         let run = folder.run(&format!("encoder --a {line_a} --b {line_b} {file}"));
@@ -174,6 +183,7 @@ fn a_shelf_file_and_its_numbers() {
     folder.run("next --unit 1 empty").none();
     folder.run("samples --unit 1 empty").none();
     folder.run("burst --unit 1 --at 0 --gap 9 empty").none();
+    folder.run("bursts --unit 1 --gap 9 empty").none();
 }
 
 #[test]
@@ -318,6 +328,35 @@ fn a_long_capture_has_a_hundred_parts_in_its_picture() {
     let picture = folder.run("density --svg - --unit 1 a.bin").yes();
     assert_eq!(picture.matches("<title>").count(), 100);
     assert_eq!(folder.run("density --unit 1 a.bin").yes(), "14285\n");
+}
+
+#[test]
+fn all_bursts_of_a_capture() {
+    let folder = Folder::new("questions-bursts");
+    // The digits differ in line 0 alone. It changes at 2, 4, 5, 9, 18, 20, 27 and 30.
+    //           0    5    10   15   20   25   30
+    let line = b"0011011110000000001100000001110";
+    folder.write("a.bin", line);
+    let ask = |line: &str| folder.run(&format!("bursts --unit 1 {line} a.bin"));
+    let none = |out: &str| Run { status: 1, out: out.into(), err: String::new() };
+    for gap in ["0", "1"] {
+        ask(&format!("--gap {gap}")).none();
+        assert_eq!(ask(&format!("--gap {gap} --total")), none("0 0\n"));
+    }
+    assert_eq!(ask("--gap 2").yes(), "4 5 2\n");
+    assert_eq!(ask("--gap 3").yes(), "2 5 3\n18 20 2\n");
+    // The change at 9 is four behind that at 5.
+    assert_eq!(ask("--gap 4").yes(), "2 5 3\n18 20 2\n27 30 2\n");
+    assert_eq!(ask("--gap 5").yes(), "2 9 4\n18 20 2\n27 30 2\n");
+    assert_eq!(ask("--gap 5 --total").yes(), "3 8\n");
+    assert_eq!(ask("--gap 8 --lines 0").yes(), "2 9 4\n18 30 4\n");
+    assert_eq!(ask("--gap 9 --total --lines 0-3").yes(), "2 8\n");
+    for gap in ["10", "18446744073709551615"] {
+        assert_eq!(ask(&format!("--gap {gap}")).yes(), "2 30 8\n");
+    }
+    ask("--gap 9 --lines 1,4-7").none();
+    assert_eq!(ask("--gap 9 --lines 1,4-7 --total"), none("0 0\n"));
+    assert_eq!(folder.run_on("bursts --unit 1 --gap 2 -", line).yes(), "4 5 2\n");
 }
 
 #[test]

@@ -1,6 +1,7 @@
 //! The commands.
 
 mod burst;
+mod bursts;
 mod changes;
 mod check;
 mod demo;
@@ -35,7 +36,7 @@ pub struct Command {
     pub run: fn(&Args, &mut dyn Write) -> Result<Outcome, Failure>,
 }
 
-pub const COMMANDS: [Command; 15] = [
+pub const COMMANDS: [Command; 16] = [
     demo::COMMAND,
     record::COMMAND,
     info::COMMAND,
@@ -46,6 +47,7 @@ pub const COMMANDS: [Command; 15] = [
     changes::COMMAND,
     density::COMMAND,
     burst::COMMAND,
+    bursts::COMMAND,
     encoder::COMMAND,
     summary::COMMAND,
     samples::COMMAND,
