@@ -74,6 +74,16 @@ impl Asker {
         self.differences.push(format!("{lines}\n{what}"));
     }
 
+    /// Asks the port alone, where other answers of its own are what decides. What else is wrong with the call is noted.
+    pub fn ask_port(&mut self, op: &Op) -> Option<Answer> {
+        let port = self.port.as_mut()?;
+        let answer = port.take(op);
+        for fault in port.faults() {
+            self.differs(&format!("{}\n  port {answer:?}\n  {fault}", joined(&op.numbers())));
+        }
+        answer
+    }
+
     /// The whole line: code, arguments, who decides, answer.
     pub fn ask(&mut self, op: &Op) -> String {
         let mut numbers = op.numbers();
@@ -140,7 +150,7 @@ impl Asker {
     }
 }
 
-fn joined(numbers: &[u64]) -> String {
+pub fn joined(numbers: &[u64]) -> String {
     let texts: Vec<String> = numbers.iter().map(u64::to_string).collect();
     texts.join(" ")
 }

@@ -1,5 +1,6 @@
 //! The port beside the Rust and the document: the recorded answers, what is asked once, then random captures for a given time.
 
+use crate::bursts::Bursts;
 use crate::document::rules;
 use crate::encoders::Encoders;
 use crate::feed::Feed;
@@ -102,11 +103,13 @@ fn random(seconds: u64, seed: u64) -> bool {
     let mut files = Files::default();
     let mut salvages = Salvages::default();
     let mut unknowns = Unknowns::default();
+    let mut bursts = Bursts::default();
     let mut longs = 0;
     encoders.sweep(&mut list, &mut rng);
     files.sweep(&mut list, &mut rng);
     salvages.sweep(&mut list, &mut rng);
     unknowns.sweep(&mut list, &mut rng);
+    bursts.sweep(&mut list, &mut rng);
     let begun = Instant::now();
     while begun.elapsed() < Duration::from_secs(seconds) && list.asker().differences.len() < MANY {
         let group = &GROUPS[rng.below(GROUPS.len() as u64) as usize];
@@ -120,6 +123,9 @@ fn random(seconds: u64, seed: u64) -> bool {
             _ => (group.random)(&mut list, &mut rng, Size::Short),
         }
         mills.ask(&mut list, &mut rng);
+        if rng.once_in(2) {
+            bursts.ask(&mut list, &mut rng);
+        }
         if rng.once_in(2) {
             unknowns.ask(&mut list, &mut rng);
         }
@@ -199,6 +205,10 @@ fn random(seconds: u64, seed: u64) -> bool {
         ordinary + unknowns.other.ordinary + noise.port.ordinary,
         unknowns.twice,
         unknowns.changes,
+    );
+    println!(
+        "{} bursts asked for beside a plain scan, {} of them beside one of a smaller budget; {} pairs with jumps below their budgets",
+        bursts.asked, bursts.larger, bursts.pairs,
     );
     asker.differences.is_empty()
 }

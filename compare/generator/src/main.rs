@@ -3,6 +3,7 @@
 
 mod asker;
 mod beside;
+mod bursts;
 mod check;
 mod digest;
 mod document;
@@ -14,6 +15,7 @@ mod files;
 mod groups;
 mod line;
 mod list;
+mod meeting;
 mod mill;
 mod model;
 mod node;

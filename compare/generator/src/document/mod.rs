@@ -1,5 +1,6 @@
 //! Document 01 as a side: it has an answer to every line that wants one.
 
+pub mod bursts;
 pub mod file;
 pub mod fillings;
 mod mill;
