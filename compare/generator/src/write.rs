@@ -111,9 +111,10 @@ mod tests {
         }
     }
 
-    /// With the numbers that document 01 prints, in its order; then CR 6's order, forward and backward; then the files that
-    /// are worked by hand in document/file.rs, and salvaged: the list 0, 3 has the digest 1 x 257 + 3 + 1; then searches across
-    /// unknown stretches that are worked by hand in document/fillings.rs, and borders of row 18.
+    /// With the numbers that document 01 prints, in its order, and CR 13's bursts that share changes; then CR 6's order, forward
+    /// and backward; then the files that are worked by hand in document/file.rs, and salvaged: the list 0, 3 has the digest
+    /// 1 x 257 + 3 + 1; then searches across unknown stretches that are worked by hand in document/fillings.rs, and borders of
+    /// row 18.
     #[test]
     fn holds_the_shelf_examples() {
         let lists = texts();
@@ -127,6 +128,8 @@ mod tests {
             (1, vec!["23 0 8 1 0 4", "23 4 4 1 0 0"]),
             (2, vec![a, "30 1 3 4 0 1 0 0 1 2 7 1 0", "30 1 3 3 0 1 0 0 1 2 4 0 0"]),
             (2, vec![b, "30 1 5 4 3 9 0 0 1 1 2 0 0"]),
+            (2, vec!["11 5 0 1 0 1 0 0 0 5", "30 1 2 2 0 2 0 0 1 1 4 1 1"]),
+            (2, vec!["30 1 1 2 0 1 0 0 1 1 3 1 0", "30 1 3 2 0 1 0 0 1 2 4 0 1"]),
             (3, vec![a, &format!("40 0 {four} 2 4 0 0 4 0 1 0 3")]),
             (3, vec![&format!("40 {one_and_a_half} {half} 1 2 0 0 2 0 1")]),
             (4, vec![&format!("{start} 0 0 0 1 2 0"), "52 2 0 0 0 0 0", "52 3 0 1 1 0 0 1"]),

@@ -13,6 +13,7 @@ pub fn write(list: &mut List, rng: &mut Rng) {
     shelf(list);
     sums_beyond(list);
     edges(list);
+    meeting(list);
     refusals(list);
     short(list, rng);
     every_place(list);
@@ -74,6 +75,15 @@ fn edges(list: &mut List) {
         for sample in 2..9 {
             list.say(burst(1, sample, 4, tolerance, 2));
         }
+    }
+}
+
+/// One whose jumps stay below the budget at both ends, and two that have as many as that at the end or at the start: these
+/// share changes with it and are other bursts.
+fn meeting(list: &mut List) {
+    list.holding(8, 10, &[0, 1, 0, 1, 0]);
+    for (sample, budget) in [(2, 2), (1, 1), (3, 1)] {
+        list.say(burst(1, sample, 2, 0, budget));
     }
 }
 
