@@ -10,8 +10,8 @@ mod work;
 
 use table::Table;
 use work::{
-    stretches, Across, Appends, Bursts, Encoder, Filing, Pushes, Ranges, Row, Salvaging, Samples,
-    Sort, Wait, Walk,
+    stretches, Across, AllBursts, Appends, Bursts, Encoder, Filing, Pushes, Ranges, Row, Salvaging,
+    Samples, Sort, Wait, Walk,
 };
 
 const CHUNK: u64 = 1_048_576;
@@ -187,8 +187,10 @@ fn questions(table: &mut Table) {
         }
     }
     bursts(table, "burst, dense", 16, 1_000);
+    all_bursts(table, "a change every 4", 5);
     table.hold(&Samples::with_changes(table.unit, LEN, 1_000));
     bursts(table, "burst, sparse", 2_000, 100);
+    all_bursts(table, "a change every 1000", 1_000);
 }
 
 /// An encoder on two lines beside each other, in the higher byte where there are two: of one chunk,
@@ -271,4 +273,10 @@ fn bursts(table: &Table, name: &str, max_gap: u64, budget: u64) {
     let places = Ranges::random(LEN, 1, 20);
     let work = Bursts { places, max_gap, budget };
     table.line(name, "call", |side| side.burst_at(&work));
+}
+
+fn all_bursts(table: &Table, name: &str, max_gap: u64) {
+    let work = AllBursts { max_gap };
+    let name = format!("all bursts, {name}, gap {max_gap}");
+    table.line(&name, "burst", |side| side.all_bursts(&work));
 }

@@ -4,8 +4,8 @@
 use crate::plain_file;
 use crate::side::{filed, timed, turned, Side, Timed};
 use crate::work::{
-    Across, Appends, Bursts, Encoder, Filing, Pushes, Ranges, Row, Salvaging, Samples, Sort, Wait,
-    Walk, GRANT,
+    Across, AllBursts, Appends, Bursts, Encoder, Filing, Pushes, Ranges, Row, Salvaging, Samples,
+    Sort, Wait, Walk, GRANT,
 };
 use port::{file, mill, out, record, unknown, Asked, Feeder, Lent, LentMut, Record, Settings};
 use std::cell::RefCell;
@@ -270,6 +270,27 @@ impl Side for Rattle {
                 }
             };
             (work.places.count(), work.places.starts.iter().map(ask).sum())
+        })
+    }
+
+    fn all_bursts(&self, work: &AllBursts) -> Option<Timed> {
+        let (record, lent) = (&self.held.record, self.held.lent());
+        port::LINKED.then_some(())?;
+        timed(NONE, || {
+            let (mut at, mut count, mut sum) = (0, 0, 0);
+            let mut ends = [0; 4];
+            while port::next_change(record, lent, 0xFFFF, at, &mut at, &mut 0) == 0 {
+                let (sample, max_gap) = (at, work.max_gap as usize);
+                let asked =
+                    Asked { mask: 0xFFFF, sample, max_gap, tolerance: 0, budget: usize::MAX };
+                if port::burst_at(record, lent, asked, &mut ends, &mut 0) == 0 {
+                    count += 1;
+                    sum += ends[out::BURST_FIRST] as u64;
+                    at = ends[out::BURST_LAST];
+                }
+                sum += at as u64;
+            }
+            (count, sum)
         })
     }
 

@@ -2,7 +2,7 @@
 
 use crate::side::{filed, timed, turned, Side, Timed};
 use crate::work::{
-    Appends, Bursts, Encoder, Filing, Pushes, Ranges, Row, Samples, Wait, Walk, GRANT,
+    AllBursts, Appends, Bursts, Encoder, Filing, Pushes, Ranges, Row, Samples, Wait, Walk, GRANT,
 };
 use crate::{plain, plain_file};
 use edgewise::capture::{Capture, Node, Snapshot};
@@ -117,6 +117,20 @@ impl Side for Rust {
                 found.map_or(0, |(first, last)| first + last)
             };
             (work.places.count(), work.places.starts.iter().map(ask).sum())
+        })
+    }
+
+    fn all_bursts(&self, work: &AllBursts) -> Option<Timed> {
+        timed(NONE, || {
+            let (mut at, mut count, mut sum) = (0, 0, 0);
+            while let Some(place) = self.snapshot.next_change(0xFFFF, at) {
+                let found = self.snapshot.burst_at(0xFFFF, place, work.max_gap, 0, usize::MAX);
+                let [first, last] = found.map_or([0, place], |(first, last)| [first, last]);
+                count += found.is_some() as u64;
+                sum += first + last;
+                at = last;
+            }
+            (count, sum)
         })
     }
 

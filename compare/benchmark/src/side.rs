@@ -2,13 +2,14 @@
 //! a side that lacks an operation leaves its function as it stands here.
 
 use crate::work::{
-    Across, Appends, Bursts, Encoder, Filing, Pushes, Ranges, Row, Salvaging, Samples, Walk,
+    Across, AllBursts, Appends, Bursts, Encoder, Filing, Pushes, Ranges, Row, Salvaging, Samples,
+    Walk,
 };
 use std::time::{Duration, Instant};
 
 pub struct Timed {
     pub time: Duration,
-    /// Samples stored, copied, replayed or filed, changes found, calls made, pixels drawn.
+    /// Samples stored, copied, replayed or filed, changes found, bursts listed, calls made, pixels drawn.
     pub count: u64,
     /// A sum over the answers: equal on both sides, and nothing is optimised away.
     pub sum: u64,
@@ -72,6 +73,10 @@ pub trait Side {
     }
 
     fn burst_at(&self, work: &Bursts) -> Option<Timed> {
+        None
+    }
+
+    fn all_bursts(&self, work: &AllBursts) -> Option<Timed> {
         None
     }
 

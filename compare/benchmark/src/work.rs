@@ -163,6 +163,12 @@ pub struct Bursts {
     pub budget: u64,
 }
 
+/// All bursts of a capture, on all lines: each from its first change on, with a budget that no jump reaches, and the next one
+/// behind its last.
+pub struct AllBursts {
+    pub max_gap: u64,
+}
+
 /// An encoder replayed from two lines of these samples.
 pub struct Encoder<'a> {
     pub samples: &'a Samples,
