@@ -153,7 +153,7 @@ OnLine = IsChange line 20 1
 abbrev Found : Burst → Type 0
 Found = IsFound line 20 (λ (sample : ℕ). sample) Rule 1 3
 
-abbrev is-next : (from n : ℕ) → next line 20 1 from ≡ some n → IsNext line 20 (λ (sample : ℕ). sample) Rule 1 3 from n
+is-next : (from n : ℕ) → next line 20 1 from ≡ some n → IsNext line 20 (λ (sample : ℕ). sample) Rule 1 3 from n
 is-next from n e =
     let r = neighbour line 20 1 false from n e in
     record { change = r .is; behind = r .asked .0; soonest = λ i c h. let no : i < n → ⊥ = r .first i c (h, c .most) in omega (arith, no) }

@@ -257,11 +257,7 @@ module _ (s : ℕ → ℕ) (len mask gap : ℕ) (some-gap : 1 ≤ gap) (few : le
           go (yes k) (yes m) = middle k m
 
     far : (p q : ℕ) → (p < q + gap → ⊥) → gap ≤ p - q
-    far p q k = go (decLt p (q + gap))
-      where
-        go : Dec (p < q + gap) → gap ≤ p - q
-        go (yes z) = absurd (k z)
-        go (no z) = omega (arith, z)
+    far p q k = omega (arith, k)
 
     grown-is : Grown sample tolerance budget (ends back fore (lastEnd back fore gap budget (x .last)) (firstEnd back fore gap budget (x .first)))
     grown-is = record {
@@ -328,20 +324,16 @@ module _ (s : ℕ → ℕ) (len mask gap : ℕ) (some-gap : 1 ≤ gap) (few : le
   module _ (sample₁ tolerance₁ budget₁ sample₂ tolerance₂ budget₂ : ℕ) (b c : Burst) (x : Grown sample₁ tolerance₁ budget₁ b) (m : Below budget₁ b) (y : Grown sample₂ tolerance₂ budget₂ c) (n : Below budget₂ c) where
     module _ (i : ℕ) (ib : b .first ≤ i) (bi : i ≤ b .last) (ic : c .first ≤ i) (ci : i ≤ c .last) where
       lasts : b .last ≡ c .last
-      lasts = side (decLt (b .last) (c .last)) (decLt (c .last) (b .last))
-        where
-          side : Dec (b .last < c .last) → Dec (c .last < b .last) → b .last ≡ c .last
-          side (yes h) k = absurd (no-later b c (x .is-burst) (y .is-burst) (x .behind (m .end)) i bi ic h)
-          side (no h) (yes k) = absurd (no-later c b (y .is-burst) (x .is-burst) (y .behind (n .end)) i ci ib k)
-          side (no h) (no k) = omega (arith, h, k)
+      lasts =
+          let no : b .last < c .last → ⊥ = no-later b c (x .is-burst) (y .is-burst) (x .behind (m .end)) i bi ic in
+          let nor : c .last < b .last → ⊥ = no-later c b (y .is-burst) (x .is-burst) (y .behind (n .end)) i ci ib in
+          omega (arith, no, nor)
 
       firsts : b .first ≡ c .first
-      firsts = side (decLt (c .first) (b .first)) (decLt (b .first) (c .first))
-        where
-          side : Dec (c .first < b .first) → Dec (b .first < c .first) → b .first ≡ c .first
-          side (yes h) k = absurd (no-sooner b c (x .is-burst) (y .is-burst) (x .before (m .start)) i ib ci h)
-          side (no h) (yes k) = absurd (no-sooner c b (y .is-burst) (x .is-burst) (y .before (n .start)) i ic bi k)
-          side (no h) (no k) = omega (arith, h, k)
+      firsts =
+          let no : c .first < b .first → ⊥ = no-sooner b c (x .is-burst) (y .is-burst) (x .before (m .start)) i ib ci in
+          let nor : b .first < c .first → ⊥ = no-sooner c b (y .is-burst) (x .is-burst) (y .before (n .start)) i ic bi in
+          omega (arith, no, nor)
 
     meet : SameEnds b c ⊎ Apart s len mask b c
     meet = go (ℕ-discrete (b .first) (c .first)) (ℕ-discrete (b .last) (c .last))

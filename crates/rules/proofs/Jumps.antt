@@ -7,7 +7,7 @@ use Prim.Native.Nat.{ℕ, zero, suc, _+_, _≤_, _<_}
 use native.Mathlib.Omega.{arith}
 use Rattle.rules.specs.Burst.{End, jumped, jump}
 use Rattle.rules.specs.Unknown.{Sooner}
-use Rattle.rules.proofs.Nearest.{Order, order}
+use Rattle.rules.proofs.Nearest.{not-both, Order, order}
 use Rattle.rules.proofs.Nearest.Order.{first, same, second}
 
 -- e lies less than the gap from p
@@ -72,17 +72,10 @@ pub record Ended (Ch : ℕ → Type 0) (down : Bool) (gap p n budget : ℕ) (e :
   -- where the budget was not used up, nothing is near
   pub stops : e .jumps < n + budget → (i : ℕ) → Ch i → Sooner down (e .place) i → Near down gap (e .place) i → ⊥
 
-never : (down : Bool) (p : ℕ) → Sooner down p p → ⊥
-never true p h = omega arith
-never false p h = omega arith
-
-both-ways : (down : Bool) (p i : ℕ) → Sooner down p i → Sooner down i p → ⊥
-both-ways true p i h k = omega arith
-both-ways false p i h k = omega arith
-
+-- what is p or further does not come before it
 pub back-again : (down : Bool) (p i : ℕ) → Onto down p i → Sooner down i p → ⊥
-back-again down p i (inl e) h = never down p (subst (λ (x : ℕ). Sooner down x p) (sym e) h)
-back-again down p i (inr k) h = both-ways down p i k h
+back-again down p i (inl e) h = let here : Sooner down p p = subst (λ (x : ℕ). Sooner down x p) (sym e) h in not-both down p p here here
+back-again down p i (inr k) h = not-both down p i k h
 
 pub onto-of : (down : Bool) (p e : ℕ) → (Sooner down e p → ⊥) → Onto down p e
 onto-of down p e h = go (order down p e)
