@@ -1,12 +1,12 @@
 -- What the calls and the exports may answer is the rule's burst of the run, so the rule's promises are theirs.
 use mathlib.Core.Path.{_≡_, refl, sym, ap, _∙_}
 use mathlib.Core.Bool.{Bool, true, false, cond}
-use mathlib.Core.List.{List}
+use mathlib.Core.List.{List, [], _∷_}
 use mathlib.Core.Option.{Option, none, some}
 use Prim.Native.Nat.{ℕ, zero, suc, _≤_}
 use native.Mathlib.Nat.{suc-ne-zero}
 use native.Mathlib.Omega.{arith}
-use lib.IntN.{ℤ}
+use lib.IntN.{ℤ, pos}
 use lib.ListN.{length}
 use Rattle.rules.specs.Answer.{Answer, refused, given, unless}
 use Rattle.rules.specs.Walk.{Counted, through}
@@ -40,7 +40,7 @@ use Rattle.claim_exports.proofs.Recordings.{recording-held}
 use Rattle.claim_exports.proofs.Fillings.{filling-held}
 use Rattle.claim_mill_exports.specs.Claim as mill-exports
 use Rattle.claim_mill_exports.proofs.Answers.{mill-exports-answer}
-use Rattle.claim_bursts.specs.Claim.{Promised, Asker, service, mill, placeOf, Says, burstIn, millBurstIn, ExportSays, BurstsThatMeet}
+use Rattle.claim_bursts.specs.Claim.{Promised, Asker, service, mill, placeOf, Unrefused, Says, burstIn, millBurstIn, ExportSays, BurstsThatMeet}
 use Rattle.claim_bursts.proofs.Shown.{shown-one}
 
 promised : {Q : Type 0} (s : ℕ → ℕ) (len : ℕ) → len ≤ mostPlace → (place : Q → ℕ) (Says : ℕ → Q → ℕ → ℕ → ℕ → Option Burst → Type 0)
@@ -104,6 +104,16 @@ module _ (run : List ℕ) (mark : Option ℕ) (c : Capture) (m : Memory) (h : He
       shown-one (originOf mark) (burst (at run) (length run) mask (placeAt (originOf mark) sample) gap tolerance budget) o
       (moved-to grant mask sample gap tolerance budget v (through (shownBurst (originOf (markOf (c .trigger)))) (record { found = o; steps = read })) may e ∙ ap (λ (x : Option ℕ). shownBurst (originOf x) o) (h .mark-is))
 
+  says : (mask : ℕ) (q : Asker) (gap tolerance budget : ℕ) → Unrefused mark mask q → (o : Option Burst) × Says c m mask q gap tolerance budget o
+  says mask (service sample) gap tolerance budget u =
+      let a = answers c m h .burst-is mask sample gap tolerance budget in
+      let w = burstSearch (at run) (length run) mask sample gap tolerance budget in
+      (w .found, (a .answer, w .steps, a .allowed, a .is (a .answer) (a .allowed)))
+  says mask (mill grant sample) gap tolerance budget u =
+      let a = mill-answers c m h grant .burst-is mask sample gap tolerance budget in
+      let w = burstSearch (at run) (length run) mask (placeAt (originOf mark) sample) gap tolerance budget in
+      (w .found, (a .answer, w .steps, a .allowed, a .is (a .answer) (a .allowed) ∙ ap (λ (n : ℕ). unless n (through (shownBurst (originOf mark)) w)) u ∙ ap (λ (x : Option ℕ). given (through (shownBurst (originOf x)) w)) (sym (h .mark-is))))
+
   calls : Promised (at run) (length run) (placeOf mark) (Says c m)
   calls = promised (at run) (length run) (few run mark c m h) (placeOf mark) (Says c m) said
 
@@ -126,6 +136,31 @@ module _ (run : List ℕ) (mark : Option ℕ) (numbers : List ℕ) (m : Memory) 
       shown-one (originOf mark) (burst (at run) (length run) mask (placeAt (originOf mark) sample) gap tolerance budget) o
       (export-moved-to grant mask sample gap tolerance budget first last jumps size read v (shownBurst (originOf (markIn numbers)) o) may e ∙ ap (λ (x : Option ℕ). shownBurst (originOf x) o) (sym (mark-held numbers) ∙ h .mark-is))
 
+  export-says : (mask : ℕ) (q : Asker) (gap tolerance budget : ℕ) → Unrefused mark mask q → (o : Option Burst) × ExportSays numbers m mask q gap tolerance budget o
+  export-says mask (service sample) gap tolerance budget u =
+      let ends : List ℕ = 0 ∷ 0 ∷ 0 ∷ 0 ∷ [] in
+      let a = exports-answer numbers m h .burst-is mask sample gap tolerance budget ends refl 0 in
+      let w = burstSearch (at run) (length run) mask sample gap tolerance budget in
+      (w .found, (ends, 0, refl, a .answer, a .allowed, ap (λ (x : Bursted). perhapsIn (x .code) (burstIn (x .ends))) (a .is (a .answer) (a .allowed)) ∙ read-back (w .found) (w .steps) ends))
+  export-says mask (mill grant sample) gap tolerance budget u =
+      let jumps : List ℕ = 0 ∷ 0 ∷ [] in
+      let a = mill-exports-answer numbers m h grant .burst-is mask sample gap tolerance budget (pos 0) (pos 0) jumps refl 0 in
+      let w = burstSearch (at run) (length run) mask (placeAt (originOf mark) sample) gap tolerance budget in (
+        w .found,
+        (
+          pos 0,
+          pos 0,
+          jumps,
+          0,
+          refl,
+          a .answer,
+          a .allowed,
+          ap (readIn (pos 0) (pos 0) jumps 0) (a .is (a .answer) (a .allowed) ∙ ap (λ (n : ℕ). written (pos 0) (pos 0) jumps 0 (unless n (through (shownBurst (originOf mark)) w))) u)
+              ∙ mill-read-back (pos 0) (pos 0) jumps 0 (shownBurst (originOf mark) (w .found)) (w .steps)
+              ∙ ap (λ (x : Option ℕ). given (shownBurst (originOf x) (w .found))) (sym (h .mark-is) ∙ mark-held numbers),
+        ),
+      )
+
   exports : Promised (at run) (length run) (placeOf mark) (ExportSays numbers m)
   exports = promised (at run) (length run) (few run mark (captureIn numbers) m h) (placeOf mark) (ExportSays numbers m) export-said
 
@@ -133,11 +168,13 @@ pub bursts-that-meet : BurstsThatMeet
 bursts-that-meet = record {
   rule = λ s len l. promised s len l (λ (sample : ℕ). sample) (λ mask sample gap tolerance budget answer. burst s len mask sample gap tolerance budget ≡ answer) (λ mask sample gap tolerance budget answer e. e);
   calls = calls;
+  may = says;
   moved = λ run mark c m h grant mask sample gap tolerance budget v w may e.
       (burst (at run) (length run) mask (placeAt (originOf mark) sample) gap tolerance budget, sym (moved-to run mark c m h grant mask sample gap tolerance budget v w may e));
   recorded = λ r. calls (recordings.run r) (recordings.mark r) (recordings.store r) (r .memory .store) (selection r .held);
   appended = λ a. calls (appends.stored a) none (a .capture) (a .memory) (appends-stored a .held);
   exports = exports;
+  export-may = export-says;
   export-moved = λ run mark numbers m h grant mask sample gap tolerance budget first last jumps size read v x may e.
       (burst (at run) (length run) mask (placeAt (originOf mark) sample) gap tolerance budget, sym (export-moved-to run mark numbers m h grant mask sample gap tolerance budget first last jumps size read v x may e));
   pushed = λ r. exports (exported.run r) (exported.mark r) (exported.asked r) (r .memory .store) (recording-held r);

@@ -11,7 +11,8 @@ use Rattle.rules.specs.Answer.{given}
 use Rattle.rules.specs.Walk.{Counted, through}
 use Rattle.rules.specs.Burst.{Burst, mostPlace, burst}
 use Rattle.rules.specs.Bursts.{BurstsMeet, ListsOnce}
-use Rattle.rules.specs.Mill.{MillBurst, originOf, placeAt, shownBurst}
+use Rattle.rules.specs.Refusal.{firstOf}
+use Rattle.rules.specs.Mill.{MillBurst, originOf, placeAt, shownBurst, millSearchRows}
 use Rattle.capture.specs.declared.Capture.{Capture}
 use Rattle.capture.specs.Record.{markOf}
 use Rattle.burst.specs.declared.Bursts.{Bursts}
@@ -45,6 +46,11 @@ abbrev pub placeOf : Option ℕ → Asker → ℕ
 placeOf mark (service sample) = sample
 placeOf mark (mill grant sample) = placeAt (originOf mark) sample
 
+-- rows 12 and 13 refuse a mill, and nothing a service reader
+abbrev pub Unrefused : Option ℕ → ℕ → Asker → Type 0
+Unrefused mark mask (service sample) = Unit {0}
+Unrefused mark mask (mill grant sample) = firstOf (millSearchRows grant mask mark sample) ≡ 0
+
 -- ---- the calls: they may answer so, whatever was read. A mill is told the run's burst with its places moved by the mark
 abbrev pub Says : Capture → Memory → ℕ → Asker → ℕ → ℕ → ℕ → Option Burst → Type 0
 Says c m mask (service sample) gap tolerance budget o =
@@ -76,7 +82,10 @@ pub record BurstsThatMeet : Type 0 where
   pub rule : (s : ℕ → ℕ) (len : ℕ) → len ≤ mostPlace → Promised s len (λ (sample : ℕ). sample) (λ mask sample gap tolerance budget answer. burst s len mask sample gap tolerance budget ≡ answer)
   -- of the calls, service readers and mills together, over any capture that holds a run,
   pub calls : (run : List ℕ) (mark : Option ℕ) (c : Capture) (m : Memory) → Held run mark c m → Promised (at run) (length run) (placeOf mark) (Says c m)
-  -- whatever a mill is told, unless it is refused, is a burst of the run with its places moved, or none
+  -- which always have an answer;
+  pub may : (run : List ℕ) (mark : Option ℕ) (c : Capture) (m : Memory) → Held run mark c m → (mask : ℕ) (q : Asker) (gap tolerance budget : ℕ) → Unrefused mark mask q
+      → (o : Option Burst) × Says c m mask q gap tolerance budget o
+  -- and whatever a mill is told, unless it is refused, is a burst of the run with its places moved, or none
   pub moved : (run : List ℕ) (mark : Option ℕ) (c : Capture) (m : Memory) → Held run mark c m → (grant mask : ℕ) (sample : ℤ) (gap tolerance budget : ℕ) (v : mill-answer.Bursts) (w : Counted MillBurst)
       → mills.MayBurst c m grant mask sample gap tolerance budget v → mill-told.burstAs v ≡ given w → (o : Option Burst) × (w .found ≡ shownBurst (originOf mark) o)
   -- so after every list of pushes and of appends
@@ -84,6 +93,8 @@ pub record BurstsThatMeet : Type 0 where
   pub appended : (a : appends.Filling) → Promised (at (appends.stored a)) (length (appends.stored a)) (placeOf none) (Says (a .capture) (a .memory))
   -- and of the exports
   pub exports : (run : List ℕ) (mark : Option ℕ) (numbers : List ℕ) (m : Memory) → Held run mark (captureIn numbers) m → Promised (at run) (length run) (placeOf mark) (ExportSays numbers m)
+  pub export-may : (run : List ℕ) (mark : Option ℕ) (numbers : List ℕ) (m : Memory) → Held run mark (captureIn numbers) m → (mask : ℕ) (q : Asker) (gap tolerance budget : ℕ) → Unrefused mark mask q
+      → (o : Option Burst) × ExportSays numbers m mask q gap tolerance budget o
   pub export-moved : (run : List ℕ) (mark : Option ℕ) (numbers : List ℕ) (m : Memory) → Held run mark (captureIn numbers) m → (grant mask : ℕ) (sample : ℤ) (gap tolerance budget : ℕ)
       (first last : ℤ) (jumps : List ℕ) → length jumps ≡ 2 → (read : ℕ) (v : mill-exports.Bursted) (x : Option MillBurst)
       → mill-exports.MayBurst numbers m grant mask sample gap tolerance budget first last jumps read v → perhapsIn (v .code) (millBurstIn (v .first) (v .last) (v .jumps)) ≡ given x → (o : Option Burst) × (x ≡ shownBurst (originOf mark) o)

@@ -16,7 +16,7 @@ use Rattle.rules.specs.Encoder.{Turns}
 use Rattle.rules.proofs.SampleBytes.{list-whole}
 use Rattle.capture.specs.Record.{storeOf}
 use Rattle.capture.specs.Numbers.{markedAt, markedIn, markPlaceIn}
-use Rattle.codes.specs.Code.{noneCode, perhapsIn}
+use Rattle.codes.specs.Code.{noneCode, perhaps, perhapsIn}
 use Rattle.codes.specs.Turned.{positionNumber, stepNumbers, turnsIn}
 use Rattle.codes.specs.Record.{captureIn, markNumbers, storeNumbers, lenNumber}
 
@@ -40,7 +40,14 @@ pub turns-back : (t : Turns) (place : ℤ) (old : List ℕ) → length old ≡ 3
 unfolding listFrom
 turns-back t place old size = subst⁻¹ (λ (l : List ℕ). turnsIn (positionNumber t place) (stepNumbers t l) ≡ t) (list-whole 3 old size) refl
 
--- ---- an answer that may be none: a refusal's number is neither 0 nor that of none
+-- ---- an answer that may be none: what is found, with what stands behind the pointers, and none, whatever stands there
+pub found-back : {A : Type 0} (a : A) → perhapsIn (perhaps (given (some a)) .code) a ≡ given (some a)
+found-back a = refl
+
+pub none-back : {A : Type 0} (old : A) → perhapsIn (perhaps {A = A} (given none) .code) old ≡ given none
+none-back old = refl
+
+-- a refusal's number is neither 0 nor that of none
 pub refusal-back : {A : Type 0} (n : ℕ) (a : A) → n < noneCode → (n ≡ 0 → ⊥) → perhapsIn n a ≡ refused n
 refusal-back zero a few some-row = absurd (some-row refl)
 refusal-back (suc n) a few some-row = ap (λ (b : Bool). cond b (given none) (refused (suc n))) (ne-eqb (suc n) noneCode (λ e. omega (arith, few, e)))
