@@ -50,29 +50,24 @@ Meet b c = SameEnds b c ⊎ Apart dense 5 1 b c
 third : IsChange dense 5 1 3
 third = record { least = omega arith; most = omega arith; changes = refl }
 
--- so 3 needs each "below": three hold here, and yet a change is shared and the ends differ. At the start of the second burst and of the first,
-pub starts-needed : (Meet whole late → ⊥) × (Meet late whole → ⊥)
-starts-needed = (go, turned)
-  where
-    go : Meet whole late → ⊥
-    go (inl e) = omega (arith, e .0)
-    go (inr h) = h 3 third (omega arith) (omega arith) (omega arith) (omega arith)
+-- the change at 3 is in both, and the ends differ
+clash : (b c : Burst) → (SameEnds b c → ⊥) → b .first ≤ 3 → 3 ≤ b .last → c .first ≤ 3 → 3 ≤ c .last → Meet b c → ⊥
+clash b c differ w x y z (inl e) = differ e
+clash b c differ w x y z (inr h) = h 3 third w x y z
 
-    turned : Meet late whole → ⊥
-    turned (inl e) = omega (arith, e .0)
-    turned (inr h) = h 3 third (omega arith) (omega arith) (omega arith) (omega arith)
+-- so 3 needs each "below", here with the three others: at the start of the second burst, and of the first,
+pub starts-needed : (Meet whole late → ⊥) × (Meet late whole → ⊥)
+starts-needed = (
+  clash whole late (λ e. omega (arith, e .0)) (omega arith) (omega arith) (omega arith) (omega arith),
+  clash late whole (λ e. omega (arith, e .0)) (omega arith) (omega arith) (omega arith) (omega arith),
+)
 
 -- and at the ends
 pub ends-needed : (Meet whole early → ⊥) × (Meet early whole → ⊥)
-ends-needed = (go, turned)
-  where
-    go : Meet whole early → ⊥
-    go (inl e) = omega (arith, e .1)
-    go (inr h) = h 3 third (omega arith) (omega arith) (omega arith) (omega arith)
-
-    turned : Meet early whole → ⊥
-    turned (inl e) = omega (arith, e .1)
-    turned (inr h) = h 3 third (omega arith) (omega arith) (omega arith) (omega arith)
+ends-needed = (
+  clash whole early (λ e. omega (arith, e .1)) (omega arith) (omega arith) (omega arith) (omega arith),
+  clash early whole (λ e. omega (arith, e .1)) (omega arith) (omega arith) (omega arith) (omega arith),
+)
 
 -- ---- words, over 20 samples of a line that changes at the places of a list
 abbrev Turns : List ℕ → ℕ → Type 0
