@@ -7,7 +7,7 @@ use lines::Mask;
 use store::append_samples;
 
 // What append answers: the number of a refusal and the record as it was given, or the record with the samples taken.
-#[derive(Drop)]
+#[derive(Clone, Copy)]
 pub enum Appended {
     Refused(u8, Capture),
     Done(Capture),

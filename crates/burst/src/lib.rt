@@ -13,7 +13,7 @@ use number::lesser;
 use search::{next_in, prev_in};
 
 // The first and last change of a burst, and the jumps made at its end and at its start.
-#[derive(Drop)]
+#[derive(Clone, Copy)]
 pub struct Burst {
     pub first: usize,
     pub last: usize,
@@ -22,7 +22,7 @@ pub struct Burst {
 }
 
 // The answer: the number of a refusal, or a burst or none, with the nodes read by all its searches.
-#[derive(Drop)]
+#[derive(Clone, Copy)]
 pub enum Bursts {
     Refused(u8),
     At(Burst, usize),
@@ -30,21 +30,21 @@ pub enum Bursts {
 }
 
 // What a search finds.
-#[derive(Drop)]
+#[derive(Clone, Copy)]
 enum Change {
     At(usize),
     Nothing,
 }
 
 // A search's find, and the nodes that it read.
-#[derive(Drop)]
+#[derive(Clone, Copy)]
 struct Sought {
     change: Change,
     read: usize,
 }
 
 // An end of a burst, the jumps that led there, and the nodes read for every try.
-#[derive(Drop)]
+#[derive(Clone, Copy)]
 struct End {
     place: usize,
     jumps: usize,
@@ -52,14 +52,14 @@ struct End {
 }
 
 // Two neighbouring changes, after how far the nearer one is from the place asked.
-#[derive(Drop)]
+#[derive(Clone, Copy)]
 enum Side {
     Pair(usize, usize, usize),
     Nothing,
 }
 
 // A side, and the nodes read for it.
-#[derive(Drop)]
+#[derive(Clone, Copy)]
 struct Sided {
     side: Side,
     read: usize,

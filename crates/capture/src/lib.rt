@@ -17,14 +17,14 @@ use node::SIZE;
 use number::MOST_SAMPLES;
 
 // 01's mark: the place of the firing sample, once there is one.
-#[derive(Drop)]
+#[derive(Clone, Copy)]
 pub enum Mark {
     Absent,
     At(usize),
 }
 
 // 01's store. Sample bytes and the four levels of nodes are lent to each call.
-#[derive(Drop)]
+#[derive(Clone, Copy)]
 pub struct Capture {
     pub unitsize: usize,
     pub capacity: usize,
@@ -102,7 +102,7 @@ pub fn record_wrong(c: Capture) -> bool
 }
 
 // How much memory a store takes: bytes of samples, and numbers of each level.
-#[derive(Drop)]
+#[derive(Clone, Copy)]
 pub struct Sizes {
     pub samples: usize,
     pub l1: usize,
@@ -194,7 +194,7 @@ fn empty(channels: usize, capacity: usize) -> Capture
     }
 }
 
-#[derive(Drop)]
+#[derive(Clone, Copy)]
 pub enum Needed {
     Refused(u8),
     Memory(Sizes),
@@ -212,7 +212,7 @@ pub fn needs(channels: usize, capacity: usize) -> Needed
     Needed::Memory(sizes_of(c))
 }
 
-#[derive(Drop)]
+#[derive(Clone, Copy)]
 pub enum Started {
     Refused(u8),
     Store(Capture),
@@ -238,7 +238,7 @@ pub fn start<'a>(
     Started::Store(c)
 }
 
-#[derive(Drop)]
+#[derive(Clone, Copy)]
 pub enum Got {
     Refused(u8),
     Value(Mask),
@@ -292,7 +292,7 @@ fn copy_samples(bytes: &[u8], unitsize: usize, start: usize, k: usize, output: &
     }
 }
 
-#[derive(Drop)]
+#[derive(Clone, Copy)]
 pub enum Copied {
     Refused(u8),
     Count(usize),
@@ -337,7 +337,7 @@ fn chunk_end(len: usize, ci: usize) -> usize
 }
 
 // Where a part of sample memory starts and ends.
-#[derive(Drop)]
+#[derive(Clone, Copy)]
 pub struct Part {
     pub from: usize,
     pub to: usize,

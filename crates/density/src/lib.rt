@@ -13,7 +13,7 @@ use capture::{Capture, refusal};
 use lines::Mask;
 use summary::{Summed, summed_in};
 
-#[derive(Drop)]
+#[derive(Clone, Copy)]
 pub enum Changes {
     Refused(u8),
     Count(u32),

@@ -17,7 +17,7 @@ use pass::pass;
 use search::chunk_end;
 
 // The signed position, and the steps that it comes from.
-#[derive(Drop)]
+#[derive(Clone, Copy)]
 pub struct Turns {
     pub position: i64,
     pub forward: usize,
@@ -26,7 +26,7 @@ pub struct Turns {
 }
 
 // The number of a refusal, or what the encoder did.
-#[derive(Drop)]
+#[derive(Clone, Copy)]
 pub enum Encoded {
     Refused(u8),
     Turns(Turns),

@@ -13,7 +13,7 @@ pub const WIDEST_ONE: usize = 128;
 pub const WIDEST_TWO: usize = 512;
 
 // Steps forward and backward, and skips.
-#[derive(Drop)]
+#[derive(Clone, Copy)]
 pub struct Steps {
     pub forward: usize,
     pub backward: usize,
@@ -22,14 +22,14 @@ pub struct Steps {
 
 // What the lines do between two samples, in numbers that are 0 or 1: whether one of them moves, whether that is backward, whether both do.
 // A struct for each unit: many samples are taken at once where all numbers have a sample's width.
-#[derive(Drop)]
+#[derive(Clone, Copy)]
 struct StepOne {
     moved: u8,
     back: u8,
     skipped: u8,
 }
 
-#[derive(Drop)]
+#[derive(Clone, Copy)]
 struct StepTwo {
     moved: Mask,
     back: Mask,

@@ -10,7 +10,7 @@ use feeder_push::Pushed;
 use lines::Mask;
 use terms::{Condition, Previous, TriggerTerm};
 
-#[derive(Drop)]
+#[derive(Clone, Copy)]
 pub struct Recorder {
     pub feeder: Feeder,
     pub complete: bool,

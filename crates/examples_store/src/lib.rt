@@ -10,7 +10,7 @@ use summary::Summed;
 
 const LINE_0: Mask = 1;
 
-#[derive(Drop)]
+#[derive(Clone, Copy)]
 pub struct Stored {
     pub capture: Capture,
     pub samples: [u8; 16],

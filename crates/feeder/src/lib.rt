@@ -15,21 +15,21 @@ use lines::Mask;
 use terms::{Masks, Previous, Terms};
 
 // 01's "armed with five masks or unarmed".
-#[derive(Drop)]
+#[derive(Clone, Copy)]
 pub enum Armed {
     Unarmed,
     Waiting(Masks),
 }
 
 // 01's wish: the samples to keep before the trigger.
-#[derive(Drop)]
+#[derive(Clone, Copy)]
 pub enum Pretrigger {
     Fraction(f64),
     Seconds(f64),
 }
 
 // 01's recorder. Its ring memory is lent to start and push, beside the memory of its store.
-#[derive(Drop)]
+#[derive(Clone, Copy)]
 pub struct Feeder {
     pub capture: Capture,
     pub limit: usize,
@@ -41,7 +41,7 @@ pub struct Feeder {
 }
 
 // What start answers: the number of a refusal, or the record and whether the cap cut its samples before the trigger.
-#[derive(Drop)]
+#[derive(Clone, Copy)]
 pub enum Started {
     Refused(u8),
     Fresh(Feeder, bool),

@@ -20,7 +20,7 @@ use number::lesser;
 use terms::Previous;
 
 // What push answers: the number of a refusal and the record as it was given, or the record after the push.
-#[derive(Drop)]
+#[derive(Clone, Copy)]
 pub enum Pushed {
     Refused(u8, Feeder),
     GoingOn(Feeder),

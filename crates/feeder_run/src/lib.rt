@@ -12,7 +12,7 @@ use number::lesser;
 use store::append_parts;
 
 // What went to the store: nothing, since not all had room; or how many samples.
-#[derive(Drop)]
+#[derive(Clone, Copy)]
 pub enum Taken {
     Full,
     Count(usize),
@@ -50,7 +50,7 @@ pub fn store_run(
 }
 
 // A run: `older` samples from slot `end` of the ring on, `newer` from slot `start` on, and `own` of the push.
-#[derive(Drop)]
+#[derive(Clone, Copy)]
 struct Run {
     end: usize,
     older: usize,

@@ -11,7 +11,7 @@ use terms::{Masks, Previous};
 
 // What the five masks ask of a sample and the one before it: these lines are 1, these are 0, these differ.
 // Rising is High and Edge on one line, Falling is Low and Edge.
-#[derive(Drop)]
+#[derive(Clone, Copy)]
 struct Wanted {
     high: Mask,
     low: Mask,

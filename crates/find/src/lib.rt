@@ -18,14 +18,14 @@ use number::lesser;
 
 // The answer of a chunk: a place and the nodes read, or these alone.
 // 02, CR 3: "Every forward and backward search returns the count of nodes read, samples at level 0 included".
-#[derive(Drop)]
+#[derive(Clone, Copy)]
 pub enum Place {
     At(usize, usize),
     Nothing(usize),
 }
 
 // Nodes passed: how many, and the value that the last of them ends with.
-#[derive(Drop)]
+#[derive(Clone, Copy)]
 struct Passed {
     count: usize,
     value: Mask,
@@ -139,7 +139,7 @@ fn number(base: usize, l: usize, s: usize, pos: usize) -> usize
 }
 
 // A level taken: which, the samples of its nodes, how many nodes were asked, how many passed, and the value after these.
-#[derive(Drop)]
+#[derive(Clone, Copy)]
 pub struct Taken {
     pub l: usize,
     pub s: usize,

@@ -14,7 +14,7 @@ ghost use Rattle.float.specs.Samples.{kept_as};
 use number::MOST_SAMPLES;
 
 // Where a floor lies among the places 0..hi.
-#[derive(Drop)]
+#[derive(Clone, Copy)]
 pub enum Place {
     Below,
     At(u64),
@@ -22,7 +22,7 @@ pub enum Place {
 }
 
 // The samples kept before the trigger, and whether the cap cut them.
-#[derive(Drop)]
+#[derive(Clone, Copy)]
 pub struct Kept {
     pub samples: u64,
     pub cut: bool,

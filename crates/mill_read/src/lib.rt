@@ -21,14 +21,14 @@ use node::Node;
 use summary::{Summed, summed_in};
 
 // The run's places as a mill counts them, from first on and below end, and whether there is a mark.
-#[derive(Drop)]
+#[derive(Clone, Copy)]
 pub struct Bounds {
     pub first: i64,
     pub end: i64,
     pub marked: bool,
 }
 
-#[derive(Drop)]
+#[derive(Clone, Copy)]
 pub enum Bounded {
     Refused(u8),
     Run(Bounds),
@@ -128,14 +128,14 @@ pub fn samples<'a>(
 }
 
 // What a mill sees of a node: no count, since it tells of every line (02, CR 5). `mask` is its toggles.
-#[derive(Drop)]
+#[derive(Clone, Copy)]
 pub struct Lines {
     pub first: Mask,
     pub last: Mask,
     pub mask: Mask,
 }
 
-#[derive(Drop)]
+#[derive(Clone, Copy)]
 pub enum Shown {
     Refused(u8),
     Lines(Lines),

@@ -16,7 +16,7 @@ use mill::{beyond, counted_from, origin, place_at};
 use search::{next_in, prev_in};
 
 // The number of a refusal, a place and the nodes read, or none and the nodes read.
-#[derive(Drop)]
+#[derive(Clone, Copy)]
 pub enum Found {
     Refused(u8),
     At(i64, usize),
@@ -24,7 +24,7 @@ pub enum Found {
 }
 
 // The first and last change of a burst, and the jumps made at its end and at its start.
-#[derive(Drop)]
+#[derive(Clone, Copy)]
 pub struct Burst {
     pub first: i64,
     pub last: i64,
@@ -32,7 +32,7 @@ pub struct Burst {
     pub jumps_start: usize,
 }
 
-#[derive(Drop)]
+#[derive(Clone, Copy)]
 pub enum Bursts {
     Refused(u8),
     At(Burst, usize),

@@ -8,7 +8,7 @@ ghost use Rattle.node.specs.Memory.{as_node, node_in, put_node, level_of};
 use lines::Mask;
 
 // 01's node, with the count of 02's CR 5; `mask` is its toggles.
-#[derive(Drop)]
+#[derive(Clone, Copy)]
 pub struct Node {
     pub first: Mask,
     pub last: Mask,

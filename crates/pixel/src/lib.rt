@@ -7,14 +7,14 @@ ghost use Rattle.pixel.specs.Ranges.{view_as, range_as, end_at, spanned_by, cove
 
 use float::Place;
 
-#[derive(Drop)]
+#[derive(Clone, Copy)]
 pub struct View {
     pub start: f64,
     pub spp: f64,
 }
 
 // The places [a, b), or none.
-#[derive(Drop)]
+#[derive(Clone, Copy)]
 pub enum Pixel {
     Blank,
     Span(u64, u64),

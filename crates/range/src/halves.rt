@@ -9,7 +9,7 @@ ghost use Rattle.range.specs.Run.{Both};
 use lines::{Mask, get, wide};
 
 // Their lines, and how many they are.
-#[derive(Drop)]
+#[derive(Clone, Copy)]
 pub struct Halves {
     pub mask: Mask,
     pub count: u64,

@@ -90,7 +90,7 @@ pub fn draw<'a>(
     }
 }
 
-#[derive(Drop)]
+#[derive(Clone, Copy)]
 pub enum Drawn {
     Refused(u8),
     Done,

@@ -33,7 +33,7 @@ fn put(o: Operation, l1: &mut [Mask], l2: &mut [Mask], l3: &mut [Mask], l4: &mut
 }
 
 // What a piece leaves: the feed, whether there is another piece, the record, and the call's answer.
-#[derive(Drop)]
+#[derive(Clone, Copy)]
 struct Added {
     feed: Feed,
     more: bool,

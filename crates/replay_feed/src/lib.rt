@@ -8,7 +8,7 @@ use replay_text::numbers::{mask_of, number};
 use replay_text::operations::Operation;
 
 // The samples of a run: all the same, or the noise's, each from the number before it and cut to a mask.
-#[derive(Drop)]
+#[derive(Clone, Copy)]
 pub enum Run {
     Of(Mask),
     Noise(u64, Mask),
@@ -16,7 +16,7 @@ pub enum Run {
 
 // What is still to come: the samples left of a run, and the runs after it in the line. A byte is a run of one
 // sample of one byte, without its count.
-#[derive(Drop)]
+#[derive(Clone, Copy)]
 pub struct Feed {
     pub left: usize,
     run: Run,
@@ -145,7 +145,7 @@ fn piece_size(unitsize: usize) -> usize {
 
 // A piece was filled with so many bytes, and the feed then stands at a sample or has none left. There is another
 // piece where it has one, and this one held something.
-#[derive(Drop)]
+#[derive(Clone, Copy)]
 pub struct Filled {
     pub feed: Feed,
     pub bytes: usize,

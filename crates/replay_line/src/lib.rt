@@ -10,7 +10,7 @@ use replay_text::operations::Operation;
 use replay_unknown::{about_unknown, unknown_line};
 
 // The lengths that the lent slices have.
-#[derive(Drop)]
+#[derive(Clone, Copy)]
 pub struct Lent {
     pub samples: usize,
     pub l1: usize,

@@ -8,7 +8,7 @@ use replay_text::answers::agrees;
 use replay_text::operations::Operation;
 
 // The record, what is lent, and the counts.
-#[derive(Drop)]
+#[derive(Clone, Copy)]
 pub struct State {
     pub feeder: Feeder,
     pub lent: Lent,

@@ -8,7 +8,7 @@ use replay_text::operations::Operation;
 use terms::{Condition, Previous, Terms, TriggerTerm};
 
 // What a line leaves: the record, the answer, and where the recorded answer starts.
-#[derive(Drop)]
+#[derive(Clone, Copy)]
 pub struct Change {
     pub feeder: Feeder,
     pub answer: Answer,
@@ -75,7 +75,7 @@ fn condition_of(n: usize) -> Condition {
 }
 
 // Terms, and where the bytes after them start.
-#[derive(Drop)]
+#[derive(Clone, Copy)]
 struct Listed {
     terms: Terms,
     next: usize,

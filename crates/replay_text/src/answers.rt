@@ -4,7 +4,7 @@ use lines::Mask;
 use number::lesser;
 
 // A refusal's number or 0, how many values there are, the values, and how many numbers of the output follow.
-#[derive(Drop)]
+#[derive(Clone, Copy)]
 pub struct Answer {
     pub refusal: u8,
     pub count: usize,
@@ -46,7 +46,7 @@ pub fn listed(n: usize) -> Answer {
 }
 
 // How far an answer was compared with the recorded one, and whether it was the same up to there.
-#[derive(Drop)]
+#[derive(Clone, Copy)]
 struct Compared {
     at: usize,
     same: bool,

@@ -8,7 +8,7 @@ use lines::Mask;
 use number::magnitude;
 
 // A number, where the bytes after it start, and whether there is one.
-#[derive(Drop)]
+#[derive(Clone, Copy)]
 pub struct Parsed {
     pub value: usize,
     pub next: usize,

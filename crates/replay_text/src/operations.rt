@@ -4,7 +4,7 @@ use number::lesser;
 
 // The code, its arguments, and where the bytes after them start. The last argument of 11, 12, 25 to 28, 51, 52 and 53 is
 // how many entries follow.
-#[derive(Drop)]
+#[derive(Clone, Copy)]
 pub struct Operation {
     pub code: usize,
     pub arguments: [usize; 7],

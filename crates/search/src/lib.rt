@@ -18,7 +18,7 @@ use number::lesser;
 
 // The answer: the number of a refusal, a place and the nodes read, or these alone.
 // 02, CR 3: "Every forward and backward search returns the count of nodes read, samples at level 0 included".
-#[derive(Drop)]
+#[derive(Clone, Copy)]
 pub enum Found {
     Refused(u8),
     At(usize, usize),

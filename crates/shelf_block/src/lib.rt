@@ -152,7 +152,8 @@ fn put_payload(block: &mut [u8], payload: &[u8])
     requires { (length block.old ≡ block_size) × (length payload.now ≤ payload_most) }
     ensures { block.new ≡ take payload_at block.old ++ (payload.now ++ zeros (payload_most - length payload.now)) }
 {
-    let end = PAYLOAD_AT + bytes::copy(payload, &mut block[12..512]);
+    let end = PAYLOAD_AT + payload.len();
+    block[PAYLOAD_AT..end].copy_from_slice(payload);
     put_at(block, end, BLOCK, 0);
 }
 

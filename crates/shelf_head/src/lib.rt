@@ -15,7 +15,7 @@ use number::MOST_SAMPLES;
 use shelf_block::{BLOCK, PAYLOAD, good, is_at, put_at, put_block};
 
 // What block 0 says of a capture.
-#[derive(Drop)]
+#[derive(Clone, Copy)]
 pub struct Heading {
     pub unitsize: usize,
     pub len: usize,
@@ -50,7 +50,7 @@ pub fn file_size(n: usize) -> usize
     BLOCK * (1 + blocks_for(n))
 }
 
-#[derive(Drop)]
+#[derive(Clone, Copy)]
 pub enum FileLength {
     Refused(u8),
     Bytes(usize),
@@ -167,7 +167,7 @@ pub fn head_good(file: &[u8]) -> bool
     !heading_wrong(heading_in(file))
 }
 
-#[derive(Drop)]
+#[derive(Clone, Copy)]
 pub enum Says {
     Refused(u8),
     Capture(Heading),

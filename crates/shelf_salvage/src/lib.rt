@@ -72,14 +72,14 @@ fn fill_store(
     rebuild_levels(&samples[..], l1, l2, l3, l4, c.unitsize, 0, c.len);
 }
 
-#[derive(Drop)]
+#[derive(Clone, Copy)]
 pub struct Salvaged {
     pub store: Capture,
     pub stretches: usize,
     pub replaced: usize,
 }
 
-#[derive(Drop)]
+#[derive(Clone, Copy)]
 pub enum SalvageResult {
     Refused(u8),
     Salvaged(Salvaged),

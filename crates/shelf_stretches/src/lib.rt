@@ -9,7 +9,7 @@ use shelf_block::{BLOCK, PAYLOAD, good};
 use shelf_head::{blocks_for, heading_in};
 
 // How many stretches there are, and how many samples are in them.
-#[derive(Drop)]
+#[derive(Clone, Copy)]
 pub struct Found {
     pub stretches: usize,
     pub replaced: usize,
@@ -44,7 +44,7 @@ fn put_stretch(list: &mut [usize], at: usize, first: usize, count: usize)
 }
 
 // What was told so far, and the samples of a stretch that may go on.
-#[derive(Drop)]
+#[derive(Clone, Copy)]
 struct Run {
     stretches: usize,
     replaced: usize,
@@ -105,7 +105,7 @@ fn settled(run: Run, i: usize, left: usize, room: usize) -> bool
 }
 
 // What a survey comes to: the numbers that it was given are enough for whatever may follow, or it saw all blocks.
-#[derive(Drop)]
+#[derive(Clone, Copy)]
 enum Outcome {
     Enough,
     Whole(Found),
@@ -168,7 +168,7 @@ fn survey(list: &mut [usize], room: usize, file: &[u8]) -> Outcome
     )
 }
 
-#[derive(Drop)]
+#[derive(Clone, Copy)]
 pub enum Finding {
     Short,
     Found(Found),

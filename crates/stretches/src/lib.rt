@@ -72,7 +72,7 @@ pub fn refusal<'a>(
 }
 
 // Where a stretch begins, and the place right after it.
-#[derive(Drop)]
+#[derive(Clone, Copy)]
 pub struct Bounds {
     pub first: usize,
     pub end: usize,

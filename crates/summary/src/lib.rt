@@ -29,7 +29,7 @@ fn run_end(pos: usize, b: usize, s: usize) -> usize
 }
 
 // A part of a range: its node, and where it ends.
-#[derive(Drop)]
+#[derive(Clone, Copy)]
 struct Piece {
     node: Node,
     end: usize,
@@ -198,7 +198,7 @@ pub fn summary_in<'a>(
     by_levels(c, samples, l1, l2, l3, l4, a, b, counted)
 }
 
-#[derive(Drop)]
+#[derive(Clone, Copy)]
 pub enum Summed {
     Refused(u8),
     Node(Node),

@@ -5,7 +5,7 @@ ghost use Rattle.terms.specs.Terms.{as_masks, previous_of, no_terms, with_line, 
 
 use lines::{Mask, TOP_LINE, line_bit};
 
-#[derive(Drop)]
+#[derive(Clone, Copy)]
 pub enum Condition {
     Rising,
     Falling,
@@ -15,14 +15,14 @@ pub enum Condition {
 }
 
 // 01's term; `channel` is its line.
-#[derive(Drop)]
+#[derive(Clone, Copy)]
 pub struct TriggerTerm {
     pub channel: u8,
     pub condition: Condition,
 }
 
 // The lines of each condition.
-#[derive(Drop)]
+#[derive(Clone, Copy)]
 pub struct Masks {
     pub high: Mask,
     pub low: Mask,
@@ -32,7 +32,7 @@ pub struct Masks {
 }
 
 // What a list of terms comes to: whether there is one, whether a line is above the highest, and the lines that they name.
-#[derive(Drop)]
+#[derive(Clone, Copy)]
 pub struct Terms {
     pub any: bool,
     pub wrong: bool,
@@ -40,7 +40,7 @@ pub struct Terms {
 }
 
 // The sample before, once there is one.
-#[derive(Drop)]
+#[derive(Clone, Copy)]
 pub enum Previous {
     Nothing,
     Sample(Mask),

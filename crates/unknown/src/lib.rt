@@ -21,13 +21,13 @@ use search::{next_in, prev_in};
 use stretches::stretch_at;
 
 // A place, or none.
-#[derive(Drop)]
+#[derive(Clone, Copy)]
 enum Spot {
     At(usize),
     Nothing,
 }
 
-#[derive(Drop)]
+#[derive(Clone, Copy)]
 pub enum Located {
     Refused(u8),
     At(usize),

@@ -73,7 +73,7 @@ fn node_wrong<'a>(
     !same_node(kept, made(c, samples, l1, l2, l3, l4, level, j))
 }
 
-#[derive(Drop)]
+#[derive(Clone, Copy)]
 pub enum Checked {
     Refused(u8),
     Yes,
