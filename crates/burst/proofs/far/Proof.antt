@@ -6,17 +6,17 @@ use Rattle.burst.proofs.far.Tie as tie
 less-requires : tie.Need-less-requires
 less-requires c κs = search rules
 
-sub-sum-of : tie.Need-overflow-sub-sum-of
+sub-sum-of : tie.Need-overflow_sub-gap
 sub-sum-of c = search rules
 
-sum-of-requires : tie.Need-sum-of-requires
+sum-of-requires : tie.Need-sum_of-requires
 sum-of-requires c κs = search rules
 
-returns : tie.Need-returns
-returns c = rw c.before.if1.true c.less.ensures
+returns : tie.Need-returns-then-start
+returns c = rw c.before.if-start.true c.less.ensures
 
-returns-2 : tie.Need-returns-2
-returns-2 c = rw c.before.if1.false c.sum_of.ensures
+returns-2 : tie.Need-returns-else-start
+returns-2 c = rw c.before.if-start.false c.sum_of.ensures
 
-pub far-spec : {M : Type 1} → statement M
-far-spec = tie.close (tie.spec less-requires sub-sum-of sum-of-requires returns returns-2)
+pub far_spec : {M : Type 1} → statement M
+far_spec = tie.close (tie.spec less-requires sub-sum-of sum-of-requires returns returns-2)

@@ -5,15 +5,15 @@ use Rattle.burst.specs.Answer.{further_of}
 use Rattle.burst.proofs.further.Statement.{statement}
 use Rattle.burst.proofs.further.Tie as tie
 
-returns : tie.Need-returns
+returns : tie.Need-returns-then-start
 returns c =
     let a = c.before.args in
-    sym (ap (λ (b : Bool). further_of b a.place a.e) c.if1.true)
+    sym (ap (λ (b : Bool). further_of b a.place a.e) c.if-start.true)
 
-returns-2 : tie.Need-returns-2
+returns-2 : tie.Need-returns-else-start
 returns-2 c =
     let a = c.before.args in
-    sym (ap (λ (b : Bool). further_of b a.place a.e) c.if1.false)
+    sym (ap (λ (b : Bool). further_of b a.place a.e) c.if-start.false)
 
-pub further-spec : {M : Type 1} → statement M
-further-spec = tie.close (tie.spec returns returns-2)
+pub further_spec : {M : Type 1} → statement M
+further_spec = tie.close (tie.spec returns returns-2)

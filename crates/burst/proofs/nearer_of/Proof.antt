@@ -20,40 +20,40 @@ near_right : (l r : Side) (a b d f g h : ℕ) → l ≡ side.Pair a b d → r �
 near_right l r a b d f g h el er k =
     sym (ap (λ (t : Bool). cond t (side_as (side.Pair a b d)) (side_as (side.Pair f g h))) (lt-leb a f k)) ∙ sym (ap₂ (λ (x y : Side). nearer (side_as x) (side_as y)) el er)
 
-enum_told : tie.Need-enum-told
+enum_told : tie.Need-enum_told-1
 enum_told c = search rules
 
-enum-known-l : tie.Need-enum-known-l
+enum-known-l : tie.Need-enum_known-l
 enum-known-l c = search rules
 
-enum-told-2 : tie.Need-enum-told-2
+enum-told-2 : tie.Need-enum_told-in-Nothing-r
 enum-told-2 c = search rules
 
-enum-known-r : tie.Need-enum-known-r
+enum-known-r : tie.Need-enum_known-r
 enum-known-r c = search rules
 
-returns : tie.Need-returns
+returns : tie.Need-returns-then-dl-dr
 returns c =
     let r = c.before.before in
     let l = r.before.before.before in
     let a = l.before.before.args in
-    near_left a.l a.r _ _ _ _ _ _ l.l.given.1 r.r.given.1 c.if1.true
+    near_left a.l a.r _ _ _ _ _ _ l.l-1.given.1 r.r-1.given.1 c.if-dl-dr.true
 
-returns-2 : tie.Need-returns-2
-returns-2 c = sym (ap (λ (x : Side). nearer (side_as x) (side_as c.before.before.args.r)) c.enum_told.given.1)
+returns-2 : tie.Need-returns-in-Nothing
+returns-2 c = sym (ap (λ (x : Side). nearer (side_as x) (side_as c.before.before.args.r)) c.enum_told-1.given.1)
 
-returns-3 : tie.Need-returns-3
+returns-3 : tie.Need-returns-in-Nothing-r
 returns-3 c =
     let l = c.before.before.before in
     let a = l.before.before.args in
-    sym (ap₂ (λ (x y : Side). nearer (side_as x) (side_as y)) l.l.given.1 c.enum-told2.given.1)
+    sym (ap₂ (λ (x y : Side). nearer (side_as x) (side_as y)) l.l-1.given.1 c.enum_told-in-Nothing-r-1.given.1)
 
-returns-4 : tie.Need-returns-4
+returns-4 : tie.Need-returns-else-dl-dr
 returns-4 c =
     let r = c.before.before in
     let l = r.before.before.before in
     let a = l.before.before.args in
-    near_right a.l a.r _ _ _ _ _ _ l.l.given.1 r.r.given.1 c.if1.false
+    near_right a.l a.r _ _ _ _ _ _ l.l-1.given.1 r.r-1.given.1 c.if-dl-dr.false
 
-pub nearer-of-spec : {M : Type 1} → statement M
-nearer-of-spec = tie.close (tie.spec enum_told enum-known-l enum-told-2 enum-known-r returns returns-2 returns-3 returns-4)
+pub nearer_of_spec : {M : Type 1} → statement M
+nearer_of_spec = tie.close (tie.spec enum_told enum-known-l enum-told-2 enum-known-r returns returns-2 returns-3 returns-4)

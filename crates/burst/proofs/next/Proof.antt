@@ -4,14 +4,14 @@ use borrow.Author.Rules.{rules}
 use Rattle.burst.proofs.next.Statement.{statement}
 use Rattle.burst.proofs.next.Tie as tie
 
-next-in-requires : tie.Need-next-in-requires
+next-in-requires : tie.Need-next_in-requires
 next-in-requires c κs = search rules
 
-sought-of-requires : tie.Need-sought-of-requires
+sought-of-requires : tie.Need-sought_of-requires
 sought-of-requires c κs = search rules
 
 returns : tie.Need-returns
-returns c = c.sought-of.ensures ∙ c.before.next_in_lem.ensures
+returns c = c.sought_of.ensures ∙ c.before.next_in.ensures
 
-pub next-spec : {M : Type 1} → statement M
-next-spec = tie.close (tie.spec next-in-requires sought-of-requires returns)
+pub next_spec : {M : Type 1} → statement M
+next_spec = tie.close (tie.spec next-in-requires sought-of-requires returns)

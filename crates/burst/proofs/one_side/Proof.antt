@@ -25,53 +25,53 @@ abbrev side_at : tie.Start → Option ℕ → Counted Side
 side_at s = sided_by (back_at s) (fore_at s) s.args.start s.args.gap s.args.tolerance s.args.sample
 
 -- where the distance of a change is known: the change, and the search for the one beyond it
-abbrev start_at : tie.After-less → tie.Start
+abbrev start_at : tie.After-less-distance → tie.Start
 start_at d =
     let known = d.before.before.before.before.before.before in
     known.before.before.before.before.before
 
-abbrev near_at : tie.After-less → ℕ
-near_at d = d.before.before.before.before.found.given.0.0
+abbrev near_at : tie.After-less-distance → ℕ
+near_at d = d.before.before.before.before.found-1.given.0.0
 
-abbrev beyond_at : tie.After-less → Walked
+abbrev beyond_at : tie.After-less-distance → Walked
 beyond_at d = let s = start_at d in cond (not s.args.start) (fore_at s) (back_at s) (beyond_from s.args.start (near_at d))
 
 -- the contract's side is the one by that search
-told : (d : tie.After-less) (beyond : Walked) → beyond ≡ beyond_at d
-    → side_with (start_at d).args.start (start_at d).args.gap (start_at d).args.tolerance d.less.result (near_at d) beyond ≡ side_at (start_at d) (change_as (start_at d).args.found)
+told : (d : tie.After-less-distance) (beyond : Walked) → beyond ≡ beyond_at d
+    → side_with (start_at d).args.start (start_at d).args.gap (start_at d).args.tolerance d.less-distance.result (near_at d) beyond ≡ side_at (start_at d) (change_as (start_at d).args.found)
 told d beyond e =
     let s = start_at d in
-    side_is (back_at s) (fore_at s) s.args.start s.args.gap s.args.tolerance s.args.sample d.less.result (near_at d) beyond _ (d.less.ensures ∙ ap₂ ◌-◌ d.before.before.pick.ensures d.before.pick2.ensures) e (ap change_as d.before.before.before.before.found.given.1)
+    side_is (back_at s) (fore_at s) s.args.start s.args.gap s.args.tolerance s.args.sample d.less-distance.result (near_at d) beyond _ (d.less-distance.ensures ∙ ap₂ ◌-◌ d.before.before.pick.ensures d.before.pick-2.ensures) e (ap change_as d.before.before.before.before.found-1.given.1)
 
-sought : (v : tie.After-seek) → sought_as v.seek.result ≡ beyond_at v.before.before.before.before
+sought : (v : tie.After-seek-sought) → sought_as v.seek-sought.result ≡ beyond_at v.before.before.before.before
 sought v =
     let d = v.before.before.before.before in
     let s = start_at d in
-    v.seek.ensures ∙ ap (cond (not s.args.start) (fore_at s) (back_at s)) (v.before.pick3.ensures ∙ ap (λ (x : ℕ). cond s.args.start x (near_at d)) v.before.before.less2.ensures)
+    v.seek-sought.ensures ∙ ap (cond (not s.args.start) (fore_at s) (back_at s)) (v.before.pick-from.ensures ∙ ap (λ (x : ℕ). cond s.args.start x (near_at d)) v.before.before.less.ensures)
 
 -- within the tolerance the side is the one by what the search finds
-abbrev found_at : tie.After-seek → Option ℕ → Counted Side
+abbrev found_at : tie.After-seek-sought → Option ℕ → Counted Side
 found_at v o =
     let d = v.before.before.before.before in
     let a = (start_at d).args in
-    counted (pair_at a.start a.gap d.less.result (near_at d) o) v.seek.result.read
+    counted (pair_at a.start a.gap d.less-distance.result (near_at d) o) v.seek-sought.result.read
 
-near_is : (v : tie.After-seek) → found_at v (change_as v.seek.result.change) ≡ side_at (start_at v.before.before.before.before) (change_as (start_at v.before.before.before.before).args.found)
+near_is : (v : tie.After-seek-sought) → found_at v (change_as v.seek-sought.result.change) ≡ side_at (start_at v.before.before.before.before) (change_as (start_at v.before.before.before.before).args.found)
 near_is v =
     let d = v.before.before.before.before in
     let a = (start_at d).args in
-    side_near a.start a.gap a.tolerance d.less.result (near_at d) (sought_as v.seek.result) v.before.before.before.if1.false ∙ told d (sought_as v.seek.result) (sought v)
+    side_near a.start a.gap a.tolerance d.less-distance.result (near_at d) (sought_as v.seek-sought.result) v.before.before.before.if-tolerance-distance.false ∙ told d (sought_as v.seek-sought.result) (sought v)
 
-enum-known-found : tie.Need-enum-known-found
+enum-known-found : tie.Need-enum_known-found
 enum-known-found c = search rules
 
-enum_told : tie.Need-enum-told
+enum_told : tie.Need-enum_told-1
 enum_told c = search rules
 
-returns : tie.Need-returns
+returns : tie.Need-returns-in_default
 returns c =
     let s = c.before.before.before.before.before.before.before in
-    side_none (back_at s) (fore_at s) s.args.start s.args.gap s.args.tolerance s.args.sample ∙ sym (ap (λ (o : Change). side_at s (change_as o)) c.enum_told.given.1)
+    side_none (back_at s) (fore_at s) s.args.start s.args.gap s.args.tolerance s.args.sample ∙ sym (ap (λ (o : Change). side_at s (change_as o)) c.enum_told-1.given.1)
 
 pick-requires : tie.Need-pick-requires
 pick-requires c κs = search rules
@@ -79,55 +79,55 @@ pick-requires c κs = search rules
 pick-requires-2 : tie.Need-pick-requires-2
 pick-requires-2 c κs = search rules
 
-less-requires : tie.Need-less-requires
+less-requires : tie.Need-less-distance-requires
 less-requires c κs = search rules
 
-returns-2 : tie.Need-returns-2
+returns-2 : tie.Need-returns-then-tolerance-distance
 returns-2 c =
     let d = c.before in
     let a = (start_at d).args in
-    side_far a.start a.gap a.tolerance d.less.result (near_at d) (beyond_at d) c.if1.true ∙ told d (beyond_at d) refl
+    side_far a.start a.gap a.tolerance d.less-distance.result (near_at d) (beyond_at d) c.if-tolerance-distance.true ∙ told d (beyond_at d) refl
 
-less-requires-2 : tie.Need-less-requires-2
+less-requires-2 : tie.Need-less-requires
 less-requires-2 c κs = search rules
 
-pick-requires-3 : tie.Need-pick-requires-3
+pick-requires-3 : tie.Need-pick-from-requires
 pick-requires-3 c κs = search rules
 
-seek-requires : tie.Need-seek-requires
+seek-requires : tie.Need-seek-sought-requires
 seek-requires c κs = search rules
 
-enum-known-change : tie.Need-enum-known-change
+enum-known-change : tie.Need-enum_known-change
 enum-known-change c = search rules
 
-enum-told-2 : tie.Need-enum-told-2
+enum-told-2 : tie.Need-enum_told-in_default-change
 enum-told-2 c = search rules
 
-returns-3 : tie.Need-returns-3
-returns-3 c = let v = c.before.before in sym (ap (λ (o : Change). found_at v (change_as o)) c.enum-told2.given.1) ∙ near_is v
+returns-3 : tie.Need-returns-in_default-change
+returns-3 c = let v = c.before.before in sym (ap (λ (o : Change). found_at v (change_as o)) c.enum_told-in_default-change-1.given.1) ∙ near_is v
 
-pick-requires-4 : tie.Need-pick-requires-4
+pick-requires-4 : tie.Need-pick-requires-3
 pick-requires-4 c κs = search rules
 
-pick-requires-5 : tie.Need-pick-requires-5
+pick-requires-5 : tie.Need-pick-requires-4
 pick-requires-5 c κs = search rules
 
-side-of-requires : tie.Need-side-of-requires
+side-of-requires : tie.Need-side_of-side-requires
 side-of-requires c κs = search rules
 
-returns-4 : tie.Need-returns-4
+returns-4 : tie.Need-returns
 returns-4 c =
     let m = c.before.before.before.before in
     let v = m.before.before in
     let d = v.before.before.before.before in
     let a = (start_at d).args in
-    ap (λ (o : Option Side). counted o v.seek.result.read)
-    (c.side-of.ensures ∙ ap₂ (λ (x y : ℕ). side_if (ltb (y - x) a.gap) (record { distance = d.less.result; first = x; last = y })) c.before.before.pick4.ensures c.before.pick5.ensures)
-    ∙ sym (ap (λ (o : Change). found_at v (change_as o)) m.change.given.1)
+    ap (λ (o : Option Side). counted o v.seek-sought.result.read)
+    (c.side_of-side.ensures ∙ ap₂ (λ (x y : ℕ). side_if (ltb (y - x) a.gap) (record { distance = d.less-distance.result; first = x; last = y })) c.before.before.pick-3.ensures c.before.pick-4.ensures)
+    ∙ sym (ap (λ (o : Change). found_at v (change_as o)) m.change-1.given.1)
     ∙ near_is v
 
-pub one-side-spec : {M : Type 1} → statement M
-one-side-spec =
+pub one_side_spec : {M : Type 1} → statement M
+one_side_spec =
     tie.close
     (tie.spec
     enum-known-found

@@ -28,83 +28,83 @@ few : (s : tie.Start) → (pair_at s).steps ≤ 4 * most_search
 few s = pair_read s.args.unitsize s.args.len s.args.samples.now (level_of s.args.l1.now s.args.l2.now s.args.l3.now s.args.l4.now) s.args.mask s.requires.most s.args.gap s.args.tolerance s.args.sample
 
 -- the pair, by the changes at both sides
-abbrev start_at : tie.After-next → tie.Start
+abbrev start_at : tie.After-next-n → tie.Start
 start_at k = k.before.before.before.before.before.before.before
 
-paired : (w : tie.After-between) (near : Option Side) → near ≡ side_as w.between.result
-    → let k = w.before.before.before in let s = start_at k in let p = sought_as k.before.previous.result in let n = sought_as k.next.result in or_asked near (p.steps + n.steps) (asked (back_at s) (fore_at s) s.args.gap s.args.tolerance s.args.sample p.found n.found) ≡ pair_at s
+paired : (w : tie.After-between-near) (near : Option Side) → near ≡ side_as w.between-near.result
+    → let k = w.before.before.before in let s = start_at k in let p = sought_as k.before.previous-p.result in let n = sought_as k.next-n.result in or_asked near (p.steps + n.steps) (asked (back_at s) (fore_at s) s.args.gap s.args.tolerance s.args.sample p.found n.found) ≡ pair_at s
 paired w near e =
     let k = w.before.before.before in
     let s = start_at k in
-    pair_is (back_at s) (fore_at s) s.args.gap s.args.tolerance s.args.sample near (sought_as k.before.previous.result) (sought_as k.next.result) (e ∙ w.between.ensures) k.before.previous.ensures k.next.ensures
+    pair_is (back_at s) (fore_at s) s.args.gap s.args.tolerance s.args.sample near (sought_as k.before.previous-p.result) (sought_as k.next-n.result) (e ∙ w.between-near.ensures) k.before.previous-p.ensures k.next-n.ensures
 
 -- the pair, where the sides are asked
-abbrev around : tie.After-one-side2 → tie.After-next
+abbrev around : tie.After-one_side-r → tie.After-next-n
 around r = r.before.before.before.before.before.before.before
 
-abbrev read_at : tie.After-one-side2 → ℕ
-read_at r = let k = around r in k.before.previous.result.read + k.next.result.read + r.before.one_side.result.read + r.one-side2.result.read
+abbrev read_at : tie.After-one_side-r → ℕ
+read_at r = let k = around r in k.before.previous-p.result.read + k.next-n.result.read + r.before.one_side-l.result.read + r.one_side-r.result.read
 
-sided : (r : tie.After-one-side2) → counted (nearer (side_as r.before.one_side.result.side) (side_as r.one-side2.result.side)) (read_at r) ≡ pair_at (start_at (around r))
+sided : (r : tie.After-one_side-r) → counted (nearer (side_as r.before.one_side-l.result.side) (side_as r.one_side-r.result.side)) (read_at r) ≡ pair_at (start_at (around r))
 sided r =
     let l = r.before in
     let e = l.before in
     ap₂ (counted {A = Side})
-    (ap₂ nearer (ap (λ (x : Counted Side). x.found) l.one_side.ensures) (ap (λ (x : Counted Side). x.found) r.one-side2.ensures))
-    (omega (arith, ap (λ (x : Counted Side). x.steps) l.one_side.ensures, ap (λ (x : Counted Side). x.steps) r.one-side2.ensures))
-    ∙ paired e.before.before none (sym (ap side_as e.enum-told2.given.1))
+    (ap₂ nearer (ap (λ (x : Counted Side). x.found) l.one_side-l.ensures) (ap (λ (x : Counted Side). x.found) r.one_side-r.ensures))
+    (omega (arith, ap (λ (x : Counted Side). x.steps) l.one_side-l.ensures, ap (λ (x : Counted Side). x.steps) r.one_side-r.ensures))
+    ∙ paired e.before.before none (sym (ap side_as e.enum_told-in_default-1.given.1))
 
-read_few : (r : tie.After-one-side2) → read_at r ≤ 4 * most_search
+read_few : (r : tie.After-one_side-r) → read_at r ≤ 4 * most_search
 read_few r = omega (arith, ap (λ (x : Counted Side). x.steps) (sided r), few (start_at (around r)))
 
-previous-requires : tie.Need-previous-requires
+previous-requires : tie.Need-previous-p-requires
 previous-requires c κs = search rules
 
-next-requires : tie.Need-next-requires
+next-requires : tie.Need-next-n-requires
 next-requires c κs = search rules
 
-add_read : tie.Need-overflow-add-read
+add_read : tie.Need-overflow_add-read
 add_read c =
     let k = c.before.before in
-    omega (arith, ap (λ (w : Walked). w.steps) k.before.previous.ensures, ap (λ (w : Walked). w.steps) k.next.ensures, few (start_at k))
+    omega (arith, ap (λ (w : Walked). w.steps) k.before.previous-p.ensures, ap (λ (w : Walked). w.steps) k.next-n.ensures, few (start_at k))
 
-between-requires : tie.Need-between-requires
+between-requires : tie.Need-between-near-requires
 between-requires c κs = search rules
 
-enum_told : tie.Need-enum-told
+enum_told : tie.Need-enum_told-1
 enum_told c = search rules
 
-returns : tie.Need-returns
+returns : tie.Need-returns-in-Pair
 returns c =
     let w = c.before.before in
     let k = w.before.before.before in
-    let e = ap side_as c.enum_told.given.1 in
-    ap (λ (o : Option Side). counted o (k.before.previous.result.read + k.next.result.read)) e ∙ paired w _ (sym e)
+    let e = ap side_as c.enum_told-1.given.1 in
+    ap (λ (o : Option Side). counted o (k.before.previous-p.result.read + k.next-n.result.read)) e ∙ paired w _ (sym e)
 
-enum-told-2 : tie.Need-enum-told-2
+enum-told-2 : tie.Need-enum_told-in_default
 enum-told-2 c = search rules
 
-one-side-requires : tie.Need-one-side-requires
+one-side-requires : tie.Need-one_side-l-requires
 one-side-requires c κs = search rules
 
-one-side-requires-2 : tie.Need-one-side-requires-2
+one-side-requires-2 : tie.Need-one_side-r-requires
 one-side-requires-2 c κs = search rules
 
-nearer-of-requires : tie.Need-nearer-of-requires
+nearer-of-requires : tie.Need-nearer_of-side-requires
 nearer-of-requires c κs = search rules
 
-add-read-2 : tie.Need-overflow-add-read-2
+add-read-2 : tie.Need-overflow_add-read-2
 add-read-2 c = omega (arith, read_few c.before.before)
 
-add-read-3 : tie.Need-overflow-add-read-3
+add-read-3 : tie.Need-overflow_add-read-3
 add-read-3 c = omega (arith, read_few c.before.before.before)
 
-returns-2 : tie.Need-returns-2
+returns-2 : tie.Need-returns
 returns-2 c =
     let r = c.before.before.before in
-    ap (λ (o : Option Side). counted o (read_at r)) c.before.before.nearer-of.ensures ∙ sided r
+    ap (λ (o : Option Side). counted o (read_at r)) c.before.before.nearer_of-side.ensures ∙ sided r
 
-pub pair-of-spec : {M : Type 1} → statement M
-pair-of-spec =
+pub pair_of_spec : {M : Type 1} → statement M
+pair_of_spec =
     tie.close
     (tie.spec previous-requires next-requires add_read between-requires enum_told returns enum-told-2 one-side-requires one-side-requires-2 nearer-of-requires add-read-2 add-read-3 returns-2)

@@ -4,14 +4,14 @@ use borrow.Author.Rules.{rules}
 use Rattle.burst.proofs.previous.Statement.{statement}
 use Rattle.burst.proofs.previous.Tie as tie
 
-prev-in-requires : tie.Need-prev-in-requires
+prev-in-requires : tie.Need-prev_in-requires
 prev-in-requires c κs = search rules
 
-sought-of-requires : tie.Need-sought-of-requires
+sought-of-requires : tie.Need-sought_of-requires
 sought-of-requires c κs = search rules
 
 returns : tie.Need-returns
-returns c = c.sought-of.ensures ∙ c.before.prev-in.ensures
+returns c = c.sought_of.ensures ∙ c.before.prev_in.ensures
 
-pub previous-spec : {M : Type 1} → statement M
-previous-spec = tie.close (tie.spec prev-in-requires sought-of-requires returns)
+pub previous_spec : {M : Type 1} → statement M
+previous_spec = tie.close (tie.spec prev-in-requires sought-of-requires returns)

@@ -6,14 +6,14 @@ use Rattle.burst.proofs.seek.Tie as tie
 next-requires : tie.Need-next-requires
 next-requires c κs = search rules
 
-returns : tie.Need-returns
-returns c = rw c.before.if1.true c.next.ensures
+returns : tie.Need-returns-then-forward
+returns c = rw c.before.if-forward.true c.next.ensures
 
 previous-requires : tie.Need-previous-requires
 previous-requires c κs = search rules
 
-returns-2 : tie.Need-returns-2
-returns-2 c = rw c.before.if1.false c.previous.ensures
+returns-2 : tie.Need-returns
+returns-2 c = rw c.before.if-forward.false c.previous.ensures
 
-pub seek-spec : {M : Type 1} → statement M
-seek-spec = tie.close (tie.spec next-requires returns previous-requires returns-2)
+pub seek_spec : {M : Type 1} → statement M
+seek_spec = tie.close (tie.spec next-requires returns previous-requires returns-2)

@@ -5,17 +5,17 @@ use Rattle.find.specs.Way.{place_of}
 use Rattle.burst.proofs.sought_of.Statement.{statement}
 use Rattle.burst.proofs.sought_of.Tie as tie
 
-enum-known-place : tie.Need-enum-known-place
+enum-known-place : tie.Need-enum_known-place
 enum-known-place c = search rules
 
-enum-known-place-2 : tie.Need-enum-known-place-2
+enum-known-place-2 : tie.Need-enum_known-place-in-Nothing-1
 enum-known-place-2 c = search rules
 
-returns : tie.Need-returns
-returns c = sym (ap place_of c.before.place.given.1)
+returns : tie.Need-returns-in-At
+returns c = sym (ap place_of c.before.place-1.given.1)
 
-returns-2 : tie.Need-returns-2
-returns-2 c = sym (ap place_of c.before.place2.given.1)
+returns-2 : tie.Need-returns-in-Nothing
+returns-2 c = sym (ap place_of c.before.place-in-Nothing-1.given.1)
 
-pub sought-of-spec : {M : Type 1} → statement M
-sought-of-spec = tie.close (tie.spec enum-known-place enum-known-place-2 returns returns-2)
+pub sought_of_spec : {M : Type 1} → statement M
+sought_of_spec = tie.close (tie.spec enum-known-place enum-known-place-2 returns returns-2)

@@ -4,11 +4,11 @@ use borrow.Author.Rules.{rules}
 use Rattle.capture.proofs.empty.Statement.{statement}
 use Rattle.capture.proofs.empty.Tie as tie
 
-unit-of-requires : tie.Need-unit-of-requires
+unit-of-requires : tie.Need-unit_of-requires
 unit-of-requires c κs = search rules
 
 returns : tie.Need-returns
-returns c = λ i. record { unit = c.unit-of.ensures i; capacity = c.before.args.capacity; len = 0; mark = none }
+returns c = λ i. record { unit = c.unit_of.ensures i; capacity = c.before.args.capacity; len = 0; mark = none }
 
-pub empty-spec : {M : Type 1} → statement M
-empty-spec = tie.close (tie.spec unit-of-requires returns)
+pub empty_spec : {M : Type 1} → statement M
+empty_spec = tie.close (tie.spec unit-of-requires returns)

@@ -13,7 +13,7 @@ use Rattle.capture.proofs.Calls.{held_stored}
 use Rattle.capture.proofs.get.Statement.{statement}
 use Rattle.capture.proofs.get.Tie as tie
 
-module _ (f : tie.After-refusal) where
+module _ (f : tie.After-refusal-n) where
   abbrev s : tie.Start
   s = f.before.before.before.before.before.before
 
@@ -30,26 +30,26 @@ module _ (f : tie.After-refusal) where
   abbrev own : List Row
   own = get_row st.len s.args.i ∷ []
 
-refusal-requires : tie.Need-refusal-requires
+refusal-requires : tie.Need-refusal-n-requires
 refusal-requires c κs = search rules
 
-returns : tie.Need-returns
-returns c = let f = c.before in refused_is _ (rows_refuse (st f) (lent f) (own f) f.refusal.ensures c.if1.true) c.if1.true
+returns : tie.Need-returns-then-n-ne0
+returns c = let f = c.before in refused_is _ (rows_refuse (st f) (lent f) (own f) f.refusal-n.ensures c.if-n-ne0.true) c.if-n-ne0.true
 
-returns-2 : tie.Need-returns-2
+returns-2 : tie.Need-returns-then-c-i
 returns-2 c =
     let f = c.before.before.before in
-    refused_is _ (rows_decide (st f) (lent f) (own f) f.refusal.ensures c.before.before.if1.false 9 (simp (le-leb _ _ c.if2.true))) (λ z. omega arith)
+    refused_is _ (rows_decide (st f) (lent f) (own f) f.refusal-n.ensures c.before.before.if-n-ne0.false 9 (simp (le-leb _ _ c.if-c-i.true))) (λ z. omega arith)
 
 get-requires : tie.Need-get-requires
 get-requires c κs =
     let f = c.before.before.before in
-    held_stored (st f) (s f).args.samples.now (levels f) (let_in f.refusal.ensures c.before.before.if1.false) _ c.if2.false
+    held_stored (st f) (s f).args.samples.now (levels f) (let_in f.refusal-n.ensures c.before.before.if-n-ne0.false) _ c.if-c-i.false
 
-returns-3 : tie.Need-returns-3
+returns-3 : tie.Need-returns
 returns-3 c =
     let f = c.before.before.before.before in
-    given_is _ (rows_decide (st f) (lent f) (own f) f.refusal.ensures c.before.before.before.if1.false 0 (simp (lt-leb _ _ c.before.if2.false))) refl c.get.ensures
+    given_is _ (rows_decide (st f) (lent f) (own f) f.refusal-n.ensures c.before.before.before.if-n-ne0.false 0 (simp (lt-leb _ _ c.before.if-c-i.false))) refl c.get.ensures
 
 pub get_spec : {M : Type 1} → statement M
 get_spec = tie.close (tie.spec refusal-requires returns returns-2 get-requires returns-3)

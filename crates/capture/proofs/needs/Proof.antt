@@ -12,27 +12,27 @@ use Rattle.capture.proofs.Answer.{refused_is, given_is}
 use Rattle.capture.proofs.needs.Statement.{statement}
 use Rattle.capture.proofs.needs.Tie as tie
 
-empty-requires : tie.Need-empty-requires
+empty-requires : tie.Need-empty-c-requires
 empty-requires c κs = search rules
 
-record-wrong-requires : tie.Need-record-wrong-requires
+record-wrong-requires : tie.Need-record_wrong-requires
 record-wrong-requires c κs = search rules
 
 -- row 1, by its test
-number_is : (f : tie.After-record-wrong) (t : Bool) → f.record-wrong.result ≡ t → let a = f.before.before.args in need_refusal (fresh a.channels a.capacity) ≡ cond t 1 0
-number_is f t e = ap (λ (b : Bool). cond b 1 0) (ap store_wrong (sym f.before.empty.ensures) ∙ sym f.record-wrong.ensures ∙ e)
+number_is : (f : tie.After-record_wrong) (t : Bool) → f.record_wrong.result ≡ t → let a = f.before.before.args in need_refusal (fresh a.channels a.capacity) ≡ cond t 1 0
+number_is f t e = ap (λ (b : Bool). cond b 1 0) (ap store_wrong (sym f.before.empty-c.ensures) ∙ sym f.record_wrong.ensures ∙ e)
 
-returns : tie.Need-returns
-returns c = let f = c.before in refused_is _ (sym (number_is f true c.if1.true)) (λ z. omega arith)
+returns : tie.Need-returns-then-record_wrong
+returns c = let f = c.before in refused_is _ (sym (number_is f true c.if-record_wrong.true)) (λ z. omega arith)
 
-sizes-of-requires : tie.Need-sizes-of-requires
+sizes-of-requires : tie.Need-sizes_of-requires
 sizes-of-requires c κs =
-    let r = ranged (store_of c.before.before.empty.result) (sym c.before.record-wrong.ensures ∙ c.if1.false) in
+    let r = ranged (store_of c.before.before.empty-c.result) (sym c.before.record_wrong.ensures ∙ c.if-record_wrong.false) in
     record { unit_size = r.unit_size; capacity = r.capacity_most }
 
-returns-2 : tie.Need-returns-2
-returns-2 c = let f = c.before.before in given_is _ (sym (number_is f false c.before.if1.false)) refl (memory_is _ _ c.sizes-of.ensures ∙ ap memory_need f.before.empty.ensures)
+returns-2 : tie.Need-returns
+returns-2 c = let f = c.before.before in given_is _ (sym (number_is f false c.before.if-record_wrong.false)) refl (memory_is _ _ c.sizes_of.ensures ∙ ap memory_need f.before.empty-c.ensures)
 
-pub needs-spec : {M : Type 1} → statement M
-needs-spec =
+pub needs_spec : {M : Type 1} → statement M
+needs_spec =
     tie.close (tie.spec empty-requires record-wrong-requires returns sizes-of-requires returns-2)

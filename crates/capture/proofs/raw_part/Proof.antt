@@ -13,7 +13,7 @@ use Rattle.capture.proofs.Calls.{lies_refused, lies_past, lies_part, chunk_start
 use Rattle.capture.proofs.raw_part.Statement.{statement}
 use Rattle.capture.proofs.raw_part.Tie as tie
 
-module _ (f : tie.After-refusal) where
+module _ (f : tie.After-refusal-n) where
   abbrev s : tie.Start
   s = f.before.before.before.before.before.before
 
@@ -26,47 +26,47 @@ module _ (f : tie.After-refusal) where
   abbrev levels : ℕ → List ℕ
   levels = level_of s.args.l1.now s.args.l2.now s.args.l3.now s.args.l4.now
 
-  inside : f.refusal.result ≡ 0 → Sound st (lent_of bytes levels)
-  inside z = let_in f.refusal.ensures z
+  inside : f.refusal-n.result ≡ 0 → Sound st (lent_of bytes levels)
+  inside z = let_in f.refusal-n.ensures z
 
-refusal-requires : tie.Need-refusal-requires
+refusal-requires : tie.Need-refusal-n-requires
 refusal-requires c κs = search rules
 
-returns : tie.Need-returns
-returns c = let f = c.before in lies_refused (st f) (bytes f) (levels f) (s f).args.chunk (λ z. c.if1.true (f.refusal.ensures ∙ z))
+returns : tie.Need-returns-then-n-ne0
+returns c = let f = c.before in lies_refused (st f) (bytes f) (levels f) (s f).args.chunk (λ z. c.if-n-ne0.true (f.refusal-n.ensures ∙ z))
 
-sub-if2 : tie.Need-overflow-sub-if2
+sub-if2 : tie.Need-overflow_sub-t-10
 sub-if2 c = search rules
 
-add-if2 : tie.Need-overflow-add-if2
-add-if2 c = let h = inside c.before.before c.before.if1.false in omega (arith, h.len_most, h.capacity_most)
+add-if2 : tie.Need-overflow_add-c
+add-if2 c = let h = inside c.before.before c.before.if-n-ne0.false in omega (arith, h.len_most, h.capacity_most)
 
-returns-2 : tie.Need-returns-2
+returns-2 : tie.Need-returns-then-c-chunk
 returns-2 c =
     let f = c.before.before.before in
-    lies_past (st f) (bytes f) (levels f) (s f).args.chunk (sym f.refusal.ensures ∙ c.before.before.if1.false) c.if2.true
+    lies_past (st f) (bytes f) (levels f) (s f).args.chunk (sym f.refusal-n.ensures ∙ c.before.before.if-n-ne0.false) c.if-c-chunk.true
 
-mul-t10 : tie.Need-overflow-mul-t10
+mul-t10 : tie.Need-overflow_mul-result
 mul-t10 c = search rules
 
-mul-t11 : tie.Need-overflow-mul-t11
+mul-t11 : tie.Need-overflow_mul-result-2
 mul-t11 c =
     let f = c.before.before.before.before in
-    omega (arith, (s f).well-formed, chunk_starts (st f) (bytes f) (levels f) (inside f c.before.before.before.if1.false) (s f).args.chunk c.before.if2.false)
+    omega (arith, (s f).well-formed, chunk_starts (st f) (bytes f) (levels f) (inside f c.before.before.before.if-n-ne0.false) (s f).args.chunk c.before.if-c-chunk.false)
 
-chunk-end-requires : tie.Need-chunk-end-requires
+chunk-end-requires : tie.Need-chunk_end-requires
 chunk-end-requires c κs = search rules
 
-mul-t13 : tie.Need-overflow-mul-t13
+mul-t13 : tie.Need-overflow_mul-result-3
 mul-t13 c =
     let f = c.before.before.before.before.before.before in
-    omega (arith, (s f).well-formed, chunk_ends (st f) (bytes f) (levels f) (inside f c.before.before.before.before.before.if1.false) (s f).args.chunk c.before.chunk-end.result c.before.chunk-end.ensures)
+    omega (arith, (s f).well-formed, chunk_ends (st f) (bytes f) (levels f) (inside f c.before.before.before.before.before.if-n-ne0.false) (s f).args.chunk c.before.chunk_end.result c.before.chunk_end.ensures)
 
-returns-3 : tie.Need-returns-3
+returns-3 : tie.Need-returns
 returns-3 c =
-    let z = c.before.before.before.before.before.if1.false in
+    let z = c.before.before.before.before.before.if-n-ne0.false in
     let f = c.before.before.before.before.before.before in
-    lies_part (st f) (bytes f) (levels f) (s f).args.chunk (inside f z) c.before.chunk-end.result (sym f.refusal.ensures ∙ z) c.before.chunk-end.ensures c.before.before.before.if2.false
+    lies_part (st f) (bytes f) (levels f) (s f).args.chunk (inside f z) c.before.chunk_end.result (sym f.refusal-n.ensures ∙ z) c.before.chunk_end.ensures c.before.before.before.if-c-chunk.false
 
-pub raw-part-spec : {M : Type 1} → statement M
-raw-part-spec = tie.close (tie.spec refusal-requires returns sub-if2 add-if2 returns-2 mul-t10 mul-t11 chunk-end-requires mul-t13 returns-3)
+pub raw_part_spec : {M : Type 1} → statement M
+raw_part_spec = tie.close (tie.spec refusal-requires returns sub-if2 add-if2 returns-2 mul-t10 mul-t11 chunk-end-requires mul-t13 returns-3)

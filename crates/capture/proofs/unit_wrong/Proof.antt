@@ -3,11 +3,11 @@ use borrow.Author.Tests.{eq-eqb, ne_eqb}
 use Rattle.capture.proofs.unit_wrong.Statement.{statement}
 use Rattle.capture.proofs.unit_wrong.Tie as tie
 
-returns : tie.Need-returns
-returns c = simp (eq-eqb _ _ c.if1.true)
+returns : tie.Need-returns-then-unitsize-eq1
+returns c = simp (eq-eqb _ _ c.if-unitsize-eq1.true)
 
-returns-2 : tie.Need-returns-2
-returns-2 c = simp (ne_eqb _ _ c.if1.false)
+returns-2 : tie.Need-returns
+returns-2 c = simp (ne_eqb _ _ c.if-unitsize-eq1.false)
 
-pub unit-wrong-spec : {M : Type 1} → statement M
-unit-wrong-spec = tie.close (tie.spec returns returns-2)
+pub unit_wrong_spec : {M : Type 1} → statement M
+unit_wrong_spec = tie.close (tie.spec returns returns-2)

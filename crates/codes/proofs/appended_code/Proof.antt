@@ -9,23 +9,23 @@ use Rattle.codes.proofs.Coded.{coded}
 use Rattle.codes.proofs.appended_code.Statement.{statement}
 use Rattle.codes.proofs.appended_code.Tie as tie
 
-enum-known-answer : tie.Need-enum-known-answer
+enum-known-answer : tie.Need-enum_known-answer
 enum-known-answer c = search rules
 
 code-requires : tie.Need-code-requires
 code-requires c κs = search rules
 
-enum-known-answer-2 : tie.Need-enum-known-answer-2
+enum-known-answer-2 : tie.Need-enum_known-answer-in-Done-1
 enum-known-answer-2 c = search rules
 
-element-write-numbers : tie.Need-element-write-numbers
+element-write-numbers : tie.Need-bounds-numbers-2
 element-write-numbers c = search rules
 
-returns : tie.Need-returns
+returns : tie.Need-returns-in-Refused
 returns c = search rules
 
-returns-2 : tie.Need-returns-2
-returns-2 c = coded len_number (λ (x : Appended). plain (grown_len (appended_of x))) _ _ _ c.before.answer2.given.1 refl refl
+returns-2 : tie.Need-returns-in-Done
+returns-2 c = coded len_number (λ (x : Appended). plain (grown_len (appended_of x))) _ _ _ c.before.answer-in-Done-1.given.1 refl refl
 
-pub appended-code-spec : {M : Type 1} → statement M
-appended-code-spec = tie.close (tie.spec enum-known-answer code-requires enum-known-answer-2 element-write-numbers returns returns-2)
+pub appended_code_spec : {M : Type 1} → statement M
+appended_code_spec = tie.close (tie.spec enum-known-answer code-requires enum-known-answer-2 element-write-numbers returns returns-2)

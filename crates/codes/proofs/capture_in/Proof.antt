@@ -5,38 +5,38 @@ use mathlib.Core.Path.{sym}
 use Rattle.codes.proofs.capture_in.Statement.{statement}
 use Rattle.codes.proofs.capture_in.Tie as tie
 
-element-copy-out-if1 : tie.Need-element-copy-out-if1
+element-copy-out-if1 : tie.Need-bounds-numbers-3
 element-copy-out-if1 c = search rules
 
-element-copy-out-t8 : tie.Need-element-copy-out-t8
+element-copy-out-t8 : tie.Need-bounds-numbers-0
 element-copy-out-t8 c = search rules
 
-element-copy-out-t11 : tie.Need-element-copy-out-t11
+element-copy-out-t11 : tie.Need-bounds-numbers-1
 element-copy-out-t11 c = search rules
 
-element-copy-out-t14 : tie.Need-element-copy-out-t14
+element-copy-out-t14 : tie.Need-bounds-numbers-2
 element-copy-out-t14 c = search rules
 
-returns : tie.Need-returns
-returns c = sym (simp (eq-eqb _ _ c.before.before.before.if1.true))
+returns : tie.Need-returns-then-numbers-eq0
+returns c = sym (simp (eq-eqb _ _ c.before.before.before.if-numbers-eq0.true))
 
-element-copy-out-t4 : tie.Need-element-copy-out-t4
+element-copy-out-t4 : tie.Need-bounds-numbers-0-2
 element-copy-out-t4 c = search rules
 
-element-copy-out-t20 : tie.Need-element-copy-out-t20
+element-copy-out-t20 : tie.Need-bounds-numbers-1-2
 element-copy-out-t20 c = search rules
 
-element-copy-out-t23 : tie.Need-element-copy-out-t23
+element-copy-out-t23 : tie.Need-bounds-numbers-2-2
 element-copy-out-t23 c = search rules
 
-element-copy-out-t26 : tie.Need-element-copy-out-t26
+element-copy-out-t26 : tie.Need-bounds-numbers-4
 element-copy-out-t26 c = search rules
 
-returns-2 : tie.Need-returns-2
-returns-2 c = sym (simp (ne_eqb _ _ c.before.before.before.before.if1.false))
+returns-2 : tie.Need-returns
+returns-2 c = sym (simp (ne_eqb _ _ c.before.before.before.before.if-numbers-eq0.false))
 
-pub capture-in-spec : {M : Type 1} → statement M
-capture-in-spec =
+pub capture_in_spec : {M : Type 1} → statement M
+capture_in_spec =
     tie.close
     (tie.spec
     element-copy-out-if1

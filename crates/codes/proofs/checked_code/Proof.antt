@@ -9,29 +9,29 @@ use Rattle.codes.proofs.Coded.{coded}
 use Rattle.codes.proofs.checked_code.Statement.{statement}
 use Rattle.codes.proofs.checked_code.Tie as tie
 
-enum-known-answer : tie.Need-enum-known-answer
+enum-known-answer : tie.Need-enum_known-answer
 enum-known-answer c = search rules
 
 code-requires : tie.Need-code-requires
 code-requires c κs = search rules
 
-enum_told : tie.Need-enum-told
+enum_told : tie.Need-enum_told-1
 enum_told c = search rules
 
-enum-known-answer-2 : tie.Need-enum-known-answer-2
+enum-known-answer-2 : tie.Need-enum_known-answer-in-Wrong-1
 enum-known-answer-2 c = search rules
 
-returns : tie.Need-returns
-returns c = (coded place_level (λ (x : Checked). fault (checked_of x)) _ _ _ c.before.before.answer.given.1 c.code.ensures refl, coded place_number (λ (x : Checked). fault (checked_of x)) _ _ _ c.before.before.answer.given.1 c.code.ensures refl)
+returns : tie.Need-returns-in-Refused
+returns c = (coded place_level (λ (x : Checked). fault (checked_of x)) _ _ _ c.before.before.answer-1.given.1 c.code.ensures refl, coded place_number (λ (x : Checked). fault (checked_of x)) _ _ _ c.before.before.answer-1.given.1 c.code.ensures refl)
 
-returns-2 : tie.Need-returns-2
-returns-2 c = (coded place_level (λ (x : Checked). fault (checked_of x)) _ _ _ c.enum_told.given.1 refl refl, coded place_number (λ (x : Checked). fault (checked_of x)) _ _ _ c.enum_told.given.1 refl refl)
+returns-2 : tie.Need-returns-in-Yes
+returns-2 c = (coded place_level (λ (x : Checked). fault (checked_of x)) _ _ _ c.enum_told-1.given.1 refl refl, coded place_number (λ (x : Checked). fault (checked_of x)) _ _ _ c.enum_told-1.given.1 refl refl)
 
-returns-3 : tie.Need-returns-3
-returns-3 c = (coded place_level (λ (x : Checked). fault (checked_of x)) _ _ _ c.before.answer2.given.1 refl refl, coded place_number (λ (x : Checked). fault (checked_of x)) _ _ _ c.before.answer2.given.1 refl refl)
+returns-3 : tie.Need-returns-in-Wrong
+returns-3 c = (coded place_level (λ (x : Checked). fault (checked_of x)) _ _ _ c.before.answer-in-Wrong-1.given.1 refl refl, coded place_number (λ (x : Checked). fault (checked_of x)) _ _ _ c.before.answer-in-Wrong-1.given.1 refl refl)
 
-pub checked-code-spec : {M : Type 1} → statement M
-checked-code-spec =
+pub checked_code_spec : {M : Type 1} → statement M
+checked_code_spec =
     tie.close
     (tie.spec
     enum-known-answer

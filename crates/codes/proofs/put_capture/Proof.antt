@@ -4,41 +4,41 @@ use Rattle.codes.proofs.Written.{mark_written}
 use Rattle.codes.proofs.put_capture.Statement.{statement}
 use Rattle.codes.proofs.put_capture.Tie as tie
 
-element-write-numbers : tie.Need-element-write-numbers
+element-write-numbers : tie.Need-bounds-numbers-0
 element-write-numbers c = search rules
 
-element-write-numbers-2 : tie.Need-element-write-numbers-2
+element-write-numbers-2 : tie.Need-bounds-numbers-1
 element-write-numbers-2 c = search rules
 
-element-write-numbers-3 : tie.Need-element-write-numbers-3
+element-write-numbers-3 : tie.Need-bounds-numbers-2
 element-write-numbers-3 c = search rules
 
-enum_told : tie.Need-enum-told
+enum_told : tie.Need-enum_told-1
 enum_told c = search rules
 
-element-write-numbers-4 : tie.Need-element-write-numbers-4
+element-write-numbers-4 : tie.Need-bounds-numbers-3
 element-write-numbers-4 c = search rules
 
-element-write-numbers-5 : tie.Need-element-write-numbers-5
+element-write-numbers-5 : tie.Need-bounds-numbers-4
 element-write-numbers-5 c = search rules
 
-enum-known-mark : tie.Need-enum-known-mark
+enum-known-mark : tie.Need-enum_known-mark
 enum-known-mark c = search rules
 
-element-write-numbers-6 : tie.Need-element-write-numbers-6
+element-write-numbers-6 : tie.Need-bounds-numbers-3-in-At
 element-write-numbers-6 c = search rules
 
-element-write-numbers-7 : tie.Need-element-write-numbers-7
+element-write-numbers-7 : tie.Need-bounds-numbers-4-in-At
 element-write-numbers-7 c = search rules
 
-returns : tie.Need-returns
-returns c = mark_written c.before.before.args.c _ c.before.before.args.numbers.now c.enum_told.given.1
+returns : tie.Need-returns-in-Absent
+returns c = mark_written c.before.before.args.c _ c.before.before.args.numbers.now c.enum_told-1.given.1
 
-returns-2 : tie.Need-returns-2
-returns-2 c = mark_written c.before.before.before.args.c _ c.before.before.before.args.numbers.now c.before.mark.given.1
+returns-2 : tie.Need-returns-in-At
+returns-2 c = mark_written c.before.before.before.args.c _ c.before.before.before.args.numbers.now c.before.mark-1.given.1
 
-pub put-capture-spec : {M : Type 1} → statement M
-put-capture-spec =
+pub put_capture_spec : {M : Type 1} → statement M
+put_capture_spec =
     tie.close
     (tie.spec
     element-write-numbers

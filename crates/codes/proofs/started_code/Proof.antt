@@ -9,26 +9,26 @@ use Rattle.codes.proofs.Coded.{coded}
 use Rattle.codes.proofs.started_code.Statement.{statement}
 use Rattle.codes.proofs.started_code.Tie as tie
 
-enum-known-answer : tie.Need-enum-known-answer
+enum-known-answer : tie.Need-enum_known-answer
 enum-known-answer c = search rules
 
 code-requires : tie.Need-code-requires
 code-requires c κs = search rules
 
-enum-known-answer-2 : tie.Need-enum-known-answer-2
+enum-known-answer-2 : tie.Need-enum_known-answer-in-Store-1
 enum-known-answer-2 c = search rules
 
-put-capture-requires : tie.Need-put-capture-requires
+put-capture-requires : tie.Need-put_capture-requires
 put-capture-requires c κs = search rules
 
-returns : tie.Need-returns
-returns c = coded store_numbers (λ (x : Started). plain (started_of x)) _ _ _ c.before.before.answer.given.1 c.code.ensures refl
+returns : tie.Need-returns-in-Refused
+returns c = coded store_numbers (λ (x : Started). plain (started_of x)) _ _ _ c.before.before.answer-1.given.1 c.code.ensures refl
 
-returns-2 : tie.Need-returns-2
-returns-2 c = coded store_numbers (λ (x : Started). plain (started_of x)) _ _ _ c.before.before.before.answer2.given.1 refl c.put-capture.ensures
+returns-2 : tie.Need-returns-in-Store
+returns-2 c = coded store_numbers (λ (x : Started). plain (started_of x)) _ _ _ c.before.before.before.answer-in-Store-1.given.1 refl c.put_capture.ensures
 
-pub started-code-spec : {M : Type 1} → statement M
-started-code-spec =
+pub started_code_spec : {M : Type 1} → statement M
+started_code_spec =
     tie.close
     (tie.spec
     enum-known-answer

@@ -13,41 +13,41 @@ use Rattle.codes.proofs.summed_code.Tie as tie
 abbrev said : Summed → Reply Node
 said x = perhaps (summed_of x)
 
-enum-known-answer : tie.Need-enum-known-answer
+enum-known-answer : tie.Need-enum_known-answer
 enum-known-answer c = search rules
 
 code-requires : tie.Need-code-requires
 code-requires c κs = search rules
 
-enum-known-answer-2 : tie.Need-enum-known-answer-2
+enum-known-answer-2 : tie.Need-enum_known-answer-in-Node-1
 enum-known-answer-2 c = search rules
 
-element-write-node : tie.Need-element-write-node
+element-write-node : tie.Need-bounds-node-0
 element-write-node c = search rules
 
-element-write-node-2 : tie.Need-element-write-node-2
+element-write-node-2 : tie.Need-bounds-node-1
 element-write-node-2 c = search rules
 
-element-write-node-3 : tie.Need-element-write-node-3
+element-write-node-3 : tie.Need-bounds-node-2
 element-write-node-3 c = search rules
 
-enum_told : tie.Need-enum-told
+enum_told : tie.Need-enum_told-1
 enum_told c = search rules
 
-returns : tie.Need-returns
-returns c = let e = c.before.before.answer.given.1 in (coded node_numbers said _ _ _ e c.code.ensures refl, coded count_number said _ _ _ e c.code.ensures refl)
+returns : tie.Need-returns-in-Refused
+returns c = let e = c.before.before.answer-1.given.1 in (coded node_numbers said _ _ _ e c.code.ensures refl, coded count_number said _ _ _ e c.code.ensures refl)
 
-returns-2 : tie.Need-returns-2
-returns-2 c = let e = c.before.answer2.given.1 in (coded node_numbers said _ _ _ e refl refl, coded count_number said _ _ _ e refl refl)
+returns-2 : tie.Need-returns-in-Node
+returns-2 c = let e = c.before.answer-in-Node-1.given.1 in (coded node_numbers said _ _ _ e refl refl, coded count_number said _ _ _ e refl refl)
 
-returns-3 : tie.Need-returns-3
+returns-3 : tie.Need-returns-in-Nothing
 returns-3 c =
     let a = c.before.before.args in
-    let e = c.enum_told.given.1 in
+    let e = c.enum_told-1.given.1 in
     (coded node_numbers said _ a.node.now _ e refl refl, coded count_number said _ a.count.now _ e refl refl)
 
-pub summed-code-spec : {M : Type 1} → statement M
-summed-code-spec =
+pub summed_code_spec : {M : Type 1} → statement M
+summed_code_spec =
     tie.close
     (tie.spec
     enum-known-answer

@@ -13,26 +13,26 @@ use Rattle.density.proofs.count_in.Tie as tie
 counted : Summed → Answer ℕ
 counted x = seen count_in (summed_of x)
 
-enum-known-summed : tie.Need-enum-known-summed
+enum-known-summed : tie.Need-enum_known-summed
 enum-known-summed c = search rules
 
-enum-known-summed-2 : tie.Need-enum-known-summed-2
+enum-known-summed-2 : tie.Need-enum_known-summed-in-Node-1
 enum-known-summed-2 c = search rules
 
-enum_told : tie.Need-enum-told
+enum_told : tie.Need-enum_told-1
 enum_told c = search rules
 
-returns : tie.Need-returns
+returns : tie.Need-returns-in-Refused
 unfolding counted
-returns c = sym (ap counted c.before.summed.given.1)
+returns c = sym (ap counted c.before.summed-1.given.1)
 
-returns-2 : tie.Need-returns-2
+returns-2 : tie.Need-returns-in-Node
 unfolding counted
-returns-2 c = sym (ap counted c.before.summed2.given.1)
+returns-2 c = sym (ap counted c.before.summed-in-Node-1.given.1)
 
-returns-3 : tie.Need-returns-3
+returns-3 : tie.Need-returns-in-Nothing
 unfolding counted
-returns-3 c = sym (ap counted c.enum_told.given.1)
+returns-3 c = sym (ap counted c.enum_told-1.given.1)
 
-pub count-in-spec : {M : Type 1} → statement M
-count-in-spec = tie.close (tie.spec enum-known-summed enum-known-summed-2 enum_told returns returns-2 returns-3)
+pub count_in_spec : {M : Type 1} → statement M
+count_in_spec = tie.close (tie.spec enum-known-summed enum-known-summed-2 enum_told returns returns-2 returns-3)

@@ -7,22 +7,22 @@ use Rattle.capture.proofs.Answer.{let_in, refused_is, given_is}
 use Rattle.density.proofs.density.Statement.{statement}
 use Rattle.density.proofs.density.Tie as tie
 
-refusal-requires : tie.Need-refusal-requires
+refusal-requires : tie.Need-refusal-n-requires
 refusal-requires c κs = search rules
 
-returns : tie.Need-returns
-returns c = refused_is _ c.before.refusal.ensures c.if1.true
+returns : tie.Need-returns-then-n-ne0
+returns c = refused_is _ c.before.refusal-n.ensures c.if-n-ne0.true
 
-summed-in-requires : tie.Need-summed-in-requires
-summed-in-requires c κs = let_in c.before.refusal.ensures c.if1.false
+summed-in-requires : tie.Need-summed_in-requires
+summed-in-requires c κs = let_in c.before.refusal-n.ensures c.if-n-ne0.false
 
-count-in-requires : tie.Need-count-in-requires
+count-in-requires : tie.Need-count_in-requires
 count-in-requires c κs = search rules
 
-returns-2 : tie.Need-returns-2
+returns-2 : tie.Need-returns
 returns-2 c =
     let m = c.before in
-    c.count-in.ensures ∙ ap (seen count_in) m.summed-in.ensures ∙ given_is _ m.before.before.refusal.ensures m.before.if1.false refl
+    c.count_in.ensures ∙ ap (seen count_in) m.summed_in.ensures ∙ given_is _ m.before.before.refusal-n.ensures m.before.if-n-ne0.false refl
 
-pub density-spec : {M : Type 1} → statement M
-density-spec = tie.close (tie.spec refusal-requires returns summed-in-requires count-in-requires returns-2)
+pub density_spec : {M : Type 1} → statement M
+density_spec = tie.close (tie.spec refusal-requires returns summed-in-requires count-in-requires returns-2)

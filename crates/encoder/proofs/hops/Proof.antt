@@ -15,13 +15,13 @@ use Rattle.encoder.proofs.Stretch.{Ends, ends, Left, left_starts, left_on, left_
 use Rattle.encoder.proofs.hops.Statement.{statement}
 use Rattle.encoder.proofs.hops.Tie as tie
 
-abbrev invariant-loop : tie.invariant-loop
+abbrev invariant-loop : tie.invariant-loop-p
 invariant-loop samples l1 l2 l3 l4 unitsize len a b mask forward₀ backward₀ skipped₀ quiet₀ p₀ forward backward skipped quiet p =
     (p ≤ len + 1) × (forward + backward + skipped < p)
     × Left unitsize (onward_in unitsize len samples (level_of l1 l2 l3 l4) mask) (sample_of unitsize samples) len a b
     (hops_from unitsize (onward_in unitsize len samples (level_of l1 l2 l3 l4) mask) (sample_of unitsize samples) len a b len 1 true no_turns) p quiet forward backward skipped
 
-abbrev decreases-loop : tie.decreases-loop
+abbrev decreases-loop : tie.decreases-loop-p
 decreases-loop samples l1 l2 l3 l4 unitsize len a b mask forward₀ backward₀ skipped₀ quiet₀ p₀ forward backward skipped quiet p = len - p
 
 -- what is lent, and the search over it
@@ -29,7 +29,7 @@ abbrev Start : Type 0
 Start = tie.Start invariant-loop decreases-loop
 
 -- the function's start, from the loop's head
-abbrev start_at : tie.At-loop invariant-loop decreases-loop → Start
+abbrev start_at : tie.At-loop-p invariant-loop decreases-loop → Start
 start_at p = p.before.before.before.before.before.before.before
 
 abbrev levels : Start → ℕ → List ℕ
@@ -41,97 +41,97 @@ samples s = sample_of s.args.unitsize s.args.samples.now
 abbrev seek : Start → ℕ → ℕ → ℕ
 seek s mask = onward_in s.args.unitsize s.args.len s.args.samples.now (levels s) mask
 
-pair-mask-requires : tie.Need-pair-mask-requires invariant-loop decreases-loop
+pair-mask-requires : tie.Need-pair_mask-mask-requires invariant-loop decreases-loop
 pair-mask-requires c κs = search rules
 
-loop-holds : tie.Need-loop-init invariant-loop decreases-loop
+loop-holds : tie.Need-loop-p-init invariant-loop decreases-loop
 loop-holds c = (search rules, search rules, left_starts _ _ _ _ _ _)
 
-resume-requires : tie.Need-resume-requires invariant-loop decreases-loop
+resume-requires : tie.Need-resume-i-requires invariant-loop decreases-loop
 resume-requires c κs =
     let s = start_at c.before in
-    (s.pre.0, omega (arith, c.before.loop.invariant.1), c.loop-test.true)
+    (s.pre.0, omega (arith, c.before.loop-p.invariant.1), c.loop-p-test.true)
 
-stretch-end-requires : tie.Need-stretch-end-requires invariant-loop decreases-loop
-stretch-end-requires c κs = (c.resume.ensures.low, c.resume.ensures.high, (start_at c.before.before).requires.0.most)
+stretch-end-requires : tie.Need-stretch_end-end-requires invariant-loop decreases-loop
+stretch-end-requires c κs = (c.resume-i.ensures.low, c.resume-i.ensures.high, (start_at c.before.before).requires.0.most)
 
 -- where the stretch ends
-stretch_ends : (c : tie.After-stretch-end invariant-loop decreases-loop) → let s = start_at c.before.before.before in Ends s.args.unitsize s.args.len c.before.before.before.loop.p c.before.resume.result c.stretch-end.result
-stretch_ends c = ends _ _ _ _ _ c.before.resume.ensures.high c.stretch-end.ensures
+stretch_ends : (c : tie.After-stretch_end-end invariant-loop decreases-loop) → let s = start_at c.before.before.before in Ends s.args.unitsize s.args.len c.before.before.before.loop-p.p c.before.resume-i.result c.stretch_end-end.result
+stretch_ends c = ends _ _ _ _ _ c.before.resume-i.ensures.high c.stretch_end-end.ensures
 
-sub-scan : tie.Need-overflow-sub-scan invariant-loop decreases-loop
-sub-scan c = omega (arith, c.before.resume.ensures.low, c.before.before.before.loop.invariant.1)
+sub-scan : tie.Need-overflow_sub-i invariant-loop decreases-loop
+sub-scan c = omega (arith, c.before.resume-i.ensures.low, c.before.before.before.loop-p.invariant.1)
 
-sub-scan-2 : tie.Need-overflow-sub-scan-2 invariant-loop decreases-loop
+sub-scan-2 : tie.Need-overflow_sub-end invariant-loop decreases-loop
 sub-scan-2 c = (stretch_ends c).least
 
-scan-requires : tie.Need-scan-requires invariant-loop decreases-loop
+scan-requires : tie.Need-scan-t-requires invariant-loop decreases-loop
 scan-requires c κs =
     let s = start_at c.before.before.before in
     let bytes = s.pre.0.bytes in
     let e = stretch_ends c in
-    (bytes.unit_size, e.few, omega (arith, bytes.room, mul-le-mul_right s.args.unitsize (read c.before.before.before.loop.invariant.1 c.before.resume.ensures.low e.least e.most)), s.pre.1, s.pre.2)
+    (bytes.unit_size, e.few, omega (arith, bytes.room, mul-le-mul_right s.args.unitsize (read c.before.before.before.loop-p.invariant.1 c.before.resume-i.ensures.low e.least e.most)), s.pre.1, s.pre.2)
   where
     -- the last sample that is read is stored
     read : {f p i end len : ℕ} → f < p → p ≤ i → i ≤ end → end ≤ len → i - 1 + (end - i) + 1 ≤ len
     read a b d e = omega (arith, a, b, d, e)
 
 -- the stretch in numbers
-known : (c : tie.After-scan invariant-loop decreases-loop) → let s = start_at c.before.before.before.before in let p = c.before.before.before.before.loop in
-    Turn s.args.len p.p c.before.before.resume.result c.before.stretch-end.result p.forward p.backward p.skipped c.scan.result.forward c.scan.result.backward c.scan.result.skipped
+known : (c : tie.After-scan-t invariant-loop decreases-loop) → let s = start_at c.before.before.before.before in let p = c.before.before.before.before.loop-p in
+    Turn s.args.len p.p c.before.before.resume-i.result c.before.stretch_end-end.result p.forward p.backward p.skipped c.scan-t.result.forward c.scan-t.result.backward c.scan-t.result.skipped
 known c =
     let s = start_at c.before.before.before.before in
-    let p = c.before.before.before.before.loop in
-    turn s.args.unitsize (seek s _) (samples s) s.args.len s.args.a s.args.b p.p p.invariant.1 c.before.before.before.loop-test.true c.before.before.resume.ensures c.before.stretch-end.ensures c.scan.ensures
+    let p = c.before.before.before.before.loop-p in
+    turn s.args.unitsize (seek s _) (samples s) s.args.len s.args.a s.args.b p.p p.invariant.1 c.before.before.before.loop-p-test.true c.before.before.resume-i.ensures c.before.stretch_end-end.ensures c.scan-t.ensures
 
 -- no count leaves 64 bits
-most : (c : tie.After-scan invariant-loop decreases-loop) → let s = start_at c.before.before.before.before in s.args.len ≤ most_samples
+most : (c : tie.After-scan-t invariant-loop decreases-loop) → let s = start_at c.before.before.before.before in s.args.len ≤ most_samples
 most c = (start_at c.before.before.before.before).requires.0.most
 
-add-forward : tie.Need-overflow-add-forward invariant-loop decreases-loop
+add-forward : tie.Need-overflow_add-forward invariant-loop decreases-loop
 add-forward c = let k = known c.before in record { fits = omega (arith, k.before, k.inside, k.scanned, most c.before) }
 
-add-backward : tie.Need-overflow-add-backward invariant-loop decreases-loop
+add-backward : tie.Need-overflow_add-backward invariant-loop decreases-loop
 add-backward c = let k = known c.before.before in record { fits = omega (arith, k.before, k.inside, k.scanned, most c.before.before) }
 
-add-skipped : tie.Need-overflow-add-skipped invariant-loop decreases-loop
+add-skipped : tie.Need-overflow_add-skipped invariant-loop decreases-loop
 add-skipped c = let k = known c.before.before.before in record { fits = omega (arith, k.before, k.inside, k.scanned, most c.before.before.before) }
 
-add-quiet-behind : tie.Need-overflow-add-quiet-behind invariant-loop decreases-loop
+add-quiet-behind : tie.Need-overflow_add-t invariant-loop decreases-loop
 add-quiet-behind c = record { fits = omega (arith, (known c.before.before.before.before).scanned) }
 
-add-quiet-behind-2 : tie.Need-overflow-add-quiet-behind-2 invariant-loop decreases-loop
+add-quiet-behind-2 : tie.Need-overflow_add-t-in-loop-p invariant-loop decreases-loop
 add-quiet-behind-2 c = record { fits = omega (arith, (known c.before.before.before.before.before).scanned) }
 
-quiet-behind-requires : tie.Need-quiet-behind-requires invariant-loop decreases-loop
-quiet-behind-requires c κs = let z = c.before.before.before.before.before in (z.before.before.resume.ensures.low, omega (arith, z.before.before.resume.ensures.high, most z))
+quiet-behind-requires : tie.Need-quiet_behind-quiet-requires invariant-loop decreases-loop
+quiet-behind-requires c κs = let z = c.before.before.before.before.before in (z.before.before.resume-i.ensures.low, omega (arith, z.before.before.resume-i.ensures.high, most z))
 
-loop-less : tie.Need-loop-smaller invariant-loop decreases-loop
+loop-less : tie.Need-loop-p-smaller invariant-loop decreases-loop
 loop-less c = let k = known c.before.before.before.before.before.before in omega (arith, k.later, k.inside, k.upto)
 
-loop-again : tie.Need-loop-preserved invariant-loop decreases-loop
+loop-again : tie.Need-loop-p-preserved invariant-loop decreases-loop
 loop-again c =
     let z = c.before.before.before.before.before.before in
     let k = known z in
     let s = start_at z.before.before.before.before in (
       omega (arith, k.upto),
       k.after,
-      left_on s.args.unitsize (seek s _) (samples s) s.args.len s.args.a s.args.b z.before.before.before.before.loop.invariant.2 k.inside z.before.before.resume.ensures z.before.stretch-end.ensures z.scan.ensures c.quiet-behind.ensures,
+      left_on s.args.unitsize (seek s _) (samples s) s.args.len s.args.a s.args.b z.before.before.before.before.loop-p.invariant.2 k.inside z.before.before.resume-i.ensures z.before.stretch_end-end.ensures z.scan-t.ensures c.quiet_behind-quiet.ensures,
     )
 
 returns : tie.Need-returns invariant-loop decreases-loop
 unfolding hops_of
 returns c =
-    let p = c.before.loop in
+    let p = c.before.loop-p in
     let s = start_at c.before in
-    let all = left_ends _ _ _ _ _ _ p.invariant.2 c.loop-test.false ∙ ap (λ (m : ℕ). hops_from s.args.unitsize (seek s m) (samples s) s.args.len s.args.a s.args.b s.args.len 1 true no_turns) c.before.before.pair-mask.ensures in (
+    let all = left_ends _ _ _ _ _ _ p.invariant.2 c.loop-p-test.false ∙ ap (λ (m : ℕ). hops_from s.args.unitsize (seek s m) (samples s) s.args.len s.args.a s.args.b s.args.len 1 true no_turns) c.before.before.pair_mask-mask.ensures in (
       all,
       omega (arith, p.invariant.0, p.invariant.1, s.pre.0.most),
       omega (arith, p.invariant.0, p.invariant.1, s.pre.0.most),
     )
 
-pub hops-spec : {M : Type 1} → statement M
-hops-spec =
+pub hops_spec : {M : Type 1} → statement M
+hops_spec =
     tie.close
     (tie.spec
     invariant-loop

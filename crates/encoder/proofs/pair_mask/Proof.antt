@@ -5,14 +5,14 @@ use lib.Bits.{bit_or}
 use Rattle.encoder.proofs.pair_mask.Statement.{statement}
 use Rattle.encoder.proofs.pair_mask.Tie as tie
 
-line-bit-requires : tie.Need-line-bit-requires
+line-bit-requires : tie.Need-line_bit-requires
 line-bit-requires c κs = search rules
 
-line-bit-requires-2 : tie.Need-line-bit-requires-2
+line-bit-requires-2 : tie.Need-line_bit-requires-2
 line-bit-requires-2 c κs = search rules
 
 returns : tie.Need-returns
-returns c = ap₂ bit_or c.before.line-bit.ensures c.line-bit2.ensures
+returns c = ap₂ bit_or c.before.line_bit.ensures c.line_bit-2.ensures
 
-pub pair-mask-spec : {M : Type 1} → statement M
-pair-mask-spec = tie.close (tie.spec line-bit-requires line-bit-requires-2 returns)
+pub pair_mask_spec : {M : Type 1} → statement M
+pair_mask_spec = tie.close (tie.spec line-bit-requires line-bit-requires-2 returns)

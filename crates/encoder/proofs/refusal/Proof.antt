@@ -20,35 +20,35 @@ lent s = lent_of s.args.samples.now (level_of s.args.l1.now s.args.l2.now s.args
 abbrev own : tie.Start → List Row
 own s = pair_row top_line s.args.a s.args.b ∷ []
 
-abbrev start : tie.After-refusal → tie.Start
+abbrev start : tie.After-refusal-number → tie.Start
 start f = f.before.before.before.before.before.before
 
 -- rows 1 and 2 pass: 14 is left
-left : (c : tie.After-pair-wrong) (t : Bool) → c.pair-wrong.result ≡ t → let s = start c.before.before in cond t 14 0 ≡ first_of (store_rows (st s) (lent s) (own s))
+left : (c : tie.After-pair_wrong) (t : Bool) → c.pair_wrong.result ≡ t → let s = start c.before.before in cond t 14 0 ≡ first_of (store_rows (st s) (lent s) (own s))
 left c t e =
     let k = c.before.before in
     let s = start k in
-    rows_decide (st s) (lent s) (own s) k.refusal.ensures c.before.if1.false _ (ap (λ (b : Bool). cond b 14 0) (sym e ∙ c.pair-wrong.ensures))
+    rows_decide (st s) (lent s) (own s) k.refusal-number.ensures c.before.if-number-ne0.false _ (ap (λ (b : Bool). cond b 14 0) (sym e ∙ c.pair_wrong.ensures))
 
-refusal-requires : tie.Need-refusal-requires
+refusal-requires : tie.Need-refusal-number-requires
 refusal-requires c κs = search rules
 
-returns : tie.Need-returns
+returns : tie.Need-returns-then-number-ne0
 returns c =
     let s = start c.before in
-    rows_refuse (st s) (lent s) (own s) c.before.refusal.ensures c.if1.true
+    rows_refuse (st s) (lent s) (own s) c.before.refusal-number.ensures c.if-number-ne0.true
 
-cast-pair-wrong : tie.Need-overflow-cast-pair-wrong
+cast-pair-wrong : tie.Need-overflow_cast-pair_wrong
 cast-pair-wrong c = search rules
 
-pair-wrong-requires : tie.Need-pair-wrong-requires
+pair-wrong-requires : tie.Need-pair_wrong-requires
 pair-wrong-requires c κs = search rules
 
-returns-2 : tie.Need-returns-2
-returns-2 c = left c.before true c.if2.true
+returns-2 : tie.Need-returns-then-pair_wrong
+returns-2 c = left c.before true c.if-pair_wrong.true
 
-returns-3 : tie.Need-returns-3
-returns-3 c = left c.before false c.if2.false
+returns-3 : tie.Need-returns
+returns-3 c = left c.before false c.if-pair_wrong.false
 
-pub refusal-spec : {M : Type 1} → statement M
-refusal-spec = tie.close (tie.spec refusal-requires returns cast-pair-wrong pair-wrong-requires returns-2 returns-3)
+pub refusal_spec : {M : Type 1} → statement M
+refusal_spec = tie.close (tie.spec refusal-requires returns cast-pair-wrong pair-wrong-requires returns-2 returns-3)

@@ -20,7 +20,7 @@ abbrev levels : tie.Start → ℕ → List ℕ
 levels s = level_of s.args.l1.now s.args.l2.now s.args.l3.now s.args.l4.now
 
 -- the function's start
-abbrev start_at : tie.After-chunk-end → tie.Start
+abbrev start_at : tie.After-chunk_end-hi → tie.Start
 start_at c = c.before.before.before.before.before.before.before
 
 -- a capture's first samples, and the nodes below them, lie in memory
@@ -33,15 +33,15 @@ part_of_lem unit len hi samples levels s h = record {
     first_le : (hi len : ℕ) → hi ≤ len → hi - 0 ≤ len
     first_le hi len h = omega (arith, h)
 
-chunk-end-requires : tie.Need-chunk-end-requires
+chunk-end-requires : tie.Need-chunk_end-hi-requires
 chunk-end-requires c κs =
     let s = c.before.before.before.before.before.before in
     (omega (arith, div-mul-le_self s.args.p chunk, s.requires.2), s.requires.0.most)
 
-sub-get : tie.Need-overflow-sub-get
+sub-get : tie.Need-overflow_sub-p
 sub-get c = search rules
 
-get-requires : tie.Need-get-requires
+get-requires : tie.Need-get-value-requires
 get-requires c κs =
     let s = start_at c in
     bytes_held s.args.unitsize s.args.len _ s.args.samples.now s.pre.0.bytes (omega (arith, s.pre.1, s.pre.2))
@@ -49,21 +49,21 @@ get-requires c κs =
 pass-requires : tie.Need-pass-requires
 pass-requires c κs =
     let s = start_at c.before in
-    let e = c.before.chunk-end.ensures in
-    (part_of_lem s.args.unitsize s.args.len c.before.chunk-end.result s.args.samples.now (levels s) s.pre.0 (omega (arith, e)), omega arith, omega (arith, e, chunk_inside s.args.len s.args.p s.pre.2))
+    let e = c.before.chunk_end-hi.ensures in
+    (part_of_lem s.args.unitsize s.args.len c.before.chunk_end-hi.result s.args.samples.now (levels s) s.pre.0 (omega (arith, e)), omega arith, omega (arith, e, chunk_inside s.args.len s.args.p s.pre.2))
 
-returns : tie.Need-returns
+returns : tie.Need-returns-then-quiet
 returns c =
     let s = start_at c.before.before in
-    let e = c.before.before.chunk-end.ensures in
-    resumed_on (onward_in s.args.unitsize s.args.len s.args.samples.now (levels s) s.args.mask) s.args.len s.args.p _ c.before.before.before.if1.true
-    (c.pass.ensures.0 ∙ ap₂ (λ (h v : ℕ). pass_from s.args.unitsize 0 h s.args.samples.now (levels s) s.args.mask s.args.p v) e c.before.get.ensures)
+    let e = c.before.before.chunk_end-hi.ensures in
+    resumed_on (onward_in s.args.unitsize s.args.len s.args.samples.now (levels s) s.args.mask) s.args.len s.args.p _ c.before.before.before.if-quiet.true
+    (c.pass.ensures.0 ∙ ap₂ (λ (h v : ℕ). pass_from s.args.unitsize 0 h s.args.samples.now (levels s) s.args.mask s.args.p v) e c.before.get-value.ensures)
     c.pass.ensures.1 (omega (arith, c.pass.ensures.2, e))
 
-returns-2 : tie.Need-returns-2
+returns-2 : tie.Need-returns
 returns-2 c =
     let s = c.before.before.before.before.before.before in
-    resumed_here (onward_in s.args.unitsize s.args.len s.args.samples.now (levels s) s.args.mask) s.args.len s.args.p c.if1.false s.requires.2
+    resumed_here (onward_in s.args.unitsize s.args.len s.args.samples.now (levels s) s.args.mask) s.args.len s.args.p c.if-quiet.false s.requires.2
 
-pub resume-spec : {M : Type 1} → statement M
-resume-spec = tie.close (tie.spec chunk-end-requires sub-get get-requires pass-requires returns returns-2)
+pub resume_spec : {M : Type 1} → statement M
+resume_spec = tie.close (tie.spec chunk-end-requires sub-get get-requires pass-requires returns returns-2)

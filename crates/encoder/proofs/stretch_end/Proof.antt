@@ -15,47 +15,47 @@ ended : (s : tie.Start) (t u : Bool) → leb (s.args.p + 256) s.args.i ≡ t →
     → r ≡ cond t (border s.args.len 32 s.args.i) (border s.args.len (cond u 128 512) s.args.i) → r ≡ stretch_end s.args.unitsize s.args.len s.args.p s.args.i
 ended s t u e f q = q ∙ sym (ap₂ (λ (b d : Bool). cond b (border s.args.len 32 s.args.i) (border s.args.len (cond d 128 512) s.args.i)) e f)
 
-add-if1 : tie.Need-overflow-add-if1
+add-if1 : tie.Need-overflow_add-p
 add-if1 c = search rules
 
-add-lesser : tie.Need-overflow-add-lesser
+add-lesser : tie.Need-overflow_add-i
 add-lesser c = search rules
 
-mul-lesser : tie.Need-overflow-mul-lesser
+mul-lesser : tie.Need-overflow_mul-i
 mul-lesser c = search rules
 
 lesser-requires : tie.Need-lesser-requires
 lesser-requires c κs = search rules
 
-returns : tie.Need-returns
-returns c = let s = c.before.before in ended s true (eqb s.args.unitsize 1) (le-leb _ _ c.before.if1.true) refl c.lesser.ensures
+returns : tie.Need-returns-then-p-i
+returns c = let s = c.before.before in ended s true (eqb s.args.unitsize 1) (le-leb _ _ c.before.if-p-i.true) refl c.lesser.ensures
 
-add-lesser-2 : tie.Need-overflow-add-lesser-2
+add-lesser-2 : tie.Need-overflow_add-i-then-unitsize-eq1
 add-lesser-2 c = search rules
 
-mul-lesser-2 : tie.Need-overflow-mul-lesser-2
+mul-lesser-2 : tie.Need-overflow_mul-i-then-unitsize-eq1
 mul-lesser-2 c = search rules
 
-lesser-requires-2 : tie.Need-lesser-requires-2
+lesser-requires-2 : tie.Need-lesser-requires-then-unitsize-eq1
 lesser-requires-2 c κs = search rules
 
-returns-2 : tie.Need-returns-2
-returns-2 c = let s = c.before.before.before in ended s false true (lt-leb (s.args.p + 256) s.args.i (omega (arith, c.before.before.if1.false))) (eq-eqb _ _ c.before.if2.true) c.lesser2.ensures
+returns-2 : tie.Need-returns-then-unitsize-eq1
+returns-2 c = let s = c.before.before.before in ended s false true (lt-leb (s.args.p + 256) s.args.i (omega (arith, c.before.before.if-p-i.false))) (eq-eqb _ _ c.before.if-unitsize-eq1.true) c.lesser-then-unitsize-eq1.ensures
 
-add-lesser-3 : tie.Need-overflow-add-lesser-3
+add-lesser-3 : tie.Need-overflow_add-i-2
 add-lesser-3 c = search rules
 
-mul-lesser-3 : tie.Need-overflow-mul-lesser-3
+mul-lesser-3 : tie.Need-overflow_mul-i-2
 mul-lesser-3 c = search rules
 
-lesser-requires-3 : tie.Need-lesser-requires-3
+lesser-requires-3 : tie.Need-lesser-requires-2
 lesser-requires-3 c κs = search rules
 
-returns-3 : tie.Need-returns-3
-returns-3 c = let s = c.before.before.before in ended s false false (lt-leb (s.args.p + 256) s.args.i (omega (arith, c.before.before.if1.false))) (ne_eqb _ _ c.before.if2.false) c.lesser3.ensures
+returns-3 : tie.Need-returns
+returns-3 c = let s = c.before.before.before in ended s false false (lt-leb (s.args.p + 256) s.args.i (omega (arith, c.before.before.if-p-i.false))) (ne_eqb _ _ c.before.if-unitsize-eq1.false) c.lesser-2.ensures
 
-pub stretch-end-spec : {M : Type 1} → statement M
-stretch-end-spec =
+pub stretch_end_spec : {M : Type 1} → statement M
+stretch_end_spec =
     tie.close
     (tie.spec
     add-if1

@@ -5,14 +5,14 @@ use Rattle.encoder_scan.proofs.Laws.{asks_shifted, asks_none}
 use Rattle.encoder_scan.proofs.bit_one.Statement.{statement}
 use Rattle.encoder_scan.proofs.bit_one.Tie as tie
 
-shl-result : tie.Need-overflow-shl-result
+shl-result : tie.Need-overflow_shl-result
 shl-result c = search rules
 
-returns : tie.Need-returns
-returns c = asks_shifted c.before.args.line c.if1.true
+returns : tie.Need-returns-then-line-lt8
+returns c = asks_shifted c.before.args.line c.if-line-lt8.true
 
-returns-2 : tie.Need-returns-2
-returns-2 c = asks_none c.before.args.line (omega (arith, c.if1.false))
+returns-2 : tie.Need-returns-else-line-lt8
+returns-2 c = asks_none c.before.args.line (omega (arith, c.if-line-lt8.false))
 
-pub bit-one-spec : {M : Type 1} → statement M
-bit-one-spec = tie.close (tie.spec shl-result returns returns-2)
+pub bit_one_spec : {M : Type 1} → statement M
+bit_one_spec = tie.close (tie.spec shl-result returns returns-2)

@@ -18,29 +18,29 @@ Room s u = (s.args.p + s.args.n + 1) * u ≤ length s.args.samples.now
 abbrev Few : tie.Start → ℕ → Type 0
 Few s u = s.args.n ≤ widest u
 
-scan-one-requires : tie.Need-scan-one-requires
+scan-one-requires : tie.Need-scan_one-requires
 scan-one-requires c κs =
     let s = c.before.before in
-    (subst (Few s) c.if1.true s.requires.1, omega (arith, subst (Room s) c.if1.true s.requires.2))
+    (subst (Few s) c.if-unitsize-eq1.true s.requires.1, omega (arith, subst (Room s) c.if-unitsize-eq1.true s.requires.2))
 
-scan-two-requires : tie.Need-scan-two-requires
+scan-two-requires : tie.Need-scan_two-requires
 scan-two-requires c κs =
     let s = c.before.before in
-    let two = unit_two s.requires.0 c.if1.false in
+    let two = unit_two s.requires.0 c.if-unitsize-eq1.false in
     (subst (Few s) two s.requires.1, subst (Room s) two s.requires.2, s.requires.3, s.requires.4)
 
-returns : tie.Need-returns
+returns : tie.Need-returns-then-unitsize-eq1
 returns c =
     let a = c.before.before.before.args in
-    let r = c.scan-one.result in
-    subst (λ (u : ℕ). Counts (turns_of (sample_of u a.samples.now) a.a a.b a.p a.n) r.forward r.backward r.skipped) (sym c.before.if1.true) c.scan-one.ensures
+    let r = c.scan_one.result in
+    subst (λ (u : ℕ). Counts (turns_of (sample_of u a.samples.now) a.a a.b a.p a.n) r.forward r.backward r.skipped) (sym c.before.if-unitsize-eq1.true) c.scan_one.ensures
 
-returns-2 : tie.Need-returns-2
+returns-2 : tie.Need-returns-else-unitsize-eq1
 returns-2 c =
     let s = c.before.before.before in
     let a = s.args in
-    let r = c.scan-two.result in
-    subst (λ (u : ℕ). Counts (turns_of (sample_of u a.samples.now) a.a a.b a.p a.n) r.forward r.backward r.skipped) (sym (unit_two s.requires.0 c.before.if1.false)) c.scan-two.ensures
+    let r = c.scan_two.result in
+    subst (λ (u : ℕ). Counts (turns_of (sample_of u a.samples.now) a.a a.b a.p a.n) r.forward r.backward r.skipped) (sym (unit_two s.requires.0 c.before.if-unitsize-eq1.false)) c.scan_two.ensures
 
-pub scan-spec : {M : Type 1} → statement M
-scan-spec = tie.close (tie.spec scan-one-requires scan-two-requires returns returns-2)
+pub scan_spec : {M : Type 1} → statement M
+scan_spec = tie.close (tie.spec scan-one-requires scan-two-requires returns returns-2)

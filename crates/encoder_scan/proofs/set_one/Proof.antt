@@ -4,11 +4,11 @@ use borrow.Author.Tests.{eq-eqb, ne_eqb}
 use Rattle.encoder_scan.proofs.set_one.Statement.{statement}
 use Rattle.encoder_scan.proofs.set_one.Tie as tie
 
-returns : tie.Need-returns
-returns c = let a = c.before.args in rw (eq-eqb a.v 0 c.if1.true) refl
+returns : tie.Need-returns-then-v-eq0
+returns c = let a = c.before.args in rw (eq-eqb a.v 0 c.if-v-eq0.true) refl
 
-returns-2 : tie.Need-returns-2
-returns-2 c = let a = c.before.args in rw (ne_eqb a.v 0 c.if1.false) refl
+returns-2 : tie.Need-returns-else-v-eq0
+returns-2 c = let a = c.before.args in rw (ne_eqb a.v 0 c.if-v-eq0.false) refl
 
-pub set-one-spec : {M : Type 1} → statement M
-set-one-spec = tie.close (tie.spec returns returns-2)
+pub set_one_spec : {M : Type 1} → statement M
+set_one_spec = tie.close (tie.spec returns returns-2)

@@ -4,23 +4,23 @@ use Rattle.encoder_scan.proofs.Laws.{step_by}
 use Rattle.encoder_scan.proofs.step_one.Statement.{statement}
 use Rattle.encoder_scan.proofs.step_one.Tie as tie
 
-set-one-requires : tie.Need-set-one-requires
+set-one-requires : tie.Need-set_one-a-requires
 set-one-requires c κs = search rules
 
-set-one-requires-2 : tie.Need-set-one-requires-2
+set-one-requires-2 : tie.Need-set_one-b-requires
 set-one-requires-2 c κs = search rules
 
-set-one-requires-3 : tie.Need-set-one-requires-3
+set-one-requires-3 : tie.Need-set_one-a2-requires
 set-one-requires-3 c κs = search rules
 
-set-one-requires-4 : tie.Need-set-one-requires-4
+set-one-requires-4 : tie.Need-set_one-b2-requires
 set-one-requires-4 c κs = search rules
 
 returns : tie.Need-returns
 returns c =
     let start = c.before.before.before.before in
     let a = start.args in
-    step_by 256 a.x a.y a.before a.after start.ranges.before.fits start.ranges.after.fits c.before.before.before.set-one.ensures c.before.before.set-one2.ensures c.before.set-one3.ensures c.set-one4.ensures
+    step_by 256 a.x a.y a.before a.after start.ranges.before.fits start.ranges.after.fits c.before.before.before.set_one-a.ensures c.before.before.set_one-b.ensures c.before.set_one-a2.ensures c.set_one-b2.ensures
 
-pub step-one-spec : {M : Type 1} → statement M
-step-one-spec = tie.close (tie.spec set-one-requires set-one-requires-2 set-one-requires-3 set-one-requires-4 returns)
+pub step_one_spec : {M : Type 1} → statement M
+step_one_spec = tie.close (tie.spec set-one-requires set-one-requires-2 set-one-requires-3 set-one-requires-4 returns)

@@ -5,14 +5,14 @@ use Rattle.rules.specs.Trigger.{waiting}
 use Rattle.feeder.proofs.armed_by.Statement.{statement}
 use Rattle.feeder.proofs.armed_by.Tie as tie
 
-both-as-edge-requires : tie.Need-both-as-edge-requires
+both-as-edge-requires : tie.Need-both_as_edge-requires
 both-as-edge-requires c κs = search rules
 
-returns : tie.Need-returns
-returns c = simp c.before.before.if1.true (ap waiting c.both-as-edge.ensures)
+returns : tie.Need-returns-then-terms
+returns c = simp c.before.before.if-terms.true (ap waiting c.both_as_edge.ensures)
 
-returns-2 : tie.Need-returns-2
-returns-2 c = simp c.if1.false
+returns-2 : tie.Need-returns
+returns-2 c = simp c.if-terms.false
 
-pub armed-by-spec : {M : Type 1} → statement M
-armed-by-spec = tie.close (tie.spec both-as-edge-requires returns returns-2)
+pub armed_by_spec : {M : Type 1} → statement M
+armed_by_spec = tie.close (tie.spec both-as-edge-requires returns returns-2)

@@ -16,37 +16,37 @@ use Rattle.feeder.proofs.number_wrong.Tie as tie
 second : (wish : Pretrigger) (t : Float) (rate : ℕ) (b : Bool) → wish ≡ Seconds t → isNan t ≡ b → (b || ltb 1000000000 rate) ≡ number_wrong (wish_of wish) rate
 second wish t rate b e h = sym (ap (λ (w : Pretrigger). number_wrong (wish_of w) rate) e ∙ ap (λ (x : Bool). x || ltb 1000000000 rate) h)
 
-enum-known-wish : tie.Need-enum-known-wish
+enum-known-wish : tie.Need-enum_known-wish
 enum-known-wish c = search rules
 
-is-nan-requires : tie.Need-is-nan-requires
+is-nan-requires : tie.Need-is_nan-requires
 is-nan-requires c κs = search rules
 
-enum-known-wish-2 : tie.Need-enum-known-wish-2
+enum-known-wish-2 : tie.Need-enum_known-wish-in-Seconds-1
 enum-known-wish-2 c = search rules
 
-is-nan-requires-2 : tie.Need-is-nan-requires-2
+is-nan-requires-2 : tie.Need-is_nan-requires-in-Seconds
 is-nan-requires-2 c κs = search rules
 
-returns : tie.Need-returns
+returns : tie.Need-returns-then-is_nan
 returns c =
     let d = c.before.before.before in
     let s = d.before.before.args in
-    second s.wish _ s.rate true d.wish2.given.1 (sym c.before.is-nan2.ensures ∙ c.if1.true)
+    second s.wish _ s.rate true d.wish-in-Seconds-1.given.1 (sym c.before.is_nan-in-Seconds.ensures ∙ c.if-is_nan.true)
 
-returns-2 : tie.Need-returns-2
+returns-2 : tie.Need-returns-in-Fraction
 returns-2 c =
     let d = c.before.before in
-    c.is-nan.ensures ∙ sym (ap (λ (w : Pretrigger). number_wrong (wish_of w) d.before.before.args.rate) d.wish.given.1)
+    c.is_nan.ensures ∙ sym (ap (λ (w : Pretrigger). number_wrong (wish_of w) d.before.before.args.rate) d.wish-1.given.1)
 
-returns-3 : tie.Need-returns-3
+returns-3 : tie.Need-returns-else-is_nan
 returns-3 c =
     let d = c.before.before.before in
     let s = d.before.before.args in
-    second s.wish _ s.rate false d.wish2.given.1 (sym c.before.is-nan2.ensures ∙ c.if1.false)
+    second s.wish _ s.rate false d.wish-in-Seconds-1.given.1 (sym c.before.is_nan-in-Seconds.ensures ∙ c.if-is_nan.false)
 
-pub number-wrong-spec : {M : Type 1} → statement M
-number-wrong-spec =
+pub number_wrong_spec : {M : Type 1} → statement M
+number_wrong_spec =
     tie.close
     (tie.spec
     enum-known-wish

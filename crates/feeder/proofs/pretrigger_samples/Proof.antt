@@ -21,35 +21,35 @@ use Rattle.feeder.proofs.pretrigger_samples.Tie as tie
 rate_most : (wish : Pretrigger) (t : Float) (limit rate unit : ℕ) → wish ≡ Seconds t → Workable (wish_of wish) limit rate unit → rate ≤ 1000000000
 rate_most wish t limit rate unit e w = ltb-false 1000000000 rate ((neither (is_nan t) (ltb 1000000000 rate)).0 (sym (ap (λ (x : Pretrigger). number_wrong (wish_of x) rate) e) ∙ w.number)).1
 
-enum-known-wish : tie.Need-enum-known-wish
+enum-known-wish : tie.Need-enum_known-wish
 enum-known-wish c = search rules
 
-fraction-samples-requires : tie.Need-fraction-samples-requires
+fraction-samples-requires : tie.Need-fraction_samples-samples-requires
 fraction-samples-requires c κs = c.before.before.before.requires.limit_most
 
-enum-known-wish-2 : tie.Need-enum-known-wish-2
+enum-known-wish-2 : tie.Need-enum_known-wish-in-Seconds-1
 enum-known-wish-2 c = search rules
 
-seconds-samples-requires : tie.Need-seconds-samples-requires
+seconds-samples-requires : tie.Need-seconds_samples-requires
 seconds-samples-requires c κs =
     let s = c.before.before.before in
-    (rate_most s.args.wish _ s.args.limit s.args.rate s.args.unit c.before.wish2.given.1 s.requires, s.requires.unit_least)
+    (rate_most s.args.wish _ s.args.limit s.args.rate s.args.unit c.before.wish-in-Seconds-1.given.1 s.requires, s.requires.unit_least)
 
-returns : tie.Need-returns
+returns : tie.Need-returns-in-Fraction
 returns c =
     let d = c.before.before in
     let s = d.before.before.args in
-    ap (λ (n : ℕ). record { samples = n; was_cut = false }) c.fraction-samples.ensures
-    ∙ sym (ap (λ (w : Pretrigger). pre_for (wish_of w) s.limit s.rate s.unit) d.wish.given.1)
+    ap (λ (n : ℕ). record { samples = n; was_cut = false }) c.fraction_samples-samples.ensures
+    ∙ sym (ap (λ (w : Pretrigger). pre_for (wish_of w) s.limit s.rate s.unit) d.wish-1.given.1)
 
-returns-2 : tie.Need-returns-2
+returns-2 : tie.Need-returns-in-Seconds
 returns-2 c =
     let d = c.before.before in
     let s = d.before.before.args in
-    c.seconds-samples.ensures ∙ sym (ap (λ (w : Pretrigger). pre_for (wish_of w) s.limit s.rate s.unit) d.wish2.given.1)
+    c.seconds_samples.ensures ∙ sym (ap (λ (w : Pretrigger). pre_for (wish_of w) s.limit s.rate s.unit) d.wish-in-Seconds-1.given.1)
 
-pub pretrigger-samples-spec : {M : Type 1} → statement M
-pretrigger-samples-spec =
+pub pretrigger_samples_spec : {M : Type 1} → statement M
+pretrigger_samples_spec =
     tie.close
     (tie.spec
     enum-known-wish

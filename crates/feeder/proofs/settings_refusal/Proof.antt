@@ -11,74 +11,74 @@ use Rattle.feeder.proofs.Begun.{store_row, row_by}
 use Rattle.feeder.proofs.settings_refusal.Statement.{statement}
 use Rattle.feeder.proofs.settings_refusal.Tie as tie
 
-module _ (f : tie.After-refusal) where
+module _ (f : tie.After-refusal-first) where
   abbrev s : tie.Start
   s = f.before.before.before.before.before.before
 
   abbrev lent : Lent
   lent = lent_of s.args.samples.now (level_of s.args.l1.now s.args.l2.now s.args.l3.now s.args.l4.now)
 
-refusal-requires : tie.Need-refusal-requires
+refusal-requires : tie.Need-refusal-first-requires
 refusal-requires c κs = search rules
 
-returns : tie.Need-returns
+returns : tie.Need-returns-then-first-ne0
 returns c =
     let f = c.before in
     let a = (s f).args in
-    store_row (store_of a.fresh) (lent f) a.limit a.wrong (wish_of a.wish) a.rate f.refusal.ensures c.if1.true
+    store_row (store_of a.fresh) (lent f) a.limit a.wrong (wish_of a.wish) a.rate f.refusal-first.ensures c.if-first-ne0.true
 
-returns-2 : tie.Need-returns-2
+returns-2 : tie.Need-returns-then-wrong
 returns-2 c =
     let f = c.before.before in
     let a = (s f).args in
-    row_by (store_of a.fresh) (lent f) a.limit a.wrong (wish_of a.wish) a.rate f.refusal.ensures c.before.if1.false
-    true _ _ _ c.if2.true refl refl refl
+    row_by (store_of a.fresh) (lent f) a.limit a.wrong (wish_of a.wish) a.rate f.refusal-first.ensures c.before.if-first-ne0.false
+    true _ _ _ c.if-wrong.true refl refl refl
 
-returns-3 : tie.Need-returns-3
+returns-3 : tie.Need-returns-then-fresh-limit
 returns-3 c =
     let t3 = c.before.before in
     let f = t3.before.before in
     let a = (s f).args in
-    row_by (store_of a.fresh) (lent f) a.limit a.wrong (wish_of a.wish) a.rate f.refusal.ensures t3.before.if1.false
-    false true _ _ t3.if2.false (lt-ltb _ _ c.if3.true) refl refl
+    row_by (store_of a.fresh) (lent f) a.limit a.wrong (wish_of a.wish) a.rate f.refusal-first.ensures t3.before.if-first-ne0.false
+    false true _ _ t3.if-wrong.false (lt-ltb _ _ c.if-fresh-limit.true) refl refl
 
-wish-wrong-requires : tie.Need-wish-wrong-requires
+wish-wrong-requires : tie.Need-wish_wrong-requires
 wish-wrong-requires c κs = search rules
 
-returns-4 : tie.Need-returns-4
+returns-4 : tie.Need-returns-then-wish_wrong
 returns-4 c =
     let t4 = c.before.before in
     let t3 = t4.before.before in
     let f = t3.before.before in
     let a = (s f).args in
-    row_by (store_of a.fresh) (lent f) a.limit a.wrong (wish_of a.wish) a.rate f.refusal.ensures t3.before.if1.false
-    false false true _ t3.if2.false (le-ltb _ _ t4.if3.false) (sym c.before.wish-wrong.ensures ∙ c.if4.true) refl
+    row_by (store_of a.fresh) (lent f) a.limit a.wrong (wish_of a.wish) a.rate f.refusal-first.ensures t3.before.if-first-ne0.false
+    false false true _ t3.if-wrong.false (le-ltb _ _ t4.if-fresh-limit.false) (sym c.before.wish_wrong.ensures ∙ c.if-wish_wrong.true) refl
 
-number-wrong-requires : tie.Need-number-wrong-requires
+number-wrong-requires : tie.Need-number_wrong-requires
 number-wrong-requires c κs = search rules
 
-returns-5 : tie.Need-returns-5
+returns-5 : tie.Need-returns-then-number_wrong
 returns-5 c =
     let t5 = c.before.before in
     let t4 = t5.before.before in
     let t3 = t4.before.before in
     let f = t3.before.before in
     let a = (s f).args in
-    row_by (store_of a.fresh) (lent f) a.limit a.wrong (wish_of a.wish) a.rate f.refusal.ensures t3.before.if1.false
-    false false false true t3.if2.false (le-ltb _ _ t4.if3.false) (sym t5.before.wish-wrong.ensures ∙ t5.if4.false) (sym c.before.number-wrong.ensures ∙ c.if5.true)
+    row_by (store_of a.fresh) (lent f) a.limit a.wrong (wish_of a.wish) a.rate f.refusal-first.ensures t3.before.if-first-ne0.false
+    false false false true t3.if-wrong.false (le-ltb _ _ t4.if-fresh-limit.false) (sym t5.before.wish_wrong.ensures ∙ t5.if-wish_wrong.false) (sym c.before.number_wrong.ensures ∙ c.if-number_wrong.true)
 
-returns-6 : tie.Need-returns-6
+returns-6 : tie.Need-returns
 returns-6 c =
     let t5 = c.before.before in
     let t4 = t5.before.before in
     let t3 = t4.before.before in
     let f = t3.before.before in
     let a = (s f).args in
-    row_by (store_of a.fresh) (lent f) a.limit a.wrong (wish_of a.wish) a.rate f.refusal.ensures t3.before.if1.false
-    false false false false t3.if2.false (le-ltb _ _ t4.if3.false) (sym t5.before.wish-wrong.ensures ∙ t5.if4.false) (sym c.before.number-wrong.ensures ∙ c.if5.false)
+    row_by (store_of a.fresh) (lent f) a.limit a.wrong (wish_of a.wish) a.rate f.refusal-first.ensures t3.before.if-first-ne0.false
+    false false false false t3.if-wrong.false (le-ltb _ _ t4.if-fresh-limit.false) (sym t5.before.wish_wrong.ensures ∙ t5.if-wish_wrong.false) (sym c.before.number_wrong.ensures ∙ c.if-number_wrong.false)
 
-pub settings-refusal-spec : {M : Type 1} → statement M
-settings-refusal-spec =
+pub settings_refusal_spec : {M : Type 1} → statement M
+settings_refusal_spec =
     tie.close
     (tie.spec
     refusal-requires

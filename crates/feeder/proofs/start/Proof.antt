@@ -12,10 +12,10 @@ use Rattle.feeder.proofs.Begun.{start_refused, workable, pre_fits, too_many, rin
 use Rattle.feeder.proofs.start.Statement.{statement}
 use Rattle.feeder.proofs.start.Tie as tie
 
-unit-of-requires : tie.Need-unit-of-requires
+unit-of-requires : tie.Need-unit_of-unitsize-requires
 unit-of-requires c κs = search rules
 
-settings-refusal-requires : tie.Need-settings-refusal-requires
+settings-refusal-requires : tie.Need-settings_refusal-number-requires
 settings-refusal-requires c κs = search rules
 
 -- what was lent
@@ -25,54 +25,54 @@ lent s = lent_of s.args.samples.now (level_of s.args.l1.now s.args.l2.now s.args
 abbrev ring : tie.Start → ℕ
 ring s = length s.args.ring.now
 
-abbrev start : tie.After-settings-refusal → tie.Start
+abbrev start : tie.After-settings_refusal-number → tie.Start
 start n = let known = n.before.before in known.before.before.before.before.before.before
 
-returns : tie.Need-returns
+returns : tie.Need-returns-then-number-ne0
 returns c =
     let n = c.before in
     let s = (start n).args in
-    start_refused s.channels s.capacity s.limit s.terms s.wish s.rate (lent (start n)) (ring (start n)) n.before.unit-of.result n.before.unit-of.ensures n.settings-refusal.ensures c.if1.true
+    start_refused s.channels s.capacity s.limit s.terms s.wish s.rate (lent (start n)) (ring (start n)) n.before.unit_of-unitsize.result n.before.unit_of-unitsize.ensures n.settings_refusal-number.ensures c.if-number-ne0.true
 
-pretrigger-samples-requires : tie.Need-pretrigger-samples-requires
+pretrigger-samples-requires : tie.Need-pretrigger_samples-kept-requires
 pretrigger-samples-requires c κs =
     let n = c.before in
     let s = (start n).args in
-    workable s.channels s.capacity s.limit s.terms s.wish s.rate (lent (start n)) (ring (start n)) n.before.unit-of.result n.before.unit-of.ensures n.settings-refusal.ensures c.if1.false
+    workable s.channels s.capacity s.limit s.terms s.wish s.rate (lent (start n)) (ring (start n)) n.before.unit_of-unitsize.result n.before.unit_of-unitsize.ensures n.settings_refusal-number.ensures c.if-number-ne0.false
 
-returns-2 : tie.Need-returns-2
+returns-2 : tie.Need-returns-then-capacity-pre
 returns-2 c =
     let k = c.before in
     let n = k.before.before in
     let s = (start n).args in
-    too_many s.channels s.capacity s.limit s.terms s.wish s.rate (lent (start n)) (ring (start n)) n.before.unit-of.result n.before.unit-of.ensures n.settings-refusal.ensures k.before.if1.false
-    (kept_as k.pretrigger-samples.result) k.pretrigger-samples.ensures c.if2.true
+    too_many s.channels s.capacity s.limit s.terms s.wish s.rate (lent (start n)) (ring (start n)) n.before.unit_of-unitsize.result n.before.unit_of-unitsize.ensures n.settings_refusal-number.ensures k.before.if-number-ne0.false
+    (kept_as k.pretrigger_samples-kept.result) k.pretrigger_samples-kept.ensures c.if-capacity-pre.true
 
-mul-if3 : tie.Need-overflow-mul-if3
+mul-if3 : tie.Need-overflow_mul-pre
 mul-if3 c =
     let k = c.before in
     let n = k.before.before in
     let s = (start n).args in
-    record { fits = pre_fits s.channels s.capacity s.limit s.terms s.wish s.rate (lent (start n)) (ring (start n)) n.before.unit-of.result n.before.unit-of.ensures n.settings-refusal.ensures k.before.if1.false _ c.if2.false }
+    record { fits = pre_fits s.channels s.capacity s.limit s.terms s.wish s.rate (lent (start n)) (ring (start n)) n.before.unit_of-unitsize.result n.before.unit_of-unitsize.ensures n.settings_refusal-number.ensures k.before.if-number-ne0.false _ c.if-capacity-pre.false }
 
-returns-3 : tie.Need-returns-3
+returns-3 : tie.Need-returns-then-ring-pre
 returns-3 c =
     let k = c.before.before in
     let n = k.before.before in
     let s = (start n).args in
-    ring_short_lem s.channels s.capacity s.limit s.terms s.wish s.rate (lent (start n)) (ring (start n)) n.before.unit-of.result n.before.unit-of.ensures n.settings-refusal.ensures k.before.if1.false
-    (kept_as k.pretrigger-samples.result) k.pretrigger-samples.ensures c.before.if2.false c.if3.true
+    ring_short_lem s.channels s.capacity s.limit s.terms s.wish s.rate (lent (start n)) (ring (start n)) n.before.unit_of-unitsize.result n.before.unit_of-unitsize.ensures n.settings_refusal-number.ensures k.before.if-number-ne0.false
+    (kept_as k.pretrigger_samples-kept.result) k.pretrigger_samples-kept.ensures c.before.if-capacity-pre.false c.if-ring-pre.true
 
-armed-by-requires : tie.Need-armed-by-requires
+armed-by-requires : tie.Need-armed_by-requires
 armed-by-requires c κs = search rules
 
-returns-4 : tie.Need-returns-4
+returns-4 : tie.Need-returns
 returns-4 c =
     let k = c.before.before.before in
     let n = k.before.before in
     let s = (start n).args in
-    accepted s.channels s.capacity s.limit s.terms s.wish s.rate (lent (start n)) (ring (start n)) n.before.unit-of.result n.before.unit-of.ensures n.settings-refusal.ensures k.before.if1.false
-    (kept_as k.pretrigger-samples.result) k.pretrigger-samples.ensures c.before.before.if2.false c.before.if3.false (armed_as c.armed-by.result) c.armed-by.ensures
+    accepted s.channels s.capacity s.limit s.terms s.wish s.rate (lent (start n)) (ring (start n)) n.before.unit_of-unitsize.result n.before.unit_of-unitsize.ensures n.settings_refusal-number.ensures k.before.if-number-ne0.false
+    (kept_as k.pretrigger_samples-kept.result) k.pretrigger_samples-kept.ensures c.before.before.if-capacity-pre.false c.before.if-ring-pre.false (armed_as c.armed_by.result) c.armed_by.ensures
 
 pub start_spec : {M : Type 1} → statement M
 start_spec =

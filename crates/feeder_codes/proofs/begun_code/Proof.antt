@@ -9,29 +9,29 @@ use Rattle.codes.proofs.Coded.{coded}
 use Rattle.feeder_codes.proofs.begun_code.Statement.{statement}
 use Rattle.feeder_codes.proofs.begun_code.Tie as tie
 
-enum-known-answer : tie.Need-enum-known-answer
+enum-known-answer : tie.Need-enum_known-answer
 enum-known-answer c = search rules
 
 code-requires : tie.Need-code-requires
 code-requires c κs = search rules
 
-enum-known-answer-2 : tie.Need-enum-known-answer-2
+enum-known-answer-2 : tie.Need-enum_known-answer-in-Fresh-1
 enum-known-answer-2 c = search rules
 
-put-feeder-requires : tie.Need-put-feeder-requires
+put-feeder-requires : tie.Need-put_feeder-requires
 put-feeder-requires c κs = search rules
 
 flag-requires : tie.Need-flag-requires
 flag-requires c κs = search rules
 
-returns : tie.Need-returns
-returns c = (coded begun_numbers (λ (x : Started). plain (started_of x)) _ _ _ c.before.before.answer.given.1 c.code.ensures refl, coded cut_number (λ (x : Started). plain (started_of x)) _ _ _ c.before.before.answer.given.1 c.code.ensures refl)
+returns : tie.Need-returns-in-Refused
+returns c = (coded begun_numbers (λ (x : Started). plain (started_of x)) _ _ _ c.before.before.answer-1.given.1 c.code.ensures refl, coded cut_number (λ (x : Started). plain (started_of x)) _ _ _ c.before.before.answer-1.given.1 c.code.ensures refl)
 
-returns-2 : tie.Need-returns-2
-returns-2 c = (coded begun_numbers (λ (x : Started). plain (started_of x)) _ _ _ c.before.before.before.before.answer2.given.1 refl c.before.put-feeder.ensures, coded cut_number (λ (x : Started). plain (started_of x)) _ _ _ c.before.before.before.before.answer2.given.1 refl c.flag.ensures)
+returns-2 : tie.Need-returns-in-Fresh
+returns-2 c = (coded begun_numbers (λ (x : Started). plain (started_of x)) _ _ _ c.before.before.before.before.answer-in-Fresh-1.given.1 refl c.before.put_feeder.ensures, coded cut_number (λ (x : Started). plain (started_of x)) _ _ _ c.before.before.before.before.answer-in-Fresh-1.given.1 refl c.flag.ensures)
 
-pub begun-code-spec : {M : Type 1} → statement M
-begun-code-spec =
+pub begun_code_spec : {M : Type 1} → statement M
+begun_code_spec =
     tie.close
     (tie.spec
     enum-known-answer

@@ -5,35 +5,35 @@ use Rattle.feeder_codes.proofs.Pushed.{pushed_coded}
 use Rattle.feeder_codes.proofs.pushed_code.Statement.{statement}
 use Rattle.feeder_codes.proofs.pushed_code.Tie as tie
 
-enum-known-answer : tie.Need-enum-known-answer
+enum-known-answer : tie.Need-enum_known-answer
 enum-known-answer c = search rules
 
 code-requires : tie.Need-code-requires
 code-requires c κs = search rules
 
-enum-known-answer-2 : tie.Need-enum-known-answer-2
+enum-known-answer-2 : tie.Need-enum_known-answer-in-GoingOn-1
 enum-known-answer-2 c = search rules
 
-put-pushed-requires : tie.Need-put-pushed-requires
+put-pushed-requires : tie.Need-put_pushed-requires
 put-pushed-requires c κs = search rules
 
-enum-known-answer-3 : tie.Need-enum-known-answer-3
+enum-known-answer-3 : tie.Need-enum_known-answer-in-Complete-1
 enum-known-answer-3 c = search rules
 
-put-pushed-requires-2 : tie.Need-put-pushed-requires-2
+put-pushed-requires-2 : tie.Need-put_pushed-requires-in-Complete
 put-pushed-requires-2 c κs = search rules
 
-returns : tie.Need-returns
-returns c = pushed_coded _ c.before.before.before.before.args.numbers.now _ c.before.before.answer.given.1 c.code.ensures refl
+returns : tie.Need-returns-in-Refused
+returns c = pushed_coded _ c.before.before.before.before.args.numbers.now _ c.before.before.answer-1.given.1 c.code.ensures refl
 
-returns-2 : tie.Need-returns-2
-returns-2 c = pushed_coded _ c.before.before.before.before.before.args.numbers.now _ c.before.before.before.answer2.given.1 refl c.put-pushed.ensures
+returns-2 : tie.Need-returns-in-GoingOn
+returns-2 c = pushed_coded _ c.before.before.before.before.before.args.numbers.now _ c.before.before.before.answer-in-GoingOn-1.given.1 refl c.put_pushed.ensures
 
-returns-3 : tie.Need-returns-3
-returns-3 c = pushed_coded _ c.before.before.before.before.before.args.numbers.now _ c.before.before.before.answer3.given.1 refl c.put-pushed2.ensures
+returns-3 : tie.Need-returns-in-Complete
+returns-3 c = pushed_coded _ c.before.before.before.before.before.args.numbers.now _ c.before.before.before.answer-in-Complete-1.given.1 refl c.put_pushed-in-Complete.ensures
 
-pub pushed-code-spec : {M : Type 1} → statement M
-pushed-code-spec =
+pub pushed_code_spec : {M : Type 1} → statement M
+pushed_code_spec =
     tie.close
     (tie.spec
     enum-known-answer

@@ -3,26 +3,26 @@ use borrow.Author.Rules.{rules}
 use Rattle.feeder_numbers.proofs.masks_in.Statement.{statement}
 use Rattle.feeder_numbers.proofs.masks_in.Tie as tie
 
-mask-in-requires : tie.Need-mask-in-requires
+mask-in-requires : tie.Need-mask_in-requires
 mask-in-requires c κs = search rules
 
-mask-in-requires-2 : tie.Need-mask-in-requires-2
+mask-in-requires-2 : tie.Need-mask_in-requires-2
 mask-in-requires-2 c κs = search rules
 
-mask-in-requires-3 : tie.Need-mask-in-requires-3
+mask-in-requires-3 : tie.Need-mask_in-requires-3
 mask-in-requires-3 c κs = search rules
 
-mask-in-requires-4 : tie.Need-mask-in-requires-4
+mask-in-requires-4 : tie.Need-mask_in-requires-4
 mask-in-requires-4 c κs = search rules
 
-mask-in-requires-5 : tie.Need-mask-in-requires-5
+mask-in-requires-5 : tie.Need-mask_in-requires-5
 mask-in-requires-5 c κs = search rules
 
 returns : tie.Need-returns
-returns c = rw (c.before.before.before.before.mask-in.ensures, c.before.before.before.mask-in2.ensures, c.before.before.mask-in3.ensures, c.before.mask-in4.ensures, c.mask-in5.ensures)
+returns c = rw (c.before.before.before.before.mask_in.ensures, c.before.before.before.mask_in-2.ensures, c.before.before.mask_in-3.ensures, c.before.mask_in-4.ensures, c.mask_in-5.ensures)
 
-pub masks-in-spec : {M : Type 1} → statement M
-masks-in-spec =
+pub masks_in_spec : {M : Type 1} → statement M
+masks_in_spec =
     tie.close
     (tie.spec
     mask-in-requires

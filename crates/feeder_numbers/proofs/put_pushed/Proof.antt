@@ -4,52 +4,52 @@ use Rattle.feeder_numbers.proofs.Written.{written}
 use Rattle.feeder_numbers.proofs.put_pushed.Statement.{statement}
 use Rattle.feeder_numbers.proofs.put_pushed.Tie as tie
 
-element-write-numbers : tie.Need-element-write-numbers
+element-write-numbers : tie.Need-bounds-numbers-2
 element-write-numbers c = search rules
 
-mark-flag-requires : tie.Need-mark-flag-requires
+mark-flag-requires : tie.Need-mark_flag-requires
 mark-flag-requires c κs = search rules
 
-element-write-numbers-2 : tie.Need-element-write-numbers-2
+element-write-numbers-2 : tie.Need-bounds-numbers-3
 element-write-numbers-2 c = search rules
 
-mark-place-requires : tie.Need-mark-place-requires
+mark-place-requires : tie.Need-mark_place-requires
 mark-place-requires c κs = search rules
 
-element-write-numbers-3 : tie.Need-element-write-numbers-3
+element-write-numbers-3 : tie.Need-bounds-numbers-4
 element-write-numbers-3 c = search rules
 
 waits-requires : tie.Need-waits-requires
 waits-requires c κs = search rules
 
-element-write-numbers-4 : tie.Need-element-write-numbers-4
+element-write-numbers-4 : tie.Need-bounds-numbers-7
 element-write-numbers-4 c = search rules
 
 known-requires : tie.Need-known-requires
 known-requires c κs = search rules
 
-element-write-numbers-5 : tie.Need-element-write-numbers-5
+element-write-numbers-5 : tie.Need-bounds-numbers-13
 element-write-numbers-5 c = search rules
 
-sample-of-requires : tie.Need-sample-of-requires
+sample-of-requires : tie.Need-sample_of-requires
 sample-of-requires c κs = search rules
 
-element-write-numbers-6 : tie.Need-element-write-numbers-6
+element-write-numbers-6 : tie.Need-bounds-numbers-14
 element-write-numbers-6 c = search rules
 
-element-write-numbers-7 : tie.Need-element-write-numbers-7
+element-write-numbers-7 : tie.Need-bounds-numbers-15
 element-write-numbers-7 c = search rules
 
-element-write-numbers-8 : tie.Need-element-write-numbers-8
+element-write-numbers-8 : tie.Need-bounds-numbers-16
 element-write-numbers-8 c = search rules
 
 returns : tie.Need-returns
 returns c =
     let a = c.before.before.before.before.before.before.args in
-    written a.f a.numbers.now c.before.before.before.before.mark-flag.ensures c.before.before.before.mark-place.ensures c.before.before.waits.ensures c.before.known.ensures c.sample-of.ensures
+    written a.f a.numbers.now c.before.before.before.before.mark_flag.ensures c.before.before.before.mark_place.ensures c.before.before.waits.ensures c.before.known.ensures c.sample_of.ensures
 
-pub put-pushed-spec : {M : Type 1} → statement M
-put-pushed-spec =
+pub put_pushed_spec : {M : Type 1} → statement M
+put_pushed_spec =
     tie.close
     (tie.spec
     element-write-numbers

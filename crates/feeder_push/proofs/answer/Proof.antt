@@ -10,44 +10,44 @@ use Rattle.feeder_push.proofs.Left.{answers_none, answers_some}
 use Rattle.feeder_push.proofs.answer.Statement.{statement}
 use Rattle.feeder_push.proofs.answer.Tie as tie
 
-enum-known-taken : tie.Need-enum-known-taken
+enum-known-taken : tie.Need-enum_known-taken
 enum-known-taken c = search rules
 
-enum_told : tie.Need-enum-told
+enum_told : tie.Need-enum_told-1
 enum_told c = search rules
 
-returns : tie.Need-returns
+returns : tie.Need-returns-in_default
 returns c =
     let a = c.before.before.args in
-    answers_none a.back (recorder_of a.f) a.taken c.enum_told.given.1
+    answers_none a.back (recorder_of a.f) a.taken c.enum_told-1.given.1
 
-add-len : tie.Need-overflow-add-len
+add-len : tie.Need-overflow_add-len
 add-len c =
     let t = c.before.before.before in
     let s = t.before.before in
-    omega (arith, s.requires, ap count_in t.taken.given.1)
+    omega (arith, s.requires, ap count_in t.taken-1.given.1)
 
-returns-2 : tie.Need-returns-2
+returns-2 : tie.Need-returns-then-limit-eq0
 returns-2 c =
     let t = c.before.before.before.before in
     let a = t.before.before.args in
-    let k = t.taken.given.0.0 in
-    answers_some (recorder_of a.back) (recorder_of a.f) a.taken k _ t.taken.given.1 (rw (eq-eqb a.f.limit 0 c.if1.true)) refl
+    let k = t.taken-1.given.0.0 in
+    answers_some (recorder_of a.back) (recorder_of a.f) a.taken k _ t.taken-1.given.1 (rw (eq-eqb a.f.limit 0 c.if-limit-eq0.true)) refl
 
-returns-3 : tie.Need-returns-3
+returns-3 : tie.Need-returns-then-len-limit
 returns-3 c =
     let t = c.before.before.before.before.before in
     let a = t.before.before.args in
-    let k = t.taken.given.0.0 in
-    answers_some (recorder_of a.back) (recorder_of a.f) a.taken k _ t.taken.given.1 (rw (ne_eqb a.f.limit 0 c.before.if1.false, eq-eqb (a.f.capture.len + k) a.f.limit c.if2.true)) refl
+    let k = t.taken-1.given.0.0 in
+    answers_some (recorder_of a.back) (recorder_of a.f) a.taken k _ t.taken-1.given.1 (rw (ne_eqb a.f.limit 0 c.before.if-limit-eq0.false, eq-eqb (a.f.capture.len + k) a.f.limit c.if-len-limit.true)) refl
 
-returns-4 : tie.Need-returns-4
+returns-4 : tie.Need-returns
 returns-4 c =
     let t = c.before.before.before.before.before in
     let a = t.before.before.args in
-    let k = t.taken.given.0.0 in
-    answers_some (recorder_of a.back) (recorder_of a.f) a.taken k _ t.taken.given.1 (rw (ne_eqb a.f.limit 0 c.before.if1.false, ne_eqb (a.f.capture.len + k) a.f.limit c.if2.false)) refl
+    let k = t.taken-1.given.0.0 in
+    answers_some (recorder_of a.back) (recorder_of a.f) a.taken k _ t.taken-1.given.1 (rw (ne_eqb a.f.limit 0 c.before.if-limit-eq0.false, ne_eqb (a.f.capture.len + k) a.f.limit c.if-len-limit.false)) refl
 
-pub answer-spec : {M : Type 1} → statement M
-answer-spec =
+pub answer_spec : {M : Type 1} → statement M
+answer_spec =
     tie.close (tie.spec enum-known-taken enum_told returns add-len returns-2 returns-3 returns-4)

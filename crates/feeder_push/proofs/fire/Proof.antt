@@ -8,48 +8,48 @@ use Rattle.feeder_push.proofs.fire.Statement.{statement}
 use Rattle.feeder_push.proofs.fire.Tie as tie
 
 -- the function's start, from where its slices are known
-abbrev start_at : tie.After-shared-slice-known2 → tie.Start
+abbrev start_at : tie.After-shared_slice_known-2-1 → tie.Start
 start_at p = p.before.before.before.before.before.before.before
 
 -- the call that stores, from where all is lent back
-abbrev stored_at : tie.After-slice-known10 → tie.After-store-run
+abbrev stored_at : tie.After-slice_known-10-1 → tie.After-store_run-taken
 stored_at p =
     let l2 = p.before.before.before.before.before in
     l2.before.before.before.before.before
 
 -- and the start from there
-abbrev start_of_call : tie.After-store-run → tie.Start
+abbrev start_of_call : tie.After-store_run-taken → tie.Start
 start_of_call p =
     let m = p.before.before.before.before.before.before in
     start_at m.before.before.before.before
 
-lesser-requires : tie.Need-lesser-requires
+lesser-requires : tie.Need-lesser-before-requires
 lesser-requires c κs = search rules
 
-sub-lesser : tie.Need-overflow-sub-lesser
+sub-lesser : tie.Need-overflow_sub-f
 sub-lesser c = search rules
 
-lesser-requires-2 : tie.Need-lesser-requires-2
+lesser-requires-2 : tie.Need-lesser-w-requires
 lesser-requires-2 c κs = search rules
 
-sub-store-run : tie.Need-overflow-sub-store-run
+sub-store-run : tie.Need-overflow_sub-i
 sub-store-run c = search rules
 
-store-run-requires : tie.Need-store-run-requires
+store-run-requires : tie.Need-store_run-taken-requires
 store-run-requires c κs =
     let m = c.before.before.before.before.before in
     let l = m.before.before in
     let s = start_at l.before.before in
     let a = s.args in
-    fire_room (recorder_of a.f) a.samples.now (level_of a.l1.now a.l2.now a.l3.now a.l4.now) a.ring.now a.bytes.now a.n s.pre.0 a.i s.pre.1 l.lesser.result m.lesser2.result l.lesser.ensures m.lesser2.ensures
+    fire_room (recorder_of a.f) a.samples.now (level_of a.l1.now a.l2.now a.l3.now a.l4.now) a.ring.now a.bytes.now a.n s.pre.0 a.i s.pre.1 l.lesser-before.result m.lesser-w.result l.lesser-before.ensures m.lesser-w.ensures
 
-get-requires : tie.Need-get-requires
+get-requires : tie.Need-get-v-requires
 get-requires c κs =
     let s = start_of_call (stored_at c) in
     let a = s.args in
     held_in (recorder_of a.f) a.samples.now (level_of a.l1.now a.l2.now a.l3.now a.l4.now) (length a.ring.now) (length a.bytes.now) a.n s.pre.0 a.i s.pre.1
 
-fired-by-requires : tie.Need-fired-by-requires
+fired-by-requires : tie.Need-fired_by-requires
 fired-by-requires c κs =
     let s = start_of_call (stored_at c.before) in
     s.pre.0.sound.kept_most
@@ -61,22 +61,22 @@ answer-requires c κs =
     let l = m.before.before in
     let s = start_at l.before.before in
     let a = s.args in
-    fire_fits (recorder_of a.f) a.samples.now (level_of a.l1.now a.l2.now a.l3.now a.l4.now) a.ring.now a.bytes.now a.n s.pre.0 a.i s.pre.1 l.lesser.result m.lesser2.result l.lesser.ensures m.lesser2.ensures
-    y.store-run.result _ _ y.store-run.ensures (recorder_of c.fired-by.result) c.before.get.result c.fired-by.ensures
+    fire_fits (recorder_of a.f) a.samples.now (level_of a.l1.now a.l2.now a.l3.now a.l4.now) a.ring.now a.bytes.now a.n s.pre.0 a.i s.pre.1 l.lesser-before.result m.lesser-w.result l.lesser-before.ensures m.lesser-w.ensures
+    y.store_run-taken.result _ _ y.store_run-taken.ensures (recorder_of c.fired_by.result) c.before.get-v.result c.fired_by.ensures
 
-same_length : tie.Need-same-length
+same_length : tie.Need-shape_of-samples
 same_length c = search rules
 
-same-length-2 : tie.Need-same-length-2
+same-length-2 : tie.Need-shape_of-l1
 same-length-2 c = search rules
 
-same-length-3 : tie.Need-same-length-3
+same-length-3 : tie.Need-shape_of-l2
 same-length-3 c = search rules
 
-same-length-4 : tie.Need-same-length-4
+same-length-4 : tie.Need-shape_of-l3
 same-length-4 c = search rules
 
-same-length-5 : tie.Need-same-length-5
+same-length-5 : tie.Need-shape_of-l4
 same-length-5 c = search rules
 
 returns : tie.Need-returns
@@ -86,11 +86,11 @@ returns c =
     let l = m.before.before in
     let s = start_at l.before.before in
     let a = s.args in
-    fire_done (recorder_of a.f) a.samples.now (level_of a.l1.now a.l2.now a.l3.now a.l4.now) a.ring.now a.bytes.now a.n s.pre.0 a.i s.pre.1 l.lesser.result m.lesser2.result l.lesser.ensures m.lesser2.ensures
-    y.store-run.result _ _ y.store-run.ensures (recorder_of c.before.fired-by.result) c.before.before.get.result c.before.fired-by.ensures c.before.before.get.ensures c.answer.result c.answer.ensures
+    fire_done (recorder_of a.f) a.samples.now (level_of a.l1.now a.l2.now a.l3.now a.l4.now) a.ring.now a.bytes.now a.n s.pre.0 a.i s.pre.1 l.lesser-before.result m.lesser-w.result l.lesser-before.ensures m.lesser-w.ensures
+    y.store_run-taken.result _ _ y.store_run-taken.ensures (recorder_of c.before.fired_by.result) c.before.before.get-v.result c.before.fired_by.ensures c.before.before.get-v.ensures c.answer.result c.answer.ensures
 
-pub fire-spec : {M : Type 1} → statement M
-fire-spec =
+pub fire_spec : {M : Type 1} → statement M
+fire_spec =
     tie.close
     (tie.spec
     lesser-requires

@@ -5,13 +5,13 @@ use Rattle.feeder_push.proofs.Fires.{fired_is}
 use Rattle.feeder_push.proofs.fired_by.Statement.{statement}
 use Rattle.feeder_push.proofs.fired_by.Tie as tie
 
-filled-requires : tie.Need-filled-requires
+filled-requires : tie.Need-filled-mark-requires
 filled-requires c κs = search rules
 
 returns : tie.Need-returns
 returns c =
     let a = c.before.before.args in
-    fired_is (recorder_of a.f) a.v a.i c.filled.result c.filled.ensures
+    fired_is (recorder_of a.f) a.v a.i c.filled-mark.result c.filled-mark.ensures
 
-pub fired-by-spec : {M : Type 1} → statement M
-fired-by-spec = tie.close (tie.spec filled-requires returns)
+pub fired_by_spec : {M : Type 1} → statement M
+fired_by_spec = tie.close (tie.spec filled-requires returns)

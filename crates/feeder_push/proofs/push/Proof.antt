@@ -15,21 +15,21 @@ use Rattle.feeder_push.proofs.push.Statement.{statement}
 use Rattle.feeder_push.proofs.push.Tie as tie
 
 -- the function's start, from where its slices are known
-abbrev start_at : tie.After-shared-slice-known → tie.Start
+abbrev start_at : tie.After-shared_slice_known-1 → tie.Start
 start_at p = p.before.before.before.before.before.before.before
 
 -- the calls that store, from where all is lent back
-abbrev stored_at : tie.After-slice-known11 → tie.After-store-run
+abbrev stored_at : tie.After-slice_known-in_default-5-1 → tie.After-store_run-taken
 stored_at p =
     let l2 = p.before.before.before.before.before in
     l2.before.before.before.before.before
 
-abbrev fired_at : tie.After-slice-known16 → tie.After-fire
+abbrev fired_at : tie.After-slice_known-then-i-n-5-1 → tie.After-fire
 fired_at p =
     let l2 = p.before.before.before.before.before in
     l2.before.before.before.before.before
 
-module _ (f : tie.After-refusal-of) where
+module _ (f : tie.After-refusal_of-number) where
   abbrev s : tie.Start
   s = start_at f.before.before.before.before.before.before.before
 
@@ -37,50 +37,50 @@ module _ (f : tie.After-refusal-of) where
   levels = level_of s.args.l1.now s.args.l2.now s.args.l3.now s.args.l4.now
 
 -- past the first test rows 1 and 2 do not hold
-free : (c : tie.Else1) → let f = c.before in recorder_refusal (recorder_of (s f).args.f) (lent_of (s f).args.samples.now (levels f)) (length (s f).args.ring.now) ≡ 0
-free c = sym c.before.refusal-of.ensures ∙ c.if1.false
+free : (c : tie.Else-number-ne0) → let f = c.before in recorder_refusal (recorder_of (s f).args.f) (lent_of (s f).args.samples.now (levels f)) (length (s f).args.ring.now) ≡ 0
+free c = sym c.before.refusal_of-number.ensures ∙ c.if-number-ne0.false
 
-refusal-of-requires : tie.Need-refusal-of-requires
+refusal-of-requires : tie.Need-refusal_of-number-requires
 refusal-of-requires c κs = search rules
 
-same_length : tie.Need-same-length
+same_length : tie.Need-shape_of-samples-then-number-ne0
 same_length c = search rules
 
-same-length-2 : tie.Need-same-length-2
+same-length-2 : tie.Need-shape_of-l1-then-number-ne0
 same-length-2 c = search rules
 
-same-length-3 : tie.Need-same-length-3
+same-length-3 : tie.Need-shape_of-l2-then-number-ne0
 same-length-3 c = search rules
 
-same-length-4 : tie.Need-same-length-4
+same-length-4 : tie.Need-shape_of-l3-then-number-ne0
 same-length-4 c = search rules
 
-same-length-5 : tie.Need-same-length-5
+same-length-5 : tie.Need-shape_of-l4-then-number-ne0
 same-length-5 c = search rules
 
-same-length-6 : tie.Need-same-length-6
+same-length-6 : tie.Need-shape_of-ring-then-number-ne0
 same-length-6 c = search rules
 
-returns : tie.Need-returns
+returns : tie.Need-returns-then-number-ne0
 returns c =
     let f = c.before in
     let a = (s f).args in
-    pushed_refused a.f a.samples.now (levels f) a.ring.now a.bytes.now _ f.refusal-of.ensures c.if1.true
+    pushed_refused a.f a.samples.now (levels f) a.ring.now a.bytes.now _ f.refusal_of-number.ensures c.if-number-ne0.true
 
-div-n : tie.Need-nonzero-div-n
+div-n : tie.Need-nonzero_div-n
 div-n c =
     let i = c.before in
     let f = i.before in
     let a = (s f).args in
     omega (arith, (room a.f a.samples.now (levels f) a.ring.now a.bytes.now (free i)).sound.store.unit_size.least)
 
-enum-known-masks : tie.Need-enum-known-masks
+enum-known-masks : tie.Need-enum_known-masks
 enum-known-masks c = search rules
 
-enum_told : tie.Need-enum-told
+enum_told : tie.Need-enum_told-1
 enum_told c = search rules
 
-store-run-requires : tie.Need-store-run-requires
+store-run-requires : tie.Need-store_run-taken-requires
 store-run-requires c κs =
     let t = c.before.before.before.before.before.before in
     let i = t.before.before.before in
@@ -95,36 +95,36 @@ answer-requires c κs =
     let i = t.before.before.before in
     let f = i.before in
     let a = (s f).args in
-    taken_fits (recorder_of a.f) a.samples.now (levels f) (length a.ring.now) (length a.bytes.now) _ (room a.f a.samples.now (levels f) a.ring.now a.bytes.now (free i)) r.store-run.result r.store-run.ensures
+    taken_fits (recorder_of a.f) a.samples.now (levels f) (length a.ring.now) (length a.bytes.now) _ (room a.f a.samples.now (levels f) a.ring.now a.bytes.now (free i)) r.store_run-taken.result r.store_run-taken.ensures
 
-same-length-7 : tie.Need-same-length-7
+same-length-7 : tie.Need-shape_of-samples-in_default
 same-length-7 c = search rules
 
-same-length-8 : tie.Need-same-length-8
+same-length-8 : tie.Need-shape_of-l1-in_default
 same-length-8 c = search rules
 
-same-length-9 : tie.Need-same-length-9
+same-length-9 : tie.Need-shape_of-l2-in_default
 same-length-9 c = search rules
 
-same-length-10 : tie.Need-same-length-10
+same-length-10 : tie.Need-shape_of-l3-in_default
 same-length-10 c = search rules
 
-same-length-11 : tie.Need-same-length-11
+same-length-11 : tie.Need-shape_of-l4-in_default
 same-length-11 c = search rules
 
-same-length-12 : tie.Need-same-length-12
+same-length-12 : tie.Need-shape_of-ring-in_default
 same-length-12 c = search rules
 
-returns-2 : tie.Need-returns-2
+returns-2 : tie.Need-returns-in_default
 returns-2 c =
     let r = stored_at c.before in
     let t = r.before.before.before.before.before.before.before in
     let i = t.before.before.before in
     let f = i.before in
     let a = (s f).args in
-    pushed_unarmed a.f a.samples.now (levels f) a.ring.now a.bytes.now (free i) t.enum_told.given.1 r.store-run.result c.answer.result _ _ r.store-run.ensures c.answer.ensures
+    pushed_unarmed a.f a.samples.now (levels f) a.ring.now a.bytes.now (free i) t.enum_told-1.given.1 r.store_run-taken.result c.answer.result _ _ r.store_run-taken.ensures c.answer.ensures
 
-first-fire-requires : tie.Need-first-fire-requires
+first-fire-requires : tie.Need-first_fire-i-requires
 first-fire-requires c κs =
     let i = c.before.before.before.before in
     let f = i.before in
@@ -137,27 +137,27 @@ fire-requires c κs =
     let i = t.before.before.before.before.before.before in
     let f = i.before in
     let a = (s f).args in
-    (room a.f a.samples.now (levels f) a.ring.now a.bytes.now (free i), t.if2.true)
+    (room a.f a.samples.now (levels f) a.ring.now a.bytes.now (free i), t.if-i-n.true)
 
-same-length-13 : tie.Need-same-length-13
+same-length-13 : tie.Need-shape_of-samples-then-i-n
 same-length-13 c = search rules
 
-same-length-14 : tie.Need-same-length-14
+same-length-14 : tie.Need-shape_of-l1-then-i-n
 same-length-14 c = search rules
 
-same-length-15 : tie.Need-same-length-15
+same-length-15 : tie.Need-shape_of-l2-then-i-n
 same-length-15 c = search rules
 
-same-length-16 : tie.Need-same-length-16
+same-length-16 : tie.Need-shape_of-l3-then-i-n
 same-length-16 c = search rules
 
-same-length-17 : tie.Need-same-length-17
+same-length-17 : tie.Need-shape_of-l4-then-i-n
 same-length-17 c = search rules
 
-same-length-18 : tie.Need-same-length-18
+same-length-18 : tie.Need-shape_of-ring-then-i-n
 same-length-18 c = search rules
 
-returns-3 : tie.Need-returns-3
+returns-3 : tie.Need-returns-then-i-n
 returns-3 c =
     let r = fired_at c in
     let t = r.before.before.before.before.before.before.before in
@@ -165,7 +165,7 @@ returns-3 c =
     let i = m.before.before.before in
     let f = i.before in
     let a = (s f).args in
-    pushed_fired a.f a.samples.now (levels f) a.ring.now a.bytes.now (free i) m.masks.given.0.0 m.masks.given.1 t.before.first_fire_lem.result t.before.first_fire_lem.ensures t.if2.taken r.fire.result _ _ r.fire.ensures
+    pushed_fired a.f a.samples.now (levels f) a.ring.now a.bytes.now (free i) m.masks-1.given.0.0 m.masks-1.given.1 t.before.first_fire-i.result t.before.first_fire-i.ensures t.if-i-n.taken r.fire.result _ _ r.fire.ensures
 
 wait-requires : tie.Need-wait-requires
 wait-requires c κs =
@@ -174,32 +174,32 @@ wait-requires c κs =
     let a = (s f).args in
     wait_room a.f a.samples.now (levels f) a.ring.now a.bytes.now (free i)
 
-same-length-19 : tie.Need-same-length-19
+same-length-19 : tie.Need-shape_of-samples
 same-length-19 c = search rules
 
-same-length-20 : tie.Need-same-length-20
+same-length-20 : tie.Need-shape_of-l1
 same-length-20 c = search rules
 
-same-length-21 : tie.Need-same-length-21
+same-length-21 : tie.Need-shape_of-l2
 same-length-21 c = search rules
 
-same-length-22 : tie.Need-same-length-22
+same-length-22 : tie.Need-shape_of-l3
 same-length-22 c = search rules
 
-same-length-23 : tie.Need-same-length-23
+same-length-23 : tie.Need-shape_of-l4
 same-length-23 c = search rules
 
-same-length-24 : tie.Need-same-length-24
+same-length-24 : tie.Need-shape_of-ring
 same-length-24 c = search rules
 
-returns-4 : tie.Need-returns-4
+returns-4 : tie.Need-returns
 returns-4 c =
     let t = c.before.before.before.before in
     let m = t.before.before.before in
     let i = m.before.before.before in
     let f = i.before in
     let a = (s f).args in
-    pushed_waited a.f a.samples.now (levels f) a.ring.now a.bytes.now (free i) m.masks.given.0.0 m.masks.given.1 t.before.first_fire_lem.result t.before.first_fire_lem.ensures t.if2.false c.before.before.wait.result _ c.before.before.wait.ensures
+    pushed_waited a.f a.samples.now (levels f) a.ring.now a.bytes.now (free i) m.masks-1.given.0.0 m.masks-1.given.1 t.before.first_fire-i.result t.before.first_fire-i.ensures t.if-i-n.false c.before.before.wait.result _ c.before.before.wait.ensures
 
 pub push_spec : {M : Type 1} → statement M
 push_spec =

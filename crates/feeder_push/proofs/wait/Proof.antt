@@ -6,19 +6,19 @@ use Rattle.feeder_push.proofs.Fires.{waited_is}
 use Rattle.feeder_push.proofs.wait.Statement.{statement}
 use Rattle.feeder_push.proofs.wait.Tie as tie
 
-last-sample-requires : tie.Need-last-sample-requires
+last-sample-requires : tie.Need-last_sample-last-requires
 last-sample-requires c κs = search rules
 
-ring-write-requires : tie.Need-ring-write-requires
+ring-write-requires : tie.Need-ring_write-requires
 ring-write-requires c κs = search rules
 
-place-after-requires : tie.Need-place-after-requires
+place-after-requires : tie.Need-place_after-place-requires
 place-after-requires c κs = search rules
 
-filled-requires : tie.Need-filled-requires
+filled-requires : tie.Need-filled-kept-requires
 filled-requires c κs = search rules
 
-same_length : tie.Need-same-length
+same_length : tie.Need-shape_of-ring
 same_length c = search rules
 
 returns : tie.Need-returns
@@ -26,8 +26,8 @@ returns c =
     let l = c.before.before.before.before.before.before in
     let a = l.before.before.before.before.args in
     record {
-      recorder_is = waited_is (recorder_of a.f) a.n a.bytes.now (previous_of l.last-sample.result) c.before.place_after.result c.filled.result l.last-sample.ensures c.before.place_after.ensures c.filled.ensures;
-      ring_is = c.before.before.before.before.ring-write.ensures;
+      recorder_is = waited_is (recorder_of a.f) a.n a.bytes.now (previous_of l.last_sample-last.result) c.before.place_after-place.result c.filled-kept.result l.last_sample-last.ensures c.before.place_after-place.ensures c.filled-kept.ensures;
+      ring_is = c.before.before.before.before.ring_write.ensures;
     }
 
 pub wait_spec : {M : Type 1} → statement M

@@ -7,23 +7,23 @@ use Rattle.feeder_ring.proofs.Place.{place_ahead, place_around}
 use Rattle.feeder_ring.proofs.place_after.Statement.{statement}
 use Rattle.feeder_ring.proofs.place_after.Tie as tie
 
-sub-left : tie.Need-overflow-sub-left
+sub-left : tie.Need-overflow_sub-left
 sub-left c = search rules
 
-add-result : tie.Need-overflow-add-result
+add-result : tie.Need-overflow_add-result
 add-result c = search rules
 
-returns : tie.Need-returns
-returns c = let s = c.before in place_ahead s.args.pre s.args.place s.args.n s.requires c.if1.true
+returns : tie.Need-returns-then-n-left
+returns c = let s = c.before in place_ahead s.args.pre s.args.place s.args.n s.requires c.if-n-left.true
 
-returns-2 : tie.Need-returns-2
-returns-2 c = let s = c.before.before in sym (place_zero s.args.pre s.args.n s.args.place c.if2.true (omega arith))
+returns-2 : tie.Need-returns-then-pre-eq0
+returns-2 c = let s = c.before.before in sym (place_zero s.args.pre s.args.n s.args.place c.if-pre-eq0.true (omega arith))
 
-rem-result : tie.Need-nonzero-rem-result
+rem-result : tie.Need-nonzero_rem-result
 rem-result c = search rules
 
-returns-3 : tie.Need-returns-3
-returns-3 c = let s = c.before.before in place_around s.args.pre s.args.place s.args.n s.requires c.before.if1.false c.if2.false
+returns-3 : tie.Need-returns
+returns-3 c = let s = c.before.before in place_around s.args.pre s.args.place s.args.n s.requires c.before.if-n-left.false c.if-pre-eq0.false
 
-pub place-after-spec : {M : Type 1} → statement M
-place-after-spec = tie.close (tie.spec sub-left add-result returns returns-2 rem-result returns-3)
+pub place_after_spec : {M : Type 1} → statement M
+place_after_spec = tie.close (tie.spec sub-left add-result returns returns-2 rem-result returns-3)

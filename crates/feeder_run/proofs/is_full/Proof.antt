@@ -9,26 +9,26 @@ use Rattle.feeder_run.proofs.Cuts.{no_limit, limit_fits, full_by}
 use Rattle.feeder_run.proofs.is_full.Statement.{statement}
 use Rattle.feeder_run.proofs.is_full.Tie as tie
 
-returns : tie.Need-returns
+returns : tie.Need-returns-then-limit-ne0
 returns c =
     let s = c.before in
     let a = s.args in
-    sym (limit_fits a.limit a.len a.capacity s.requires (a.w + a.own) c.if1.true)
+    sym (limit_fits a.limit a.len a.capacity s.requires (a.w + a.own) c.if-limit-ne0.true)
 
-sub-room : tie.Need-overflow-sub-room
+sub-room : tie.Need-overflow_sub-room
 sub-room c = search rules
 
-returns-2 : tie.Need-returns-2
+returns-2 : tie.Need-returns-then-room-w
 returns-2 c =
     let s = c.before.before in
     let a = s.args in
-    sym (lt-ltb a.capacity (a.len + room_for a.limit a.len (a.w + a.own)) (omega (arith, c.if2.true, s.requires.len_most, no_limit a.limit a.len (a.w + a.own) c.before.if1.false)))
+    sym (lt-ltb a.capacity (a.len + room_for a.limit a.len (a.w + a.own)) (omega (arith, c.if-room-w.true, s.requires.len_most, no_limit a.limit a.len (a.w + a.own) c.before.if-limit-ne0.false)))
 
-returns-3 : tie.Need-returns-3
+returns-3 : tie.Need-returns
 returns-3 c =
     let s = c.before.before in
     let a = s.args in
-    full_by a.limit a.len a.capacity s.requires a.w a.own c.before.if1.false c.if2.false
+    full_by a.limit a.len a.capacity s.requires a.w a.own c.before.if-limit-ne0.false c.if-room-w.false
 
-pub is-full-spec : {M : Type 1} → statement M
-is-full-spec = tie.close (tie.spec returns sub-room returns-2 returns-3)
+pub is_full_spec : {M : Type 1} → statement M
+is_full_spec = tie.close (tie.spec returns sub-room returns-2 returns-3)

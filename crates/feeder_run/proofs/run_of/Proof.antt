@@ -7,57 +7,57 @@ use Rattle.feeder_run.proofs.Cuts.{run_is, counts_fit}
 use Rattle.feeder_run.proofs.run_of.Statement.{statement}
 use Rattle.feeder_run.proofs.run_of.Tie as tie
 
-room-of-requires : tie.Need-room-of-requires
+room-of-requires : tie.Need-room_of-room-requires
 room-of-requires c κs = search rules
 
-lesser-requires : tie.Need-lesser-requires
+lesser-requires : tie.Need-lesser-newest-requires
 lesser-requires c κs = search rules
 
-sub-oldest : tie.Need-overflow-sub-oldest
+sub-oldest : tie.Need-overflow_sub-oldest
 sub-oldest c = search rules
 
-sub-end : tie.Need-overflow-sub-end
+sub-end : tie.Need-overflow_sub-end
 sub-end c = search rules
 
-sub-start : tie.Need-overflow-sub-start
+sub-start : tie.Need-overflow_sub-start
 sub-start c = search rules
 
-lesser-requires-2 : tie.Need-lesser-requires-2
+lesser-requires-2 : tie.Need-lesser-older-requires
 lesser-requires-2 c κs = search rules
 
-sub-lesser : tie.Need-overflow-sub-lesser
+sub-lesser : tie.Need-overflow_sub-room
 sub-lesser c = search rules
 
-lesser-requires-3 : tie.Need-lesser-requires-3
+lesser-requires-3 : tie.Need-lesser-newer-requires
 lesser-requires-3 c κs = search rules
 
-sub-lesser-2 : tie.Need-overflow-sub-lesser-2
+sub-lesser-2 : tie.Need-overflow_sub-room-2
 sub-lesser-2 c = search rules
 
-sub-lesser-3 : tie.Need-overflow-sub-lesser-3
+sub-lesser-3 : tie.Need-overflow_sub-room-3
 sub-lesser-3 c = search rules
 
-lesser-requires-4 : tie.Need-lesser-requires-4
+lesser-requires-4 : tie.Need-lesser-own-requires
 lesser-requires-4 c κs = search rules
 
-add-t16 : tie.Need-overflow-add-t16
+add-t16 : tie.Need-overflow_add-result
 add-t16 c =
     let a = c.before.before.before.before.before.args in
-    omega (arith, counts_fit c.before.before.before.before.room_of.result (a.w - c.before.before.before.lesser.result) c.before.before.before.lesser.result a.own c.before.before.lesser2.result c.before.lesser3.result c.lesser4.result c.before.before.lesser2.ensures c.before.lesser3.ensures c.lesser4.ensures)
+    omega (arith, counts_fit c.before.before.before.before.room_of-room.result (a.w - c.before.before.before.lesser-newest.result) c.before.before.before.lesser-newest.result a.own c.before.before.lesser-older.result c.before.lesser-newer.result c.lesser-own.result c.before.before.lesser-older.ensures c.before.lesser-newer.ensures c.lesser-own.ensures)
 
-add-t17 : tie.Need-overflow-add-t17
+add-t17 : tie.Need-overflow_add-result-2
 add-t17 c =
     let a = c.before.before.before.before.before.args in
-    omega (arith, counts_fit c.before.before.before.before.room_of.result (a.w - c.before.before.before.lesser.result) c.before.before.before.lesser.result a.own c.before.before.lesser2.result c.before.lesser3.result c.lesser4.result c.before.before.lesser2.ensures c.before.lesser3.ensures c.lesser4.ensures)
+    omega (arith, counts_fit c.before.before.before.before.room_of-room.result (a.w - c.before.before.before.lesser-newest.result) c.before.before.before.lesser-newest.result a.own c.before.before.lesser-older.result c.before.lesser-newer.result c.lesser-own.result c.before.before.lesser-older.ensures c.before.lesser-newer.ensures c.lesser-own.ensures)
 
 returns : tie.Need-returns
 returns c =
     let a = c.before.before.before.before.before.args in
-    run_is (room_of a.limit a.len a.capacity) a.pre a.place a.w a.own c.before.before.before.lesser.result c.before.before.lesser2.result c.before.lesser3.result c.lesser4.result c.before.before.before.before.room_of.result
-    c.before.before.before.before.room_of.ensures c.before.before.before.lesser.ensures c.before.before.lesser2.ensures c.before.lesser3.ensures c.lesser4.ensures
+    run_is (room_of a.limit a.len a.capacity) a.pre a.place a.w a.own c.before.before.before.lesser-newest.result c.before.before.lesser-older.result c.before.lesser-newer.result c.lesser-own.result c.before.before.before.before.room_of-room.result
+    c.before.before.before.before.room_of-room.ensures c.before.before.before.lesser-newest.ensures c.before.before.lesser-older.ensures c.before.lesser-newer.ensures c.lesser-own.ensures
 
-pub run-of-spec : {M : Type 1} → statement M
-run-of-spec =
+pub run_of_spec : {M : Type 1} → statement M
+run_of_spec =
     tie.close
     (tie.spec
     room-of-requires

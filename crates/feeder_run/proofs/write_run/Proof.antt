@@ -10,96 +10,96 @@ use Rattle.feeder_run.proofs.write_run.Statement.{statement}
 use Rattle.feeder_run.proofs.write_run.Tie as tie
 
 -- the function's start, from where its slices are known
-abbrev start_at : tie.After-shared-slice-known2 → tie.Start
+abbrev start_at : tie.After-shared_slice_known-2-1 → tie.Start
 start_at p = p.before.before.before.before.before.before.before
 
 -- and from the arguments of the call
-abbrev start_of_call : tie.After-append-parts-arg8 → tie.Start
+abbrev start_of_call : tie.After-append_parts-arg-8-1 → tie.Start
 start_of_call p =
     let parts = p.before.before.before.before.before.before.before in
     start_at parts.before.before.before.before.before.before
 
-mul-a : tie.Need-overflow-mul-a
+mul-a : tie.Need-overflow_mul-a
 mul-a c = search rules
 
-add-a-end : tie.Need-overflow-add-a-end
+add-a-end : tie.Need-overflow_add-a_end
 add-a-end c =
     let s = start_at c.before.before in
     omega (arith, s.pre.end_fits, le-mul_of_pos_right (s.args.run.end + s.args.run.older) s.pre.room.unit_size.least)
 
-mul-a-end : tie.Need-overflow-mul-a-end
+mul-a-end : tie.Need-overflow_mul-a_end
 mul-a-end c = search rules
 
-mul-b : tie.Need-overflow-mul-b
+mul-b : tie.Need-overflow_mul-b
 mul-b c = search rules
 
-add-b-end : tie.Need-overflow-add-b-end
+add-b-end : tie.Need-overflow_add-b_end
 add-b-end c =
     let s = start_at c.before.before.before.before in
     omega (arith, s.pre.start_fits, le-mul_of_pos_right (s.args.run.start + s.args.run.newer) s.pre.room.unit_size.least)
 
-mul-b-end : tie.Need-overflow-mul-b-end
+mul-b-end : tie.Need-overflow_mul-b_end
 mul-b-end c = search rules
 
-mul-c : tie.Need-overflow-mul-c
+mul-c : tie.Need-overflow_mul-c
 mul-c c = search rules
 
-add-c-end : tie.Need-overflow-add-c-end
+add-c-end : tie.Need-overflow_add-c_end
 add-c-end c =
     let s = start_at c.before.before.before.before.before in
     omega (arith, s.pre.own_fits, le-mul_of_pos_right (s.args.d + s.args.run.own) s.pre.room.unit_size.least)
 
-mul-c-end : tie.Need-overflow-mul-c-end
+mul-c-end : tie.Need-overflow_mul-c_end
 mul-c-end c =
     let s = start_at c.before.before.before.before.before in
     omega (arith, s.pre.own_fits, s.good)
 
-sub-append-parts : tie.Need-overflow-sub-append-parts
+sub-append-parts : tie.Need-slice_bounds-append_parts-count
 sub-append-parts c = search rules
 
-part-append-parts-start : tie.Need-slice-bounds-append-parts-start
+part-append-parts-start : tie.Need-slice_bounds-append_parts-start
 part-append-parts-start c = search rules
 
-part-append-parts-end : tie.Need-slice-bounds-append-parts-end
+part-append-parts-end : tie.Need-slice_bounds-append_parts-end
 part-append-parts-end c = search rules
 
-sub-append-parts-2 : tie.Need-overflow-sub-append-parts-2
+sub-append-parts-2 : tie.Need-slice_bounds-append_parts-count-2
 sub-append-parts-2 c = search rules
 
-part-append-parts-start-2 : tie.Need-slice-bounds-append-parts-start-2
+part-append-parts-start-2 : tie.Need-slice_bounds-append_parts-start-2
 part-append-parts-start-2 c = search rules
 
-part-append-parts-end-2 : tie.Need-slice-bounds-append-parts-end-2
+part-append-parts-end-2 : tie.Need-slice_bounds-append_parts-end-2
 part-append-parts-end-2 c = search rules
 
-sub-append-parts-3 : tie.Need-overflow-sub-append-parts-3
+sub-append-parts-3 : tie.Need-slice_bounds-append_parts-count-3
 sub-append-parts-3 c = search rules
 
-part-append-parts-start-3 : tie.Need-slice-bounds-append-parts-start-3
+part-append-parts-start-3 : tie.Need-slice_bounds-append_parts-start-3
 part-append-parts-start-3 c = search rules
 
-part-append-parts-end-3 : tie.Need-slice-bounds-append-parts-end-3
+part-append-parts-end-3 : tie.Need-slice_bounds-append_parts-end-3
 part-append-parts-end-3 c = search rules
 
-append-parts-requires : tie.Need-append-parts-requires
+append-parts-requires : tie.Need-append_parts-requires
 append-parts-requires c κs =
     let s = start_of_call c in
     let a = s.args in
     parts_room a.unitsize a.len a.run a.d (length a.samples.now) (level_of a.l1.now a.l2.now a.l3.now a.l4.now) a.ring.now a.bytes.now s.pre
 
-same_length : tie.Need-same-length
+same_length : tie.Need-shape_of-samples
 same_length c = search rules
 
-same-length-2 : tie.Need-same-length-2
+same-length-2 : tie.Need-shape_of-l1
 same-length-2 c = search rules
 
-same-length-3 : tie.Need-same-length-3
+same-length-3 : tie.Need-shape_of-l2
 same-length-3 c = search rules
 
-same-length-4 : tie.Need-same-length-4
+same-length-4 : tie.Need-shape_of-l3
 same-length-4 c = search rules
 
-same-length-5 : tie.Need-same-length-5
+same-length-5 : tie.Need-shape_of-l4
 same-length-5 c = search rules
 
 returns : tie.Need-returns
@@ -108,10 +108,10 @@ returns c =
     let p = l2.before.before.before.before.before in
     let s = start_of_call p.before in
     let a = s.args in
-    run_written a.unitsize a.len a.run a.d (length a.samples.now) (level_of a.l1.now a.l2.now a.l3.now a.l4.now) a.ring.now a.bytes.now s.pre a.samples.now _ _ p.append-parts.ensures
+    run_written a.unitsize a.len a.run a.d (length a.samples.now) (level_of a.l1.now a.l2.now a.l3.now a.l4.now) a.ring.now a.bytes.now s.pre a.samples.now _ _ p.append_parts.ensures
 
-pub write-run-spec : {M : Type 1} → statement M
-write-run-spec =
+pub write_run_spec : {M : Type 1} → statement M
+write_run_spec =
     tie.close
     (tie.spec
     mul-a

@@ -11,16 +11,16 @@ use Rattle.feeder_scan.proofs.Level.{Missed, missed_more, none_fires}
 use Rattle.feeder_scan.proofs.any_level.Statement.{statement}
 use Rattle.feeder_scan.proofs.any_level.Tie as tie
 
-abbrev invariant-loop : tie.invariant-loop
+abbrev invariant-loop : tie.invariant-loop-i
 invariant-loop bytes unitsize n w i₀ i = (i ≤ n) × Missed w (sample_of unitsize bytes) i
 
-abbrev decreases-loop : tie.decreases-loop
+abbrev decreases-loop : tie.decreases-loop-i
 decreases-loop bytes unitsize n w i₀ i = n - i
 
-of-requires : tie.Need-of-requires invariant-loop decreases-loop
+of-requires : tie.Need-of-w-requires invariant-loop decreases-loop
 of-requires c κs = search rules
 
-loop-holds : tie.Need-loop-init invariant-loop decreases-loop
+loop-holds : tie.Need-loop-i-init invariant-loop decreases-loop
 loop-holds c = (search rules, λ j l. absurd (omega arith))
 
 get-requires : tie.Need-get-requires invariant-loop decreases-loop
@@ -29,30 +29,30 @@ get-requires c κs = held _ _ _ _ c.before.before.before.before.requires (omega 
 level-requires : tie.Need-level-requires invariant-loop decreases-loop
 level-requires c κs = search rules
 
-returns : tie.Need-returns invariant-loop decreases-loop
+returns : tie.Need-returns-then-level invariant-loop decreases-loop
 returns c e = absurd (let z : ◌≡◌ {A = ℕ} 0 1 = cc in omega arith)
 
-add-i : tie.Need-overflow-add-i invariant-loop decreases-loop
+add-i : tie.Need-overflow_add-i invariant-loop decreases-loop
 add-i c = search rules
 
-loop-less : tie.Need-loop-smaller invariant-loop decreases-loop
+loop-less : tie.Need-loop-i-smaller invariant-loop decreases-loop
 loop-less c = search rules
 
-loop-again : tie.Need-loop-preserved invariant-loop decreases-loop
+loop-again : tie.Need-loop-i-preserved invariant-loop decreases-loop
 loop-again c =
-    let p = c.before.before.before.before.loop in
+    let p = c.before.before.before.before.loop-i in
     let a = c.before.before.before.before.before.before.before.args in
-    (search rules, missed_more c.before.before.before.before.before.of.result (sample_of a.unitsize a.bytes.now) p.i c.before.before.get.result c.before.before.get.ensures (sym c.before.level.ensures ∙ c.if1.false) p.invariant.1)
+    (search rules, missed_more c.before.before.before.before.before.of-w.result (sample_of a.unitsize a.bytes.now) p.i c.before.before.get.result c.before.before.get.ensures (sym c.before.level.ensures ∙ c.if-level.false) p.invariant.1)
 
-returns-2 : tie.Need-returns-2 invariant-loop decreases-loop
+returns-2 : tie.Need-returns invariant-loop decreases-loop
 returns-2 c e =
-    let p = c.before.loop in
+    let p = c.before.loop-i in
     let a = c.before.before.before.before.args in
     let s = sample_of a.unitsize a.bytes.now in
-    none_fires a.masks s a.n (subst (λ (w : Wanted). Missed w s a.n) c.before.before.of.ensures (subst (Missed c.before.before.of.result s) (le_antisymm p.invariant.0 c.loop-test.false) p.invariant.1))
+    none_fires a.masks s a.n (subst (λ (w : Wanted). Missed w s a.n) c.before.before.of-w.ensures (subst (Missed c.before.before.of-w.result s) (le_antisymm p.invariant.0 c.loop-i-test.false) p.invariant.1))
 
-pub any-level-spec : {M : Type 1} → statement M
-any-level-spec =
+pub any_level_spec : {M : Type 1} → statement M
+any_level_spec =
     tie.close
     (tie.spec
     invariant-loop

@@ -8,13 +8,13 @@ use Rattle.feeder_scan.proofs.Answer.{scanned}
 use Rattle.feeder_scan.proofs.fire_few.Statement.{statement}
 use Rattle.feeder_scan.proofs.fire_few.Tie as tie
 
-of-requires : tie.Need-of-requires
+of-requires : tie.Need-of-w-requires
 of-requires c κs = search rules
 
-before-requires : tie.Need-before-requires
+before-requires : tie.Need-before-p-requires
 before-requires c κs = fewer _ _ _ _ c.before.before.requires.0 (omega (arith, c.before.before.requires.1))
 
-fire-in-requires : tie.Need-fire-in-requires
+fire-in-requires : tie.Need-fire_in-requires
 fire-in-requires c κs = search rules
 
 returns : tie.Need-returns
@@ -22,7 +22,7 @@ returns c =
     let b = c.before in
     let s = b.before.before.before in
     let a = s.args in
-    scanned a.masks (previous_of a.prev) a.bytes.now a.unitsize a.n s.requires.1 _ b.before.of.ensures _ b.before2.ensures _ _ refl c.fire-in.ensures
+    scanned a.masks (previous_of a.prev) a.bytes.now a.unitsize a.n s.requires.1 _ b.before.of-w.ensures _ b.before-p.ensures _ _ refl c.fire_in.ensures
 
-pub fire-few-spec : {M : Type 1} → statement M
-fire-few-spec = tie.close (tie.spec of-requires before-requires fire-in-requires returns)
+pub fire_few_spec : {M : Type 1} → statement M
+fire_few_spec = tie.close (tie.spec of-requires before-requires fire-in-requires returns)

@@ -11,16 +11,16 @@ use Rattle.feeder_wait.proofs.count_in.Tie as tie
 at : (u v len n : ℕ) → u ≡ v → n ≡ len / v → n * v ≤ len → n ≤ len → len ≤ n * 2 + 1 → (2 ≤ len → 2 ≤ n * v) → Count u len n
 at u v len n e is held most least two_bytes = subst (λ (x : ℕ). Count x len n) (sym e) (record { is = is; held = held; most = most; least = least; two_bytes = two_bytes })
 
-returns : tie.Need-returns
+returns : tie.Need-returns-then-unitsize-eq1
 returns c =
     let len = c.before.args.len in
-    at _ 1 len len c.if1.true (omega arith) (omega arith) (omega arith) (omega arith) (λ h. omega arith)
+    at _ 1 len len c.if-unitsize-eq1.true (omega arith) (omega arith) (omega arith) (omega arith) (λ h. omega arith)
 
-returns-2 : tie.Need-returns-2
+returns-2 : tie.Need-returns-else-unitsize-eq1
 returns-2 c =
     let s = c.before in
     let len = s.args.len in
-    at _ 2 len (len / 2) (unit_two s.requires c.if1.false) refl (omega arith) (omega arith) (omega arith) (λ h. omega arith)
+    at _ 2 len (len / 2) (unit_two s.requires c.if-unitsize-eq1.false) refl (omega arith) (omega arith) (omega arith) (λ h. omega arith)
 
-pub count-in-spec : {M : Type 1} → statement M
-count-in-spec = tie.close (tie.spec returns returns-2)
+pub count_in_spec : {M : Type 1} → statement M
+count_in_spec = tie.close (tie.spec returns returns-2)

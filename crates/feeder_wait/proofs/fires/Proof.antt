@@ -16,62 +16,62 @@ use Rattle.feeder_numbers.specs.Numbers.{known_in, previous_sample_in, previous_
 use Rattle.feeder_wait.proofs.fires.Statement.{statement}
 use Rattle.feeder_wait.proofs.fires.Tie as tie
 
-abbrev start_at : tie.After-masks-in → tie.Start
+abbrev start_at : tie.After-masks_in-masks → tie.Start
 start_at m = m.before.before.before.before.before.before.before
 
-element-copy-out-masks-in : tie.Need-element-copy-out-masks-in
+element-copy-out-masks-in : tie.Need-bounds-numbers-8
 element-copy-out-masks-in c = search rules
 
-element-copy-out-masks-in-2 : tie.Need-element-copy-out-masks-in-2
+element-copy-out-masks-in-2 : tie.Need-bounds-numbers-9
 element-copy-out-masks-in-2 c = search rules
 
-element-copy-out-masks-in-3 : tie.Need-element-copy-out-masks-in-3
+element-copy-out-masks-in-3 : tie.Need-bounds-numbers-10
 element-copy-out-masks-in-3 c = search rules
 
-element-copy-out-masks-in-4 : tie.Need-element-copy-out-masks-in-4
+element-copy-out-masks-in-4 : tie.Need-bounds-numbers-11
 element-copy-out-masks-in-4 c = search rules
 
-element-copy-out-masks-in-5 : tie.Need-element-copy-out-masks-in-5
+element-copy-out-masks-in-5 : tie.Need-bounds-numbers-12
 element-copy-out-masks-in-5 c = search rules
 
-masks-in-requires : tie.Need-masks-in-requires
+masks-in-requires : tie.Need-masks_in-masks-requires
 masks-in-requires c κs = search rules
 
-any-level-requires : tie.Need-any-level-requires
+any-level-requires : tie.Need-any_level-requires
 any-level-requires c κs = search rules
 
-element-copy-out-previous-in : tie.Need-element-copy-out-previous-in
+element-copy-out-previous-in : tie.Need-bounds-numbers-13
 element-copy-out-previous-in c = search rules
 
-element-copy-out-previous-in-2 : tie.Need-element-copy-out-previous-in-2
+element-copy-out-previous-in-2 : tie.Need-bounds-numbers-14
 element-copy-out-previous-in-2 c = search rules
 
-previous-in-requires : tie.Need-previous-in-requires
+previous-in-requires : tie.Need-previous_in-prev-requires
 previous-in-requires c κs = search rules
 
-fire-few-requires : tie.Need-fire-few-requires
+fire-few-requires : tie.Need-fire_few-requires
 fire-few-requires c κs = search rules
 
-returns : tie.Need-returns
+returns : tie.Need-returns-then-any_level
 returns c =
     let m = c.before.before.before.before.before.before in
     let a = (start_at m).args in
     ap (λ (x : ℕ). ltb x a.n)
-    (c.fire-few.ensures
-    ∙ ap₂ (λ (m : Masks) (p : Previous). first_fire (as_masks m) (previous_of p) (units a.unitsize a.n a.bytes.now)) m.masks-in.ensures c.before.previous-in.ensures)
+    (c.fire_few.ensures
+    ∙ ap₂ (λ (m : Masks) (p : Previous). first_fire (as_masks m) (previous_of p) (units a.unitsize a.n a.bytes.now)) m.masks_in-masks.ensures c.before.previous_in-prev.ensures)
 
-returns-2 : tie.Need-returns-2
+returns-2 : tie.Need-returns
 returns-2 c =
     let a = (start_at c.before.before).args in
     sym
     (ap (λ (x : ℕ). ltb x a.n)
-    (ap (λ (m : Masks). first_fire (as_masks m) (previous_of (previous_in (known_in a.numbers.now) (previous_sample_in a.numbers.now))) (units a.unitsize a.n a.bytes.now)) (sym c.before.before.masks-in.ensures)
-    ∙ c.before.any-level.ensures c.if1.false (previous_of (previous_in (known_in a.numbers.now) (previous_sample_in a.numbers.now)))
+    (ap (λ (m : Masks). first_fire (as_masks m) (previous_of (previous_in (known_in a.numbers.now) (previous_sample_in a.numbers.now))) (units a.unitsize a.n a.bytes.now)) (sym c.before.before.masks_in-masks.ensures)
+    ∙ c.before.any_level.ensures c.if-any_level.false (previous_of (previous_in (known_in a.numbers.now) (previous_sample_in a.numbers.now)))
     ∙ list_length (sample_of a.unitsize a.bytes.now) 0 a.n)
     ∙ le-ltb a.n a.n (omega arith))
 
-pub fires-spec : {M : Type 1} → statement M
-fires-spec =
+pub fires_spec : {M : Type 1} → statement M
+fires_spec =
     tie.close
     (tie.spec
     element-copy-out-masks-in

@@ -7,35 +7,35 @@ use lib.ListN.{length-set}
 use Rattle.feeder_wait.proofs.put_four.Statement.{statement}
 use Rattle.feeder_wait.proofs.put_four.Tie as tie
 
-add-second : tie.Need-overflow-add-second
+add-second : tie.Need-overflow_add-second
 add-second c = search rules
 
-add-third : tie.Need-overflow-add-third
+add-third : tie.Need-overflow_add-third
 add-third c = search rules
 
-slice-write-ring : tie.Need-slice-write-ring
+slice-write-ring : tie.Need-bounds-ring-at
 slice-write-ring c = search rules
 
-slice-write-ring-2 : tie.Need-slice-write-ring-2
+slice-write-ring-2 : tie.Need-bounds-ring-second
 slice-write-ring-2 c = simp length-set (omega arith)
 
-slice-write-ring-3 : tie.Need-slice-write-ring-3
+slice-write-ring-3 : tie.Need-bounds-ring-third
 slice-write-ring-3 c = simp length-set (omega arith)
 
-add-ring : tie.Need-overflow-add-ring
+add-ring : tie.Need-overflow_add-ring
 add-ring c = search rules
 
-slice-write-ring-4 : tie.Need-slice-write-ring-4
+slice-write-ring-4 : tie.Need-bounds-ring-third-2
 slice-write-ring-4 c = simp length-set (omega arith)
 
-same_length : tie.Need-same-length
+same_length : tie.Need-shape_of-ring
 same_length c = search rules
 
 returns : tie.Need-returns
 returns c = simp add-one refl
 
-pub put-four-spec : {M : Type 1} → statement M
-put-four-spec =
+pub put_four_spec : {M : Type 1} → statement M
+put_four_spec =
     tie.close
     (tie.spec
     add-second

@@ -7,21 +7,21 @@ use lib.ListN.{length-set}
 use Rattle.feeder_wait.proofs.put_two.Statement.{statement}
 use Rattle.feeder_wait.proofs.put_two.Tie as tie
 
-slice-write-ring : tie.Need-slice-write-ring
+slice-write-ring : tie.Need-bounds-ring-at
 slice-write-ring c = search rules
 
-add-ring : tie.Need-overflow-add-ring
+add-ring : tie.Need-overflow_add-ring
 add-ring c = search rules
 
-slice-write-ring-2 : tie.Need-slice-write-ring-2
+slice-write-ring-2 : tie.Need-bounds-ring-at-2
 slice-write-ring-2 c = simp length-set (omega arith)
 
-same_length : tie.Need-same-length
+same_length : tie.Need-shape_of-ring
 same_length c = search rules
 
 returns : tie.Need-returns
 returns c = rw add-one refl
 
-pub put-two-spec : {M : Type 1} → statement M
-put-two-spec =
+pub put_two_spec : {M : Type 1} → statement M
+put_two_spec =
     tie.close (tie.spec slice-write-ring add-ring slice-write-ring-2 same_length returns)

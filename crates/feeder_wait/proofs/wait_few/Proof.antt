@@ -7,81 +7,81 @@ use Rattle.feeder_wait.proofs.Short.{few_copy, few_went}
 use Rattle.feeder_wait.proofs.wait_few.Statement.{statement}
 use Rattle.feeder_wait.proofs.wait_few.Tie as tie
 
-abbrev start_at : tie.Else1 → tie.Start
+abbrev start_at : tie.Else-fires → tie.Start
 start_at e = e.before.before.before.before.before
 
 fires-requires : tie.Need-fires-requires
 fires-requires c κs = search rules
 
-returns : tie.Need-returns
+returns : tie.Need-returns-then-fires
 returns c = search rules
 
-element-copy-out-pre : tie.Need-element-copy-out-pre
+element-copy-out-pre : tie.Need-bounds-numbers-6
 element-copy-out-pre c = search rules
 
-element-copy-out-place : tie.Need-element-copy-out-place
+element-copy-out-place : tie.Need-bounds-numbers-15
 element-copy-out-place c = search rules
 
-element-copy-out-kept : tie.Need-element-copy-out-kept
+element-copy-out-kept : tie.Need-bounds-numbers-16
 element-copy-out-kept c = search rules
 
-sub-get : tie.Need-overflow-sub-get
+sub-get : tie.Need-overflow_sub-n
 sub-get c = search rules
 
-get-requires : tie.Need-get-requires
+get-requires : tie.Need-get-last-requires
 get-requires c κs =
     let s = start_at c.before.before.before in
     held _ s.args.n _ _ (record { unit_size = s.pre.unit_size; room = s.pre.samples }) (omega (arith, s.pre.some_samples))
 
-mul-copy-few : tie.Need-overflow-mul-copy-few
+mul-copy-few : tie.Need-overflow_mul-place
 mul-copy-few c = record { fits = omega (arith, few_copy _ _ _ _ _ (start_at c.before.before.before.before.before).requires) }
 
-mul-copy-few-2 : tie.Need-overflow-mul-copy-few-2
+mul-copy-few-2 : tie.Need-overflow_mul-n
 mul-copy-few-2 c = search rules
 
-copy-few-requires : tie.Need-copy-few-requires
+copy-few-requires : tie.Need-copy_few-requires
 copy-few-requires c κs = few_copy _ _ _ _ _ (start_at c.before.before.before.before.before).requires
 
-element-write-numbers : tie.Need-element-write-numbers
+element-write-numbers : tie.Need-bounds-numbers-13
 element-write-numbers c = search rules
 
-cast-numbers : tie.Need-overflow-cast-numbers
+cast-numbers : tie.Need-overflow_cast-numbers
 cast-numbers c = search rules
 
-element-write-numbers-2 : tie.Need-element-write-numbers-2
+element-write-numbers-2 : tie.Need-bounds-numbers-14
 element-write-numbers-2 c = search rules
 
-add-numbers : tie.Need-overflow-add-numbers
+add-numbers : tie.Need-overflow_add-numbers
 add-numbers c = search rules
 
-element-write-numbers-3 : tie.Need-element-write-numbers-3
+element-write-numbers-3 : tie.Need-bounds-numbers-15-2
 element-write-numbers-3 c = search rules
 
-sub-lesser : tie.Need-overflow-sub-lesser
+sub-lesser : tie.Need-overflow_sub-pre
 sub-lesser c = search rules
 
 lesser-requires : tie.Need-lesser-requires
 lesser-requires c κs = search rules
 
-add-numbers-2 : tie.Need-overflow-add-numbers-2
+add-numbers-2 : tie.Need-overflow_add-numbers-2
 add-numbers-2 c = search rules
 
-element-write-numbers-4 : tie.Need-element-write-numbers-4
+element-write-numbers-4 : tie.Need-bounds-numbers-16-2
 element-write-numbers-4 c = search rules
 
-same_length : tie.Need-same-length
+same_length : tie.Need-shape_of-ring
 same_length c = search rules
 
-returns-2 : tie.Need-returns-2
+returns-2 : tie.Need-returns
 returns-2 c =
     let w = c.before.before.before in
     let i = w.before.before.before.before.before.before in
     let s = start_at i in
     let a = s.args in
-    few_went a.numbers.now a.ring.now a.bytes.now a.unitsize a.n _ _ _ s.pre (sym i.before.fires.ensures ∙ i.if1.false) w.before.before.get.ensures c.lesser.ensures w.copy-few.ensures
+    few_went a.numbers.now a.ring.now a.bytes.now a.unitsize a.n _ _ _ s.pre (sym i.before.fires.ensures ∙ i.if-fires.false) w.before.before.get-last.ensures c.lesser.ensures w.copy_few.ensures
 
-pub wait-few-spec : {M : Type 1} → statement M
-wait-few-spec =
+pub wait_few_spec : {M : Type 1} → statement M
+wait_few_spec =
     tie.close
     (tie.spec
     fires-requires

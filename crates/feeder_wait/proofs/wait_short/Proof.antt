@@ -8,70 +8,70 @@ use Rattle.feeder_wait.proofs.wait_short.Statement.{statement}
 use Rattle.feeder_wait.proofs.wait_short.Tie as tie
 
 -- past the test that it waits
-abbrev waiting_at : tie.Else5 → tie.Else1
+abbrev waiting_at : tie.Else-pre-place-2 → tie.Else-not-waiting
 waiting_at e = e.before.before.before.before.before.before
 
-abbrev start_at : tie.After-slice-known → tie.Start
+abbrev start_at : tie.After-slice_known-1 → tie.Start
 start_at s = s.before.before.before.before.before.before
 
-waits-requires : tie.Need-waits-requires
+waits-requires : tie.Need-waits-waiting-requires
 waits-requires c κs = search rules
 
-returns : tie.Need-returns
+returns : tie.Need-returns-then-not-waiting
 returns c = search rules
 
-element-copy-out-pre : tie.Need-element-copy-out-pre
+element-copy-out-pre : tie.Need-bounds-numbers-6
 element-copy-out-pre c = search rules
 
-element-copy-out-place : tie.Need-element-copy-out-place
+element-copy-out-place : tie.Need-bounds-numbers-15
 element-copy-out-place c = search rules
 
-returns-2 : tie.Need-returns-2
+returns-2 : tie.Need-returns-then-pre-place
 returns-2 c = search rules
 
-returns-3 : tie.Need-returns-3
+returns-3 : tie.Need-returns-then-len-ge-SHORT
 returns-3 c = search rules
 
-returns-4 : tie.Need-returns-4
+returns-4 : tie.Need-returns-then-len-lt2
 returns-4 c = search rules
 
-sub-if5 : tie.Need-overflow-sub-if5
+sub-if5 : tie.Need-overflow_sub-pre
 sub-if5 c = search rules
 
-returns-5 : tie.Need-returns-5
+returns-5 : tie.Need-returns-then-pre-place-2
 returns-5 c = search rules
 
-element-copy-out-unitsize : tie.Need-element-copy-out-unitsize
+element-copy-out-unitsize : tie.Need-bounds-numbers-0
 element-copy-out-unitsize c = search rules
 
-count-in-requires : tie.Need-count-in-requires
+count-in-requires : tie.Need-count_in-n-requires
 count-in-requires c κs =
     let t = waiting_at c.before in
-    let w = t.before.waits.ensures (not-false _ t.if1.left) in
+    let w = t.before.waits-waiting.ensures (not-false _ t.if-not-waiting.left) in
     w.store.unit_size
 
-wait-few-requires : tie.Need-wait-few-requires
+wait-few-requires : tie.Need-wait_few-requires
 wait-few-requires c κs =
     let k = c.before.before in
     let t = waiting_at k.before.before in
-    let w = t.before.waits.ensures (not-false _ t.if1.left) in
-    let n = k.count-in.ensures in
+    let w = t.before.waits-waiting.ensures (not-false _ t.if-not-waiting.left) in
+    let n = k.count_in-n.ensures in
     few_room _ _ _ _ w (omega arith) _ _ refl n.held (omega (arith, n.least)) (n.two_bytes (omega arith)) (omega arith) (omega (arith, n.most))
 
-same_length : tie.Need-same-length
+same_length : tie.Need-shape_of-ring
 same_length c = search rules
 
-returns-6 : tie.Need-returns-6
+returns-6 : tie.Need-returns
 returns-6 c =
     let k = c.before.before.before.before.before in
     let t = waiting_at k.before.before in
     let a = (start_at t.before.before.before.before).args in
-    let w = t.before.waits.ensures (not-false _ t.if1.left) in
-    let n = k.count-in.ensures in
-    short_is a.numbers.now _ a.ring.now a.bytes.now w (omega arith) _ _ refl n.is (omega (arith, n.least)) (omega (arith, n.most)) _ _ c.before.before.wait-few.result c.before.before.wait-few.ensures
+    let w = t.before.waits-waiting.ensures (not-false _ t.if-not-waiting.left) in
+    let n = k.count_in-n.ensures in
+    short_is a.numbers.now _ a.ring.now a.bytes.now w (omega arith) _ _ refl n.is (omega (arith, n.least)) (omega (arith, n.most)) _ _ c.before.before.wait_few.result c.before.before.wait_few.ensures
 
-pub wait-short-spec : {M : Type 1} → statement M
-wait-short-spec =
+pub wait_short_spec : {M : Type 1} → statement M
+wait_short_spec =
     tie.close
     (tie.spec
     waits-requires

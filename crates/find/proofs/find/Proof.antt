@@ -10,78 +10,78 @@ use Rattle.find.proofs.Turn.{Stands, stands_first, stands_last, turn_room, turn_
 use Rattle.find.proofs.find.Statement.{statement}
 use Rattle.find.proofs.find.Tie as tie
 
-abbrev invariant-loop : tie.invariant-loop
+abbrev invariant-loop : tie.invariant-loop-room
 invariant-loop part l1 l2 l3 l4 unitsize base hi back mask start before pos₀ room₀ maxl₀ value₀ count₀ pos room maxl value count =
     Stands back unitsize base hi part (level_of l1 l2 l3 l4) mask (walk_from (way_in back (reader_from base unitsize part (level_of l1 l2 l3 l4)) base hi) mask start before) count pos room maxl value
 
-abbrev decreases-loop : tie.decreases-loop
+abbrev decreases-loop : tie.decreases-loop-room
 decreases-loop part l1 l2 l3 l4 unitsize base hi back mask start before pos₀ room₀ maxl₀ value₀ count₀ pos room maxl value count = room + maxl
 
 -- the function's start, from the loop's head
-abbrev start_at : tie.At-loop invariant-loop decreases-loop → tie.Start invariant-loop decreases-loop
+abbrev start_at : tie.At-loop-room invariant-loop decreases-loop → tie.Start invariant-loop decreases-loop
 start_at p = p.before.before.before.before.before.before.before
 
-left-requires : tie.Need-left-requires invariant-loop decreases-loop
+left-requires : tie.Need-left-room-requires invariant-loop decreases-loop
 left-requires c κs = search rules
 
-loop-holds : tie.Need-loop-init invariant-loop decreases-loop
+loop-holds : tie.Need-loop-room-init invariant-loop decreases-loop
 loop-holds c =
     let s = c.before.before.before.before.before.before in
     let a = s.args in
-    stands_first a.back a.unitsize a.base a.hi a.part.now (level_of a.l1.now a.l2.now a.l3.now a.l4.now) a.mask a.start c.left.result a.before s.requires.1 s.requires.2 s.requires.3 c.left.ensures
+    stands_first a.back a.unitsize a.base a.hi a.part.now (level_of a.l1.now a.l2.now a.l3.now a.l4.now) a.mask a.start c.left-room.result a.before s.requires.1 s.requires.2 s.requires.3 c.left-room.ensures
 
-take-requires : tie.Need-take-requires invariant-loop decreases-loop
+take-requires : tie.Need-take-t-requires invariant-loop decreases-loop
 take-requires c κs =
-    let x = c.before.loop.invariant in
+    let x = c.before.loop-room.invariant in
     ((start_at c.before).pre.0, x.placed.low, x.placed.high, omega (arith, x.placed.room_is), x.going.capped)
 
-mul-d : tie.Need-overflow-mul-d invariant-loop decreases-loop
-mul-d c = omega (arith, turn_most c.before.before.before.loop.invariant c.before.take.ensures)
+mul-d : tie.Need-overflow_mul-d invariant-loop decreases-loop
+mul-d c = omega (arith, turn_most c.before.before.before.loop-room.invariant c.before.take-t.ensures)
 
-moved-requires : tie.Need-moved-requires invariant-loop decreases-loop
-moved-requires c κs = turn_moves c.before.before.before.loop.invariant c.before.take.ensures (omega arith)
+moved-requires : tie.Need-moved-pos-requires invariant-loop decreases-loop
+moved-requires c κs = turn_moves c.before.before.before.loop-room.invariant c.before.take-t.ensures (omega arith)
 
-sub-room : tie.Need-overflow-sub-room invariant-loop decreases-loop
-sub-room c = turn_room c.before.before.before.before.loop.invariant c.before.before.take.ensures
+sub-room : tie.Need-overflow_sub-room invariant-loop decreases-loop
+sub-room c = turn_room c.before.before.before.before.loop-room.invariant c.before.before.take-t.ensures
 
-add-count : tie.Need-overflow-add-count invariant-loop decreases-loop
-add-count c = let t = c.before.before.before in omega (arith, turn_counts t.before.before.loop.invariant t.take.ensures)
+add-count : tie.Need-overflow_add-count invariant-loop decreases-loop
+add-count c = let t = c.before.before.before in omega (arith, turn_counts t.before.before.loop-room.invariant t.take-t.ensures)
 
-add-count-2 : tie.Need-overflow-add-count-2 invariant-loop decreases-loop
-add-count-2 c = let t = c.before.before.before.before.before in omega (arith, turn_stops t.before.before.loop.invariant t.take.ensures c.if1.true)
+add-count-2 : tie.Need-overflow_add-count-then-t invariant-loop decreases-loop
+add-count-2 c = let t = c.before.before.before.before.before in omega (arith, turn_stops t.before.before.loop-room.invariant t.take-t.ensures c.if-t.true)
 
-returns : tie.Need-returns invariant-loop decreases-loop
+returns : tie.Need-returns-then-t-eq0 invariant-loop decreases-loop
 returns c =
     let t = c.before.before.before.before.before.before.before in
-    turn_found t.before.before.loop.invariant t.take.ensures c.before.before.before.before.before.moved.ensures c.before.before.if1.true c.if2.true
+    turn_found t.before.before.loop-room.invariant t.take-t.ensures c.before.before.before.before.before.moved-pos.ensures c.before.before.if-t.true c.if-t-eq0.true
 
-sub-maxl : tie.Need-overflow-sub-maxl invariant-loop decreases-loop
+sub-maxl : tie.Need-overflow_sub-maxl invariant-loop decreases-loop
 sub-maxl c = omega arith
 
-loop-less : tie.Need-loop-smaller invariant-loop decreases-loop
+loop-less : tie.Need-loop-room-smaller-then-t invariant-loop decreases-loop
 loop-less c =
     let m = c.before.before.before.before.before.before in
     let t = m.before.before in
-    omega (arith, turn_room t.before.before.loop.invariant t.take.ensures, t.take.ensures.best.below)
+    omega (arith, turn_room t.before.before.loop-room.invariant t.take-t.ensures, t.take-t.ensures.best.below)
 
-loop-again : tie.Need-loop-preserved invariant-loop decreases-loop
+loop-again : tie.Need-loop-room-preserved-then-t invariant-loop decreases-loop
 loop-again c =
     let m = c.before.before.before.before.before.before in
     let t = m.before.before in
-    turn_lower t.before.before.loop.invariant t.take.ensures m.moved.ensures c.before.before.before.if1.true c.before.if2.false
+    turn_lower t.before.before.loop-room.invariant t.take-t.ensures m.moved-pos.ensures c.before.before.before.if-t.true c.before.if-t-eq0.false
 
-loop-less-2 : tie.Need-loop-smaller-2 invariant-loop decreases-loop
+loop-less-2 : tie.Need-loop-room-smaller invariant-loop decreases-loop
 loop-less-2 c =
     let t = c.before.before.before.before.before in
-    omega (arith, turn_room t.before.before.loop.invariant t.take.ensures, turn_some t.before.before.loop.invariant t.take.ensures c.if1.false)
+    omega (arith, turn_room t.before.before.loop-room.invariant t.take-t.ensures, turn_some t.before.before.loop-room.invariant t.take-t.ensures c.if-t.false)
 
-loop-again-2 : tie.Need-loop-preserved-2 invariant-loop decreases-loop
+loop-again-2 : tie.Need-loop-room-preserved invariant-loop decreases-loop
 loop-again-2 c =
     let t = c.before.before.before.before.before in
-    turn_past t.before.before.loop.invariant t.take.ensures c.before.before.before.moved.ensures
+    turn_past t.before.before.loop-room.invariant t.take-t.ensures c.before.before.before.moved-pos.ensures
 
-returns-2 : tie.Need-returns-2 invariant-loop decreases-loop
-returns-2 c = stands_last c.before.loop.invariant (omega arith)
+returns-2 : tie.Need-returns invariant-loop decreases-loop
+returns-2 c = stands_last c.before.loop-room.invariant (omega arith)
 
 pub find_spec : {M : Type 1} → statement M
 find_spec =

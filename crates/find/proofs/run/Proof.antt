@@ -10,42 +10,42 @@ use Rattle.find.proofs.Node.{quiets_none, quiets_more}
 use Rattle.find.proofs.run.Statement.{statement}
 use Rattle.find.proofs.run.Tie as tie
 
-abbrev invariant-loop : tie.invariant-loop
+abbrev invariant-loop : tie.invariant-loop-k
 invariant-loop part level unitsize l back from n before mask value₀ k₀ value k = (k ≤ n) × Quiets (nth_node back (node_at unitsize part level l) from) mask before k value
 
-abbrev decreases-loop : tie.decreases-loop
+abbrev decreases-loop : tie.decreases-loop-k
 decreases-loop part level unitsize l back from n before mask value₀ k₀ value k = n - k
 
-loop-holds : tie.Need-loop-init invariant-loop decreases-loop
+loop-holds : tie.Need-loop-k-init invariant-loop decreases-loop
 loop-holds c =
     let a = c.before.before.args in
     (zero-le, quiets_none (nth_node a.back (node_at a.unitsize a.part.now a.level.now a.l) a.from) a.mask a.before)
 
-nth-requires : tie.Need-nth-requires invariant-loop decreases-loop
-nth-requires c κs = c.before.before.before.before.requires.each c.before.loop.k (omega arith)
+nth-requires : tie.Need-nth-m-requires invariant-loop decreases-loop
+nth-requires c κs = c.before.before.before.before.requires.each c.before.loop-k.k (omega arith)
 
 quiet-requires : tie.Need-quiet-requires invariant-loop decreases-loop
 quiet-requires c κs = search rules
 
-returns : tie.Need-returns invariant-loop decreases-loop
+returns : tie.Need-returns-else-quiet invariant-loop decreases-loop
 returns c =
-    let p = c.before.before.before.before.loop in
+    let p = c.before.before.before.before.loop-k in
     let a = c.before.before.before.before.before.before.before.args in
-    record { most = p.invariant.0; quiets = p.invariant.1; stops = λ _. sym (ap (λ (n : Node). quiet n p.value a.mask) c.before.before.nth.ensures) ∙ sym c.before.quiet.ensures ∙ c.if1.false }
+    record { most = p.invariant.0; quiets = p.invariant.1; stops = λ _. sym (ap (λ (n : Node). quiet n p.value a.mask) c.before.before.nth-m.ensures) ∙ sym c.before.quiet.ensures ∙ c.if-quiet.false }
 
-add-k : tie.Need-overflow-add-k invariant-loop decreases-loop
+add-k : tie.Need-overflow_add-k invariant-loop decreases-loop
 add-k c = omega arith
 
-loop-less : tie.Need-loop-smaller invariant-loop decreases-loop
+loop-less : tie.Need-loop-k-smaller invariant-loop decreases-loop
 loop-less c = omega arith
 
-loop-again : tie.Need-loop-preserved invariant-loop decreases-loop
+loop-again : tie.Need-loop-k-preserved invariant-loop decreases-loop
 loop-again c =
-    let p = c.before.before.before.before.loop in
-    (omega arith, quiets_more p.invariant.1 (as_node c.before.before.nth.result) c.before.before.nth.ensures (sym c.before.quiet.ensures ∙ c.if1.true))
+    let p = c.before.before.before.before.loop-k in
+    (omega arith, quiets_more p.invariant.1 (as_node c.before.before.nth-m.result) c.before.before.nth-m.ensures (sym c.before.quiet.ensures ∙ c.if-quiet.true))
 
-returns-2 : tie.Need-returns-2 invariant-loop decreases-loop
-returns-2 c = let p = c.before.loop in record { most = p.invariant.0; quiets = p.invariant.1; stops = λ h. absurd (omega arith) }
+returns-2 : tie.Need-returns invariant-loop decreases-loop
+returns-2 c = let p = c.before.loop-k in record { most = p.invariant.0; quiets = p.invariant.1; stops = λ h. absurd (omega arith) }
 
 pub run_spec : {M : Type 1} → statement M
 run_spec = tie.close (tie.spec invariant-loop decreases-loop loop-holds nth-requires quiet-requires add-k loop-less loop-again returns returns-2)

@@ -9,23 +9,23 @@ use Rattle.float.proofs.clamped.Tie as tie
 picked : (top p : Float) (a b : Bool) → lt nought p ≡ a → lt p top ≡ b → cond a (cond b p top) nought ≡ clamp top p
 picked top p a b e f = sym (ap (λ (t : Bool). cond t (cond (lt p top) p top) nought) e ∙ ap (λ (t : Bool). cond a (cond t p top) nought) f)
 
-returns : tie.Need-returns
+returns : tie.Need-returns-then-p-top
 unfolding of_bits
 returns c =
     let s = c.before.before.args in
-    picked s.top s.p true true c.before.if1.true c.if2.true
+    picked s.top s.p true true c.before.if-p.true c.if-p-top.true
 
-returns-2 : tie.Need-returns-2
+returns-2 : tie.Need-returns-else-p-top
 unfolding of_bits
 returns-2 c =
     let s = c.before.before.args in
-    picked s.top s.p true false c.before.if1.true c.if2.false
+    picked s.top s.p true false c.before.if-p.true c.if-p-top.false
 
-returns-3 : tie.Need-returns-3
+returns-3 : tie.Need-returns-else-p
 unfolding of_bits
 returns-3 c =
     let s = c.before.args in
-    picked s.top s.p false (lt s.p s.top) c.if1.false refl
+    picked s.top s.p false (lt s.p s.top) c.if-p.false refl
 
-pub clamped-spec : {M : Type 1} → statement M
-clamped-spec = tie.close (tie.spec returns returns-2 returns-3)
+pub clamped_spec : {M : Type 1} → statement M
+clamped_spec = tie.close (tie.spec returns returns-2 returns-3)

@@ -38,27 +38,27 @@ value c = whole_value (room c) (room_small c)
 origin_value : (c : tie.Start) → HasValue (of_int binary64 (pos c.args.origin)) false c.args.origin 1
 origin_value c = whole_value c.args.origin (small c c.requires.0)
 
-sub-if2 : tie.Need-overflow-sub-if2
+sub-if2 : tie.Need-overflow_sub-hi
 sub-if2 c = search rules
 
 -- 1 ≤ x
-from_one : (c : tie.Then1) → T (le one c.before.args.x)
+from_one : (c : tie.Then-x) → T (le one c.before.args.x)
 unfolding of_bits
-from_one c = yes c.if1.true
+from_one c = yes c.if-x.true
 
-over : (c : tie.Then1) → T (above c.before.args.x)
+over : (c : tie.Then-x) → T (above c.before.args.x)
 over c = above_of_le one c.before.args.x tt (from_one c)
 
-int-to-float-if2 : tie.Need-int-to-float-if2
+int-to-float-if2 : tie.Need-int_to_float-hi
 int-to-float-if2 c = castable (room c.before.before) (room_small c.before.before)
 
 -- x < hi - origin
-inside : (c : tie.Then2) → Under (room c.before.before.before) c.before.before.before.args.x
+inside : (c : tie.Then-x-hi) → Under (room c.before.before.before) c.before.before.before.args.x
 inside c =
     let s = c.before.before.before in
-    under s.args.x (of_int binary64 (pos (room s))) (room s) (value s) (over c.before.before) (yes c.if2.true)
+    under s.args.x (of_int binary64 (pos (room s))) (room s) (value s) (over c.before.before) (yes c.if-x-hi.true)
 
-fit : (c : tie.Then2) → Shiftable 0 c.before.before.before.args.x
+fit : (c : tie.Then-x-hi) → Shiftable 0 c.before.before.before.args.x
 fit c =
     let s = c.before.before.before in
     shiftable 0 (room s) one s.args.x (lit≤ tt) (le_trans (le_of_eq (mul-one (room s))) (room_small s)) (refl, refl) (from_one c.before.before) (inside c)
@@ -71,18 +71,18 @@ low c =
     let s = c.before.before.before.before in
     subst (λ (n : ℕ). n < room s) (sym c.shifted.ensures) (floor_under s.args.x (room s) (inside c.before))
 
-add-t12 : tie.Need-overflow-add-t12
+add-t12 : tie.Need-overflow_add-result
 add-t12 c = omega (arith, low c)
 
-returns : tie.Need-returns
+returns : tie.Need-returns-then-x-hi
 returns c =
     let s = c.before.before.before.before in
     ap (λ (n : ℕ). At (n + s.args.origin)) c.shifted.ensures ∙ sym (placed s.args.x s.args.origin s.args.hi (fit c.before).number (inside c.before))
 
-returns-2 : tie.Need-returns-2
+returns-2 : tie.Need-returns-else-x-hi
 returns-2 c =
     let s = c.before.before.before in
-    sym (beyond s.args.x (of_int binary64 (pos (room s))) s.args.origin s.args.hi (value s) (over c.before.before) (no c.if2.false))
+    sym (beyond s.args.x (of_int binary64 (pos (room s))) s.args.origin s.args.hi (value s) (over c.before.before) (no c.if-x-hi.false))
 
 -- 0 ≤ x < 1
 zeroth : (x : Float) (o h : ℕ) (b : Bool) → T (le nought x) → T (not (le one x)) → ltb o h ≡ b → cond b (At o) Beyond ≡ place_of (moved (pos o) (floor_of x)) h
@@ -91,61 +91,61 @@ zeroth x o h b a l e =
     ∙ ap (λ (n : ℕ). cond (ltb n h) (At n) Beyond) (sym (zero-add o))
     ∙ ap (λ (w : Whole). place_of (moved (pos o) w) h) (sym (floor_zero x a l))
 
-returns-3 : tie.Need-returns-3
+returns-3 : tie.Need-returns-then-origin-hi
 unfolding of_bits
 returns-3 c =
     let s = c.before.before.before in
-    zeroth s.args.x s.args.origin s.args.hi true (yes c.before.if3.true) (no c.before.before.if1.false) (lt-ltb s.args.origin s.args.hi c.if4.true)
+    zeroth s.args.x s.args.origin s.args.hi true (yes c.before.if-x-2.true) (no c.before.before.if-x.false) (lt-ltb s.args.origin s.args.hi c.if-origin-hi.true)
 
-returns-4 : tie.Need-returns-4
+returns-4 : tie.Need-returns-else-origin-hi
 unfolding of_bits
 returns-4 c =
     let s = c.before.before.before in
-    zeroth s.args.x s.args.origin s.args.hi false (yes c.before.if3.true) (no c.before.before.if1.false) (le-ltb s.args.origin s.args.hi c.if4.false)
+    zeroth s.args.x s.args.origin s.args.hi false (yes c.before.if-x-2.true) (no c.before.before.if-x.false) (le-ltb s.args.origin s.args.hi c.if-origin-hi.false)
 
 -- x < 0, or NaN
-int-to-float-if5 : tie.Need-int-to-float-if5
+int-to-float-if5 : tie.Need-int_to_float-origin
 int-to-float-if5 c = let s = c.before.before.before in castable s.args.origin (small s s.requires.0)
 
-negative : (c : tie.Else3) → T (not (le nought c.before.before.args.x))
+negative : (c : tie.Else-x-2) → T (not (le nought c.before.before.args.x))
 unfolding of_bits
-negative c = no c.if3.false
+negative c = no c.if-x-2.false
 
 -- −x ≤ origin
-above_zero : (c : tie.Then5) → T (positive (neg c.before.before.before.before.args.x))
+above_zero : (c : tie.Then-y-origin) → T (positive (neg c.before.before.before.before.args.x))
 above_zero c =
     let s = c.before.before.before.before in
-    size s.args.x (of_int binary64 (pos s.args.origin)) s.args.origin (origin_value s) (negative c.before.before) (yes c.if5.true)
+    size s.args.x (of_int binary64 (pos s.args.origin)) s.args.origin (origin_value s) (negative c.before.before) (yes c.if-y-origin.true)
 
 ceiling-requires : tie.Need-ceiling-requires
 ceiling-requires c κs =
     let s = c.before.before.before.before in (
       above_zero c,
-      upto_under (neg s.args.x) (of_int binary64 (pos s.args.origin)) s.args.origin (2 ^ 53) (origin_value s) (above_zero c) (yes c.if5.true) (omega arith),
+      upto_under (neg s.args.x) (of_int binary64 (pos s.args.origin)) s.args.origin (2 ^ 53) (origin_value s) (above_zero c) (yes c.if-y-origin.true) (omega arith),
     )
 
-sub-t21 : tie.Need-overflow-sub-t21
+sub-t21 : tie.Need-overflow_sub-result
 sub-t21 c =
     let t = c.before in
     let s = t.before.before.before.before in
     subst (λ (n : ℕ). n ≤ s.args.origin) (sym c.ceiling.ensures)
-    (ceil_le (neg s.args.x) (above_zero t) s.args.origin (upto (neg s.args.x) (of_int binary64 (pos s.args.origin)) s.args.origin (origin_value s) (above_zero t) (yes t.if5.true)))
+    (ceil_le (neg s.args.x) (above_zero t) s.args.origin (upto (neg s.args.x) (of_int binary64 (pos s.args.origin)) s.args.origin (origin_value s) (above_zero t) (yes t.if-y-origin.true)))
 
-returns-5 : tie.Need-returns-5
+returns-5 : tie.Need-returns-then-y-origin
 returns-5 c =
     let e = c.before.before.before in
     let s = e.before.before in
     ap (λ (n : ℕ). At (s.args.origin - n)) c.ceiling.ensures
-    ∙ sym (back s.args.x (of_int binary64 (pos s.args.origin)) s.args.origin s.args.hi (origin_value s) s.requires.0 (negative e) (yes c.before.if5.true))
+    ∙ sym (back s.args.x (of_int binary64 (pos s.args.origin)) s.args.origin s.args.hi (origin_value s) s.requires.0 (negative e) (yes c.before.if-y-origin.true))
 
-returns-6 : tie.Need-returns-6
+returns-6 : tie.Need-returns-else-y-origin
 returns-6 c =
     let e = c.before.before in
     let s = e.before.before in
-    sym (below s.args.x (of_int binary64 (pos s.args.origin)) s.args.origin s.args.hi (origin_value s) (negative e) (no c.if5.false))
+    sym (below s.args.x (of_int binary64 (pos s.args.origin)) s.args.origin s.args.hi (origin_value s) (negative e) (no c.if-y-origin.false))
 
-pub floor-in-spec : {M : Type 1} → statement M
-floor-in-spec =
+pub floor_in_spec : {M : Type 1} → statement M
+floor_in_spec =
     tie.close
     (tie.spec
     sub-if2

@@ -22,7 +22,7 @@ most_upto : Upto 1 1 most_fraction
 unfolding most_fraction
 most_upto = lit≤ tt
 
-int-to-float-whole-part : tie.Need-int-to-float-whole-part
+int-to-float-whole-part : tie.Need-int_to_float-limit
 int-to-float-whole-part c = castable c.before.args.limit (le_trans c.before.requires (lit≤ tt))
 
 clamped-requires : tie.Need-clamped-requires
@@ -32,7 +32,7 @@ clamped-requires c κs = search rules
 is : (c : tie.After-clamped) → c.clamped.result ≡ clamp most_fraction c.before.before.args.p
 is c = c.clamped.ensures ∙ ap (λ (t : Float). clamp t c.before.before.args.p) most_is
 
-whole-part-requires : tie.Need-whole-part-requires
+whole-part-requires : tie.Need-whole_part-requires
 unfolding times
 whole-part-requires c κs =
     let s = c.before.before in
@@ -45,5 +45,5 @@ returns c =
     let s = c.before.before.before in
     c.whole_part.ensures ∙ ap (λ (q : Float). natural (floor_of (times s.args.limit q))) (is c.before)
 
-pub fraction-samples-spec : {M : Type 1} → statement M
-fraction-samples-spec = tie.close (tie.spec int-to-float-whole-part clamped-requires whole-part-requires returns)
+pub fraction_samples_spec : {M : Type 1} → statement M
+fraction_samples_spec = tie.close (tie.spec int-to-float-whole-part clamped-requires whole-part-requires returns)

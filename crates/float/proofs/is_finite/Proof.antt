@@ -19,17 +19,17 @@ upper nan h = refl
 upper (inf s) h = refl
 upper (fin s m e) h = absurd (true≢false h)
 
-float-from-bits-top : tie.Need-float-from-bits-top
+float-from-bits-top : tie.Need-float_from_bits-top
 unfolding nan_bits
 float-from-bits-top c = tt
 
-returns : tie.Need-returns
+returns : tie.Need-returns-then-x-top
 unfolding of_bits neg
-returns c = lower c.before.args.x c.if1.true
+returns c = lower c.before.args.x c.if-x-top.true
 
-returns-2 : tie.Need-returns-2
+returns-2 : tie.Need-returns-else-x-top
 unfolding of_bits
-returns-2 c = upper c.before.args.x c.if1.false
+returns-2 c = upper c.before.args.x c.if-x-top.false
 
-pub is-finite-spec : {M : Type 1} → statement M
-is-finite-spec = tie.close (tie.spec float-from-bits-top returns returns-2)
+pub is_finite_spec : {M : Type 1} → statement M
+is_finite_spec = tie.close (tie.spec float-from-bits-top returns returns-2)

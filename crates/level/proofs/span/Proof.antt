@@ -13,10 +13,10 @@ use Rattle.level.proofs.span.Tie as tie
 shifted : (l : ℕ) → l ≤ 4 → (1 * 2 ^ (5 * l)) % 2 ^ 64 ≡ span l
 shifted l h = ap (λ (x : ℕ). x % 2 ^ 64) (one-mul (2 ^ (5 * l)) ∙ span_bits l) ∙ mod-eq_of_lt (omega (arith, span_le h))
 
-mul-result : tie.Need-overflow-mul-result
+mul-result : tie.Need-overflow_mul-result
 mul-result c = search rules
 
-shl-result : tie.Need-overflow-shl-result
+shl-result : tie.Need-overflow_shl-result
 shl-result c = search rules
 
 returns : tie.Need-returns
@@ -24,5 +24,5 @@ returns c =
     let e = shifted c.args.level c.requires in
     (e, omega (arith, span_pos c.args.level), omega (arith, span_le c.requires))
 
-pub span-spec : {M : Type 1} → statement M
-span-spec = tie.close (tie.spec mul-result shl-result returns)
+pub span_spec : {M : Type 1} → statement M
+span_spec = tie.close (tie.spec mul-result shl-result returns)

@@ -5,28 +5,28 @@ use Rattle.logic_core.proofs.Codes.{appends_told}
 use Rattle.logic_core.proofs.lc_append.Statement.{statement}
 use Rattle.logic_core.proofs.lc_append.Tie as tie
 
-capture-in-requires : tie.Need-capture-in-requires
+capture-in-requires : tie.Need-capture_in-c-requires
 capture-in-requires c κs = search rules
 
-append-requires : tie.Need-append-requires
+append-requires : tie.Need-append-answer-requires
 append-requires c κs = search rules
 
-appended-code-requires : tie.Need-appended-code-requires
+appended-code-requires : tie.Need-appended_code-requires
 appended-code-requires c κs = search rules
 
-same_length : tie.Need-same-length
+same_length : tie.Need-shape_of-samples
 same_length c = search rules
 
-same-length-2 : tie.Need-same-length-2
+same-length-2 : tie.Need-shape_of-l1
 same-length-2 c = search rules
 
-same-length-3 : tie.Need-same-length-3
+same-length-3 : tie.Need-shape_of-l2
 same-length-3 c = search rules
 
-same-length-4 : tie.Need-same-length-4
+same-length-4 : tie.Need-shape_of-l3
 same-length-4 c = search rules
 
-same-length-5 : tie.Need-same-length-5
+same-length-5 : tie.Need-shape_of-l4
 same-length-5 c = search rules
 
 returns : tie.Need-returns
@@ -36,10 +36,10 @@ returns c =
     let read = stored.before.before.before.before.before.before in
     let known = read.before.before in
     let a = known.before.before.before.before.before.before.args in
-    appends_told a.bytes.now a.samples.now (level_of a.l1.now a.l2.now a.l3.now a.l4.now) _ _ stored.append.result _ _ _ read.capture-in.ensures stored.append.ensures c.appended-code.ensures
+    appends_told a.bytes.now a.samples.now (level_of a.l1.now a.l2.now a.l3.now a.l4.now) _ _ stored.append-answer.result _ _ _ read.capture_in-c.ensures stored.append-answer.ensures c.appended_code.ensures
 
-pub lc-append-spec : {M : Type 1} → statement M
-lc-append-spec =
+pub lc_append_spec : {M : Type 1} → statement M
+lc_append_spec =
     tie.close
     (tie.spec
     capture-in-requires

@@ -8,20 +8,20 @@ use Rattle.logic_core.proofs.Codes.{sought_by}
 use Rattle.logic_core.proofs.lc_burst_at.Statement.{statement}
 use Rattle.logic_core.proofs.lc_burst_at.Tie as tie
 
-capture-in-requires : tie.Need-capture-in-requires
+capture-in-requires : tie.Need-capture_in-requires
 capture-in-requires c κs = search rules
 
-burst-at-requires : tie.Need-burst-at-requires
+burst-at-requires : tie.Need-burst_at-answer-requires
 burst-at-requires c κs = search rules
 
-burst-code-requires : tie.Need-burst-code-requires
+burst-code-requires : tie.Need-burst_code-requires
 burst-code-requires c κs = search rules
 
 returns : tie.Need-returns
 returns c =
     let read = c.before.before.before.before in
     let a = read.before.before.before.before.before.before.args in
-    sought_by burst_numbers burst_as (λ (x : Capture). burst_of x a.samples.now (level_of a.l1.now a.l2.now a.l3.now a.l4.now) a.mask a.sample a.max-gap a.tolerance a.budget) c.before.before.before.burst-at.result read.capture-in.ensures c.before.before.before.burst-at.ensures c.burst-code.ensures
+    sought_by burst_numbers burst_as (λ (x : Capture). burst_of x a.samples.now (level_of a.l1.now a.l2.now a.l3.now a.l4.now) a.mask a.sample a.max_gap a.tolerance a.budget) c.before.before.before.burst_at-answer.result read.capture_in.ensures c.before.before.before.burst_at-answer.ensures c.burst_code.ensures
 
-pub lc-burst-at-spec : {M : Type 1} → statement M
-lc-burst-at-spec = tie.close (tie.spec capture-in-requires burst-at-requires burst-code-requires returns)
+pub lc_burst_at_spec : {M : Type 1} → statement M
+lc_burst_at_spec = tie.close (tie.spec capture-in-requires burst-at-requires burst-code-requires returns)

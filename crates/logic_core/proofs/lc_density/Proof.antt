@@ -10,20 +10,20 @@ use Rattle.logic_core.proofs.Codes.{told_by}
 use Rattle.logic_core.proofs.lc_density.Statement.{statement}
 use Rattle.logic_core.proofs.lc_density.Tie as tie
 
-capture-in-requires : tie.Need-capture-in-requires
+capture-in-requires : tie.Need-capture_in-requires
 capture-in-requires c κs = search rules
 
-density-requires : tie.Need-density-requires
+density-requires : tie.Need-density-answer-requires
 density-requires c κs = search rules
 
-changes-code-requires : tie.Need-changes-code-requires
+changes-code-requires : tie.Need-changes_code-requires
 changes-code-requires c κs = search rules
 
 returns : tie.Need-returns
 returns c =
     let read = c.before.before.before in
     let a = read.before.before.before.before.before.before.args in
-    told_by number plain changes_of (λ (x : Capture). changes_for x a.samples.now (level_of a.l1.now a.l2.now a.l3.now a.l4.now) a.a a.b) c.before.before.density.result _ _ _ read.capture-in.ensures c.before.before.density.ensures c.changes-code.ensures
+    told_by number plain changes_of (λ (x : Capture). changes_for x a.samples.now (level_of a.l1.now a.l2.now a.l3.now a.l4.now) a.a a.b) c.before.before.density-answer.result _ _ _ read.capture_in.ensures c.before.before.density-answer.ensures c.changes_code.ensures
 
-pub lc-density-spec : {M : Type 1} → statement M
-lc-density-spec = tie.close (tie.spec capture-in-requires density-requires changes-code-requires returns)
+pub lc_density_spec : {M : Type 1} → statement M
+lc_density_spec = tie.close (tie.spec capture-in-requires density-requires changes-code-requires returns)

@@ -7,20 +7,20 @@ use Rattle.logic_core.proofs.Codes.{turns_by}
 use Rattle.logic_core.proofs.lc_encoder.Statement.{statement}
 use Rattle.logic_core.proofs.lc_encoder.Tie as tie
 
-capture-in-requires : tie.Need-capture-in-requires
+capture-in-requires : tie.Need-capture_in-requires
 capture-in-requires c κs = search rules
 
-encoder-requires : tie.Need-encoder-requires
+encoder-requires : tie.Need-encoder-answer-requires
 encoder-requires c κs = search rules
 
-turns-code-requires : tie.Need-turns-code-requires
+turns-code-requires : tie.Need-turns_code-requires
 turns-code-requires c κs = search rules
 
 returns : tie.Need-returns
 returns c =
     let read = c.before.before.before.before in
     let a = read.before.before.before.before.before.before.args in
-    turns_by (λ (x : Capture). encoder_of x a.samples.now (level_of a.l1.now a.l2.now a.l3.now a.l4.now) a.a a.b) c.before.before.before.encoder.result read.capture-in.ensures c.before.before.before.encoder.ensures c.turns-code.ensures
+    turns_by (λ (x : Capture). encoder_of x a.samples.now (level_of a.l1.now a.l2.now a.l3.now a.l4.now) a.a a.b) c.before.before.before.encoder-answer.result read.capture_in.ensures c.before.before.before.encoder-answer.ensures c.turns_code.ensures
 
-pub lc-encoder-spec : {M : Type 1} → statement M
-lc-encoder-spec = tie.close (tie.spec capture-in-requires encoder-requires turns-code-requires returns)
+pub lc_encoder_spec : {M : Type 1} → statement M
+lc_encoder_spec = tie.close (tie.spec capture-in-requires encoder-requires turns-code-requires returns)

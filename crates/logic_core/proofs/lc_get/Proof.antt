@@ -10,20 +10,20 @@ use Rattle.logic_core.proofs.Codes.{told_by}
 use Rattle.logic_core.proofs.lc_get.Statement.{statement}
 use Rattle.logic_core.proofs.lc_get.Tie as tie
 
-capture-in-requires : tie.Need-capture-in-requires
+capture-in-requires : tie.Need-capture_in-requires
 capture-in-requires c κs = search rules
 
-get-requires : tie.Need-get-requires
+get-requires : tie.Need-get-answer-requires
 get-requires c κs = search rules
 
-got-code-requires : tie.Need-got-code-requires
+got-code-requires : tie.Need-got_code-requires
 got-code-requires c κs = search rules
 
 returns : tie.Need-returns
 returns c =
     let read = c.before.before.before in
     let a = read.before.before.before.before.before.before.args in
-    told_by number plain got_of (λ (x : Capture). got_for x a.samples.now (level_of a.l1.now a.l2.now a.l3.now a.l4.now) a.i) c.before.before.get.result _ _ _ read.capture-in.ensures c.before.before.get.ensures c.got-code.ensures
+    told_by number plain got_of (λ (x : Capture). got_for x a.samples.now (level_of a.l1.now a.l2.now a.l3.now a.l4.now) a.i) c.before.before.get-answer.result _ _ _ read.capture_in.ensures c.before.before.get-answer.ensures c.got_code.ensures
 
-pub lc-get-spec : {M : Type 1} → statement M
-lc-get-spec = tie.close (tie.spec capture-in-requires get-requires got-code-requires returns)
+pub lc_get_spec : {M : Type 1} → statement M
+lc_get_spec = tie.close (tie.spec capture-in-requires get-requires got-code-requires returns)

@@ -7,14 +7,14 @@ use Rattle.logic_core.proofs.Codes.{told}
 use Rattle.logic_core.proofs.lc_needs.Statement.{statement}
 use Rattle.logic_core.proofs.lc_needs.Tie as tie
 
-needs-requires : tie.Need-needs-requires
+needs-requires : tie.Need-needs-answer-requires
 needs-requires c κs = search rules
 
-needed-code-requires : tie.Need-needed-code-requires
+needed-code-requires : tie.Need-needed_code-requires
 needed-code-requires c κs = search rules
 
 returns : tie.Need-returns
-returns c = told lent_numbers plain needed_of c.before.before.needs.result _ _ _ c.before.before.needs.ensures c.needed-code.ensures
+returns c = told lent_numbers plain needed_of c.before.before.needs-answer.result _ _ _ c.before.before.needs-answer.ensures c.needed_code.ensures
 
-pub lc-needs-spec : {M : Type 1} → statement M
-lc-needs-spec = tie.close (tie.spec needs-requires needed-code-requires returns)
+pub lc_needs_spec : {M : Type 1} → statement M
+lc_needs_spec = tie.close (tie.spec needs-requires needed-code-requires returns)

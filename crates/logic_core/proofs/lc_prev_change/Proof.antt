@@ -8,20 +8,20 @@ use Rattle.logic_core.proofs.Codes.{sought_by}
 use Rattle.logic_core.proofs.lc_prev_change.Statement.{statement}
 use Rattle.logic_core.proofs.lc_prev_change.Tie as tie
 
-capture-in-requires : tie.Need-capture-in-requires
+capture-in-requires : tie.Need-capture_in-requires
 capture-in-requires c κs = search rules
 
-prev-change-requires : tie.Need-prev-change-requires
+prev-change-requires : tie.Need-prev_change-answer-requires
 prev-change-requires c κs = search rules
 
-found-code-requires : tie.Need-found-code-requires
+found-code-requires : tie.Need-found_code-requires
 found-code-requires c κs = search rules
 
 returns : tie.Need-returns
 returns c =
     let read = c.before.before.before.before in
     let a = read.before.before.before.before.before.before.args in
-    sought_by number found_of (λ (x : Capture). previous_of x a.samples.now (level_of a.l1.now a.l2.now a.l3.now a.l4.now) a.mask a.from) c.before.before.before.prev-change.result read.capture-in.ensures c.before.before.before.prev-change.ensures c.found-code.ensures
+    sought_by number found_of (λ (x : Capture). previous_of x a.samples.now (level_of a.l1.now a.l2.now a.l3.now a.l4.now) a.mask a.from) c.before.before.before.prev_change-answer.result read.capture_in.ensures c.before.before.before.prev_change-answer.ensures c.found_code.ensures
 
-pub lc-prev-change-spec : {M : Type 1} → statement M
-lc-prev-change-spec = tie.close (tie.spec capture-in-requires prev-change-requires found-code-requires returns)
+pub lc_prev_change_spec : {M : Type 1} → statement M
+lc_prev_change_spec = tie.close (tie.spec capture-in-requires prev-change-requires found-code-requires returns)

@@ -9,19 +9,19 @@ use Rattle.capture.specs.Calls.{RawLies}
 use Rattle.logic_core.proofs.lc_raw.Statement.{statement}
 use Rattle.logic_core.proofs.lc_raw.Tie as tie
 
-capture-in-requires : tie.Need-capture-in-requires
+capture-in-requires : tie.Need-capture_in-requires
 capture-in-requires c κs = search rules
 
-raw-part-requires : tie.Need-raw-part-requires
+raw-part-requires : tie.Need-raw_part-part-requires
 raw-part-requires c κs = search rules
 
 returns : tie.Need-returns
 returns c =
     let a = c.before.before.before.before.before.before.before.args in
-    subst (λ (x : Capture). RawLies (store_of x) a.samples.now (level_of a.l1.now a.l2.now a.l3.now a.l4.now) a.chunk c.raw-part.result.from c.raw-part.result.to) c.before.capture-in.ensures c.raw-part.ensures
+    subst (λ (x : Capture). RawLies (store_of x) a.samples.now (level_of a.l1.now a.l2.now a.l3.now a.l4.now) a.chunk c.raw_part-part.result.from c.raw_part-part.result.to) c.before.capture_in.ensures c.raw_part-part.ensures
 
-pub lc-raw-spec : {M : Type 1} → statement M
-lc-raw-spec =
+pub lc_raw_spec : {M : Type 1} → statement M
+lc_raw_spec =
     tie.close
     (tie.spec
     capture-in-requires

@@ -5,26 +5,26 @@ use Rattle.logic_core.proofs.Codes.{copies_told}
 use Rattle.logic_core.proofs.lc_samples.Statement.{statement}
 use Rattle.logic_core.proofs.lc_samples.Tie as tie
 
-capture-in-requires : tie.Need-capture-in-requires
+capture-in-requires : tie.Need-capture_in-requires
 capture-in-requires c κs = search rules
 
-samples-requires : tie.Need-samples-requires
+samples-requires : tie.Need-samples-answer-requires
 samples-requires c κs = search rules
 
-copied-code-requires : tie.Need-copied-code-requires
+copied-code-requires : tie.Need-copied_code-requires
 copied-code-requires c κs = search rules
 
-same_length : tie.Need-same-length
+same_length : tie.Need-shape_of-output
 same_length c = search rules
 
 returns : tie.Need-returns
 returns c =
     let read = c.before.before.before.before.before.before in
     let a = read.before.before.before.before.before.before.before.args in
-    copies_told a.samples.now (level_of a.l1.now a.l2.now a.l3.now a.l4.now) a.start a.count _ _ c.before.before.before.before.samples.result _ _ _ read.capture-in.ensures c.before.before.before.before.samples.ensures c.copied-code.ensures
+    copies_told a.samples.now (level_of a.l1.now a.l2.now a.l3.now a.l4.now) a.start a.count _ _ c.before.before.before.before.samples-answer.result _ _ _ read.capture_in.ensures c.before.before.before.before.samples-answer.ensures c.copied_code.ensures
 
-pub lc-samples-spec : {M : Type 1} → statement M
-lc-samples-spec =
+pub lc_samples_spec : {M : Type 1} → statement M
+lc_samples_spec =
     tie.close
     (tie.spec
     capture-in-requires

@@ -7,14 +7,14 @@ use Rattle.logic_core.proofs.Codes.{told}
 use Rattle.logic_core.proofs.lc_start.Statement.{statement}
 use Rattle.logic_core.proofs.lc_start.Tie as tie
 
-start-requires : tie.Need-start-requires
+start-requires : tie.Need-start-answer-requires
 start-requires c κs = search rules
 
-started-code-requires : tie.Need-started-code-requires
+started-code-requires : tie.Need-started_code-requires
 started-code-requires c κs = search rules
 
 returns : tie.Need-returns
-returns c = told store_numbers plain started_of c.before.before.start.result _ _ _ c.before.before.start.ensures c.started-code.ensures
+returns c = told store_numbers plain started_of c.before.before.start-answer.result _ _ _ c.before.before.start-answer.ensures c.started_code.ensures
 
-pub lc-start-spec : {M : Type 1} → statement M
-lc-start-spec = tie.close (tie.spec start-requires started-code-requires returns)
+pub lc_start_spec : {M : Type 1} → statement M
+lc_start_spec = tie.close (tie.spec start-requires started-code-requires returns)

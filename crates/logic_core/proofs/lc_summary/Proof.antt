@@ -13,13 +13,13 @@ use Rattle.logic_core.proofs.Codes.{told_by}
 use Rattle.logic_core.proofs.lc_summary.Statement.{statement}
 use Rattle.logic_core.proofs.lc_summary.Tie as tie
 
-capture-in-requires : tie.Need-capture-in-requires
+capture-in-requires : tie.Need-capture_in-requires
 capture-in-requires c κs = search rules
 
-summary-requires : tie.Need-summary-requires
+summary-requires : tie.Need-summary-answer-requires
 summary-requires c κs = search rules
 
-summed-code-requires : tie.Need-summed-code-requires
+summed-code-requires : tie.Need-summed_code-requires
 summed-code-requires c κs = search rules
 
 returns : tie.Need-returns
@@ -27,8 +27,8 @@ returns c =
     let read = c.before.before.before.before in
     let a = read.before.before.before.before.before.before.args in
     let asked : Capture → Answer (Option Node) = λ x. summed_for x a.samples.now (level_of a.l1.now a.l2.now a.l3.now a.l4.now) a.a a.b in
-    let f = c.before.before.before.summary in
-    (told_by node_numbers perhaps summed_of asked f.result _ _ _ read.capture-in.ensures f.ensures c.summed-code.ensures.0, told_by count_number perhaps summed_of asked f.result _ _ _ read.capture-in.ensures f.ensures c.summed-code.ensures.1)
+    let f = c.before.before.before.summary-answer in
+    (told_by node_numbers perhaps summed_of asked f.result _ _ _ read.capture_in.ensures f.ensures c.summed_code.ensures.0, told_by count_number perhaps summed_of asked f.result _ _ _ read.capture_in.ensures f.ensures c.summed_code.ensures.1)
 
-pub lc-summary-spec : {M : Type 1} → statement M
-lc-summary-spec = tie.close (tie.spec capture-in-requires summary-requires summed-code-requires returns)
+pub lc_summary_spec : {M : Type 1} → statement M
+lc_summary_spec = tie.close (tie.spec capture-in-requires summary-requires summed-code-requires returns)

@@ -10,20 +10,20 @@ use Rattle.logic_core.proofs.Codes.{told_by}
 use Rattle.logic_core.proofs.lc_whole.Statement.{statement}
 use Rattle.logic_core.proofs.lc_whole.Tie as tie
 
-capture-in-requires : tie.Need-capture-in-requires
+capture-in-requires : tie.Need-capture_in-requires
 capture-in-requires c κs = search rules
 
-whole-requires : tie.Need-whole-requires
+whole-requires : tie.Need-whole-answer-requires
 whole-requires c κs = search rules
 
-checked-code-requires : tie.Need-checked-code-requires
+checked-code-requires : tie.Need-checked_code-requires
 checked-code-requires c κs = search rules
 
 returns : tie.Need-returns
 returns c =
     let read = c.before.before.before.before in
     let a = read.before.before.before.before.before.before.args in
-    (told_by place_level fault checked_of (λ (x : Capture). wrong_for x a.samples.now (level_of a.l1.now a.l2.now a.l3.now a.l4.now)) c.before.before.before.whole.result _ _ _ read.capture-in.ensures c.before.before.before.whole.ensures c.checked-code.ensures.0, told_by place_number fault checked_of (λ (x : Capture). wrong_for x a.samples.now (level_of a.l1.now a.l2.now a.l3.now a.l4.now)) c.before.before.before.whole.result _ _ _ read.capture-in.ensures c.before.before.before.whole.ensures c.checked-code.ensures.1)
+    (told_by place_level fault checked_of (λ (x : Capture). wrong_for x a.samples.now (level_of a.l1.now a.l2.now a.l3.now a.l4.now)) c.before.before.before.whole-answer.result _ _ _ read.capture_in.ensures c.before.before.before.whole-answer.ensures c.checked_code.ensures.0, told_by place_number fault checked_of (λ (x : Capture). wrong_for x a.samples.now (level_of a.l1.now a.l2.now a.l3.now a.l4.now)) c.before.before.before.whole-answer.result _ _ _ read.capture_in.ensures c.before.before.before.whole-answer.ensures c.checked_code.ensures.1)
 
-pub lc-whole-spec : {M : Type 1} → statement M
-lc-whole-spec = tie.close (tie.spec capture-in-requires whole-requires checked-code-requires returns)
+pub lc_whole_spec : {M : Type 1} → statement M
+lc_whole_spec = tie.close (tie.spec capture-in-requires whole-requires checked-code-requires returns)

@@ -10,5 +10,5 @@ difference-requires c κs = (omega (arith, c.requires.1), omega (arith, c.requir
 returns : tie.Need-returns
 returns c = difference_back c.before.args.i c.before.args.origin (omega (arith, c.before.requires.1)) (omega (arith, c.before.requires.0)) _ c.difference.ensures
 
-pub counted-from-spec : {M : Type 1} → statement M
-counted-from-spec = tie.close (tie.spec difference-requires returns)
+pub counted_from_spec : {M : Type 1} → statement M
+counted_from_spec = tie.close (tie.spec difference-requires returns)

@@ -9,49 +9,49 @@ use Rattle.mill.proofs.Cut.{cut_none, cut_turn}
 use Rattle.mill.proofs.cut_down.Statement.{statement}
 use Rattle.mill.proofs.cut_down.Tie as tie
 
-abbrev invariant-loop : tie.invariant-loop
+abbrev invariant-loop : tie.invariant-loop-i
 invariant-loop output₀ n grant i₀ output i = (i ≤ n) × (length output ≡ length output₀) × (output ≡ cut_first grant i output₀)
 
-abbrev decreases-loop : tie.decreases-loop
+abbrev decreases-loop : tie.decreases-loop-i
 decreases-loop output₀ n grant i₀ output i = n - i
 
-loop-holds : tie.Need-loop-init invariant-loop decreases-loop
+loop-holds : tie.Need-loop-i-init invariant-loop decreases-loop
 loop-holds c = (omega arith, refl, cut_none c.args.grant c.args.output.now)
 
-mul-output : tie.Need-overflow-mul-output invariant-loop decreases-loop
+mul-output : tie.Need-offset_bounds-output-i invariant-loop decreases-loop
 mul-output c = omega arith
 
-slice-read-output : tie.Need-slice-read-output invariant-loop decreases-loop
+slice-read-output : tie.Need-bounds-output-i invariant-loop decreases-loop
 slice-read-output c = omega arith
 
-mul-output-2 : tie.Need-overflow-mul-output-2 invariant-loop decreases-loop
+mul-output-2 : tie.Need-offset_bounds-output-i-in-loop-i invariant-loop decreases-loop
 mul-output-2 c = omega arith
 
-slice-write-output : tie.Need-slice-write-output invariant-loop decreases-loop
+slice-write-output : tie.Need-bounds-output-i-in-loop-i invariant-loop decreases-loop
 slice-write-output c = omega arith
 
-add-i : tie.Need-overflow-add-i invariant-loop decreases-loop
+add-i : tie.Need-overflow_add-i invariant-loop decreases-loop
 add-i c = omega arith
 
-loop-less : tie.Need-loop-smaller invariant-loop decreases-loop
+loop-less : tie.Need-loop-i-smaller invariant-loop decreases-loop
 loop-less c = omega arith
 
-loop-again : tie.Need-loop-preserved invariant-loop decreases-loop
+loop-again : tie.Need-loop-i-preserved invariant-loop decreases-loop
 loop-again c =
     let s = c.before.before.before in
-    let l = c.before.before.loop in
+    let l = c.before.before.loop-i in
     (omega arith, length-set l.output l.i _ ∙ l.invariant.1, cut_turn s.args.grant l.i s.args.output.now l.output (omega arith) l.invariant.2)
 
-same_length : tie.Need-same-length invariant-loop decreases-loop
-same_length c = c.before.loop.invariant.1
+same_length : tie.Need-shape_of-output invariant-loop decreases-loop
+same_length c = c.before.loop-i.invariant.1
 
 returns : tie.Need-returns invariant-loop decreases-loop
 returns c =
     let s = c.before.before in
-    c.before.loop.invariant.2 ∙ ap (λ (k : ℕ). cut_first s.args.grant k s.args.output.now) (le_antisymm c.before.loop.invariant.0 c.loop-test.false)
+    c.before.loop-i.invariant.2 ∙ ap (λ (k : ℕ). cut_first s.args.grant k s.args.output.now) (le_antisymm c.before.loop-i.invariant.0 c.loop-i-test.false)
 
-pub cut-down-spec : {M : Type 1} → statement M
-cut-down-spec =
+pub cut_down_spec : {M : Type 1} → statement M
+cut_down_spec =
     tie.close
     (tie.spec
     invariant-loop

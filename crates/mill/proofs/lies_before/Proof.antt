@@ -11,19 +11,19 @@ use Rattle.mill.proofs.lies_before.Statement.{statement}
 use Rattle.mill.proofs.lies_before.Tie as tie
 
 -- how far p is from 0, of p itself
-far_is : (m : tie.After-magnitude) → m.magnitude.result ≡ mag m.before.args.p
-far_is m = m.magnitude.ensures ∙ ap mag (read_is m.before.args.p m.before.ranges.p)
+far_is : (m : tie.After-magnitude-n) → m.magnitude-n.result ≡ mag m.before.args.p
+far_is m = m.magnitude-n.ensures ∙ ap mag (read_is m.before.args.p m.before.ranges.p)
 
-magnitude-requires : tie.Need-magnitude-requires
+magnitude-requires : tie.Need-magnitude-n-requires
 magnitude-requires c κs = search rules
 
-returns : tie.Need-returns
+returns : tie.Need-returns-then-p-lt0
 returns c =
     let s = c.before.before in
-    ap (λ (n : ℕ). leb s.args.origin n) (far_is c.before) ∙ before_is s.args.origin s.args.p (sign_is s.args.p s.ranges.p true c.if1.true)
+    ap (λ (n : ℕ). leb s.args.origin n) (far_is c.before) ∙ before_is s.args.origin s.args.p (sign_is s.args.p s.ranges.p true c.if-p-lt0.true)
 
-returns-2 : tie.Need-returns-2
-returns-2 c = let s = c.before.before in not_before s.args.origin s.args.p (sign_is s.args.p s.ranges.p false c.if1.false)
+returns-2 : tie.Need-returns
+returns-2 c = let s = c.before.before in not_before s.args.origin s.args.p (sign_is s.args.p s.ranges.p false c.if-p-lt0.false)
 
-pub lies-before-spec : {M : Type 1} → statement M
-lies-before-spec = tie.close (tie.spec magnitude-requires returns returns-2)
+pub lies_before_spec : {M : Type 1} → statement M
+lies_before_spec = tie.close (tie.spec magnitude-requires returns returns-2)

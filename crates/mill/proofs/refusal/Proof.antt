@@ -27,7 +27,7 @@ lent s = lent_of s.args.samples.now (level_of s.args.l1.now s.args.l2.now s.args
 abbrev own : tie.Start → List Row
 own s = mill_rows (st s) s.args.outside s.args.p s.args.q
 
-abbrev start : tie.After-refusal → tie.Start
+abbrev start : tie.After-refusal-number → tie.Start
 start f = f.before.before.before.before.before.before
 
 -- whether a place is before the first sample, as the code found out
@@ -35,51 +35,51 @@ told : (s : tie.Start) (p : ℤ) (fits : SFits w64 p) (origin : ℕ) (t u : Bool
 told s p fits origin t u eo et eu = sym (ap₂ before_first eo (read_is p fits)) ∙ sym et ∙ eu
 
 -- rows 1 and 2 pass: 12 and 13 are left
-left : (c : tie.Else1) → let s = start c.before in (a b d : Bool) (n : ℕ) → s.args.outside ≡ a → before_first (origin_in s.args.c) s.args.p ≡ b → before_first (origin_in s.args.c) s.args.q ≡ d → n ≡ three a b d 0 → n ≡ first_of (store_rows (st s) (lent s) (own s))
-left c a b d n ea eb ed e = let s = start c.before in rows_decide (st s) (lent s) (own s) c.before.refusal.ensures c.if1.false n (e ∙ sym (λ i. three (ea i) (eb i) (ed i) 0))
+left : (c : tie.Else-number-ne0) → let s = start c.before in (a b d : Bool) (n : ℕ) → s.args.outside ≡ a → before_first (origin_in s.args.c) s.args.p ≡ b → before_first (origin_in s.args.c) s.args.q ≡ d → n ≡ three a b d 0 → n ≡ first_of (store_rows (st s) (lent s) (own s))
+left c a b d n ea eb ed e = let s = start c.before in rows_decide (st s) (lent s) (own s) c.before.refusal-number.ensures c.if-number-ne0.false n (e ∙ sym (λ i. three (ea i) (eb i) (ed i) 0))
 
-refusal-requires : tie.Need-refusal-requires
+refusal-requires : tie.Need-refusal-number-requires
 refusal-requires c κs = search rules
 
-returns : tie.Need-returns
+returns : tie.Need-returns-then-number-ne0
 returns c =
     let s = start c.before in
-    rows_refuse (st s) (lent s) (own s) c.before.refusal.ensures c.if1.true
+    rows_refuse (st s) (lent s) (own s) c.before.refusal-number.ensures c.if-number-ne0.true
 
-returns-2 : tie.Need-returns-2
-returns-2 c = left c.before _ _ _ 12 c.if2.true refl refl refl
+returns-2 : tie.Need-returns-then-outside
+returns-2 c = left c.before _ _ _ 12 c.if-outside.true refl refl refl
 
-origin-requires : tie.Need-origin-requires
+origin-requires : tie.Need-origin-from-requires
 origin-requires c κs = search rules
 
-lies-before-requires : tie.Need-lies-before-requires
+lies-before-requires : tie.Need-lies_before-requires
 lies-before-requires c κs = search rules
 
-returns-3 : tie.Need-returns-3
+returns-3 : tie.Need-returns-then-lies_before
 returns-3 c =
     let k = c.before.before.before.before in
     let s = start k.before in
-    left k _ _ _ 13 c.before.before.before.if2.false (told s s.args.p s.fits.p _ _ true c.before.before.origin.ensures c.before.lies-before.ensures c.if3.true) refl refl
+    left k _ _ _ 13 c.before.before.before.if-outside.false (told s s.args.p s.fits.p _ _ true c.before.before.origin-from.ensures c.before.lies_before.ensures c.if-lies_before.true) refl refl
 
-lies-before-requires-2 : tie.Need-lies-before-requires-2
+lies-before-requires-2 : tie.Need-lies_before-requires-2
 lies-before-requires-2 c κs = search rules
 
 -- both places
-both : (c : tie.After-lies-before2) (u : Bool) → c.lies-before2.result ≡ u → let s = start c.before.before.before.before.before.before in (n : ℕ) → n ≡ three false false u 0 → n ≡ first_of (store_rows (st s) (lent s) (own s))
+both : (c : tie.After-lies_before-2) (u : Bool) → c.lies_before-2.result ≡ u → let s = start c.before.before.before.before.before.before in (n : ℕ) → n ≡ three false false u 0 → n ≡ first_of (store_rows (st s) (lent s) (own s))
 both c u e n is =
     let o = c.before.before.before in
     let k = o.before.before in
     let s = start k.before in
-    left k _ _ _ n o.before.if2.false (told s s.args.p s.fits.p _ _ false o.origin.ensures c.before.before.lies-before.ensures c.before.if3.false) (told s s.args.q s.fits.q _ _ u o.origin.ensures c.lies-before2.ensures e) is
+    left k _ _ _ n o.before.if-outside.false (told s s.args.p s.fits.p _ _ false o.origin-from.ensures c.before.before.lies_before.ensures c.before.if-lies_before.false) (told s s.args.q s.fits.q _ _ u o.origin-from.ensures c.lies_before-2.ensures e) is
 
-returns-4 : tie.Need-returns-4
-returns-4 c = both c.before true c.if4.true 13 refl
+returns-4 : tie.Need-returns-then-lies_before-2
+returns-4 c = both c.before true c.if-lies_before-2.true 13 refl
 
-returns-5 : tie.Need-returns-5
-returns-5 c = both c.before false c.if4.false 0 refl
+returns-5 : tie.Need-returns
+returns-5 c = both c.before false c.if-lies_before-2.false 0 refl
 
-pub refusal-spec : {M : Type 1} → statement M
-refusal-spec =
+pub refusal_spec : {M : Type 1} → statement M
+refusal_spec =
     tie.close
     (tie.spec
     refusal-requires

@@ -9,29 +9,29 @@ use Rattle.mill_codes.specs.Written.{place}
 use Rattle.mill_codes.proofs.found_code.Statement.{statement}
 use Rattle.mill_codes.proofs.found_code.Tie as tie
 
-enum-known-answer : tie.Need-enum-known-answer
+enum-known-answer : tie.Need-enum_known-answer
 enum-known-answer c = search rules
 
 code-requires : tie.Need-code-requires
 code-requires c κs = search rules
 
-enum-known-answer-2 : tie.Need-enum-known-answer-2
+enum-known-answer-2 : tie.Need-enum_known-answer-in-At-1
 enum-known-answer-2 c = search rules
 
-enum-known-answer-3 : tie.Need-enum-known-answer-3
+enum-known-answer-3 : tie.Need-enum_known-answer-in-Nothing-1
 enum-known-answer-3 c = search rules
 
-returns : tie.Need-returns
-returns c = sought_coded place found_of c.before.before.answer.given.1 (record { find = record { code_is = c.code.ensures; value_is = refl }; count = record { code_is = c.code.ensures; value_is = refl } })
+returns : tie.Need-returns-in-Refused
+returns c = sought_coded place found_of c.before.before.answer-1.given.1 (record { find = record { code_is = c.code.ensures; value_is = refl }; count = record { code_is = c.code.ensures; value_is = refl } })
 
-returns-2 : tie.Need-returns-2
-returns-2 c = sought_coded place found_of c.before.answer2.given.1 (record { find = record { code_is = refl; value_is = to_z-of_z w64 _ (record { sfits = c.known-told2.given.0.1 }) }; count = record { code_is = refl; value_is = refl } })
+returns-2 : tie.Need-returns-in-At
+returns-2 c = sought_coded place found_of c.before.answer-in-At-1.given.1 (record { find = record { code_is = refl; value_is = to_z-of_z w64 _ (record { sfits = c.known_told-in-At-1.given.0.1 }) }; count = record { code_is = refl; value_is = refl } })
 
-returns-3 : tie.Need-returns-3
-returns-3 c = sought_coded place found_of c.before.answer3.given.1 (record { find = record { code_is = refl; value_is = refl }; count = record { code_is = refl; value_is = refl } })
+returns-3 : tie.Need-returns-in-Nothing
+returns-3 c = sought_coded place found_of c.before.answer-in-Nothing-1.given.1 (record { find = record { code_is = refl; value_is = refl }; count = record { code_is = refl; value_is = refl } })
 
-pub found-code-spec : {M : Type 1} → statement M
-found-code-spec =
+pub found_code_spec : {M : Type 1} → statement M
+found_code_spec =
     tie.close
     (tie.spec
     enum-known-answer

@@ -13,38 +13,38 @@ use Rattle.mill_codes.proofs.shown_code.Tie as tie
 abbrev said : Shown → Reply Lines
 said x = perhaps (shown_of x)
 
-enum-known-answer : tie.Need-enum-known-answer
+enum-known-answer : tie.Need-enum_known-answer
 enum-known-answer c = search rules
 
 code-requires : tie.Need-code-requires
 code-requires c κs = search rules
 
-enum-known-answer-2 : tie.Need-enum-known-answer-2
+enum-known-answer-2 : tie.Need-enum_known-answer-in-Lines-1
 enum-known-answer-2 c = search rules
 
-element-write-node : tie.Need-element-write-node
+element-write-node : tie.Need-bounds-node-0
 element-write-node c = search rules
 
-element-write-node-2 : tie.Need-element-write-node-2
+element-write-node-2 : tie.Need-bounds-node-1
 element-write-node-2 c = search rules
 
-element-write-node-3 : tie.Need-element-write-node-3
+element-write-node-3 : tie.Need-bounds-node-2
 element-write-node-3 c = search rules
 
-enum_told : tie.Need-enum-told
+enum_told : tie.Need-enum_told-1
 enum_told c = search rules
 
-returns : tie.Need-returns
-returns c = coded lines_numbers said _ _ _ c.before.before.answer.given.1 c.code.ensures refl
+returns : tie.Need-returns-in-Refused
+returns c = coded lines_numbers said _ _ _ c.before.before.answer-1.given.1 c.code.ensures refl
 
-returns-2 : tie.Need-returns-2
-returns-2 c = coded lines_numbers said _ _ _ c.before.answer2.given.1 refl refl
+returns-2 : tie.Need-returns-in-Lines
+returns-2 c = coded lines_numbers said _ _ _ c.before.answer-in-Lines-1.given.1 refl refl
 
-returns-3 : tie.Need-returns-3
-returns-3 c = coded lines_numbers said _ c.before.before.args.node.now _ c.enum_told.given.1 refl refl
+returns-3 : tie.Need-returns-in-Nothing
+returns-3 c = coded lines_numbers said _ c.before.before.args.node.now _ c.enum_told-1.given.1 refl refl
 
-pub shown-code-spec : {M : Type 1} → statement M
-shown-code-spec =
+pub shown_code_spec : {M : Type 1} → statement M
+shown_code_spec =
     tie.close
     (tie.spec
     enum-known-answer

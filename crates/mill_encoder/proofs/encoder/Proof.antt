@@ -28,33 +28,33 @@ st s = store_of s.args.c
 abbrev lent : tie.Start → Lent
 lent s = lent_of s.args.samples.now (levels s)
 
-abbrev start : tie.After-refusal → tie.Start
+abbrev start : tie.After-refusal-number → tie.Start
 start f = f.before.before.before.before.before.before
 
 -- rows 1, 2 and 14 pass
-sound : (c : tie.Else1) → let s = start c.before in Sound (st s) (lent s) × Pair s.args.a s.args.b
-sound c = let s = start c.before in passed (st s) (lent s) s.args.a s.args.b (sym c.before.refusal.ensures ∙ c.if1.false)
+sound : (c : tie.Else-number-ne0) → let s = start c.before in Sound (st s) (lent s) × Pair s.args.a s.args.b
+sound c = let s = start c.before in passed (st s) (lent s) s.args.a s.args.b (sym c.before.refusal-number.ensures ∙ c.if-number-ne0.false)
 
 -- whether a line is beyond the grant, as the code found out
 told : (c : tie.After-beyond) (t : Bool) → c.beyond.result ≡ t → let s = start c.before.before.before in beyond s.args.grant (pair_mask s.args.a s.args.b) ≡ t
-told c t e = let s = start c.before.before.before in ap (beyond s.args.grant) (sym c.before.pair-mask.ensures) ∙ sym c.beyond.ensures ∙ e
+told c t e = let s = start c.before.before.before in ap (beyond s.args.grant) (sym c.before.pair_mask.ensures) ∙ sym c.beyond.ensures ∙ e
 
-refusal-requires : tie.Need-refusal-requires
+refusal-requires : tie.Need-refusal-number-requires
 refusal-requires c κs = search rules
 
-returns : tie.Need-returns
+returns : tie.Need-returns-then-number-ne0
 unfolding encoder_of
 returns c =
     let s = start c.before in
-    refused_is _ (refused_first (st s) (lent s) s.args.grant s.args.a s.args.b c.before.refusal.ensures c.if1.true) c.if1.true
+    refused_is _ (refused_first (st s) (lent s) s.args.grant s.args.a s.args.b c.before.refusal-number.ensures c.if-number-ne0.true) c.if-number-ne0.true
 
-cast-pair-mask : tie.Need-overflow-cast-pair-mask
+cast-pair-mask : tie.Need-overflow_cast-a
 cast-pair-mask c = record { fits = omega (arith, (sound c).1.a_most) }
 
-cast-pair-mask-2 : tie.Need-overflow-cast-pair-mask-2
+cast-pair-mask-2 : tie.Need-overflow_cast-b
 cast-pair-mask-2 c = record { fits = omega (arith, (sound c).1.b_most) }
 
-pair-mask-requires : tie.Need-pair-mask-requires
+pair-mask-requires : tie.Need-pair_mask-requires
 pair-mask-requires c κs = ((sound c).1.a_most, (sound c).1.b_most)
 
 beyond-requires : tie.Need-beyond-requires
@@ -65,21 +65,21 @@ decided : (c : tie.After-beyond) (t : Bool) → c.beyond.result ≡ t → let s 
 decided c t e n d =
     let f = c.before.before in
     let s = start f.before in
-    d ∙ beyond_decides (st s) (lent s) s.args.grant s.args.a s.args.b f.before.refusal.ensures f.if1.false t (told c t e)
+    d ∙ beyond_decides (st s) (lent s) s.args.grant s.args.a s.args.b f.before.refusal-number.ensures f.if-number-ne0.false t (told c t e)
 
-returns-2 : tie.Need-returns-2
+returns-2 : tie.Need-returns-then-beyond
 unfolding encoder_of
-returns-2 c = refused_is _ (decided c.before true c.if2.true 12 refl) (λ z. omega (arith, z))
+returns-2 c = refused_is _ (decided c.before true c.if-beyond.true 12 refl) (λ z. omega (arith, z))
 
-turns-in-requires : tie.Need-turns-in-requires
+turns-in-requires : tie.Need-turns_in-requires
 turns-in-requires c κs =
     let f = c.before.before.before in
     let s = start f.before in
     (stored_of s.args.c s.args.samples.now (levels s) (sound f).0, (sound f).1.a_most, (sound f).1.b_most)
 
-returns-3 : tie.Need-returns-3
+returns-3 : tie.Need-returns
 unfolding encoder_of
-returns-3 c = given_is _ (decided c.before.before false c.before.if2.false 0 refl) refl c.turns-in.ensures
+returns-3 c = given_is _ (decided c.before.before false c.before.if-beyond.false 0 refl) refl c.turns_in.ensures
 
-pub encoder-spec : {M : Type 1} → statement M
-encoder-spec = tie.close (tie.spec refusal-requires returns cast-pair-mask cast-pair-mask-2 pair-mask-requires beyond-requires returns-2 turns-in-requires returns-3)
+pub encoder_spec : {M : Type 1} → statement M
+encoder_spec = tie.close (tie.spec refusal-requires returns cast-pair-mask cast-pair-mask-2 pair-mask-requires beyond-requires returns-2 turns-in-requires returns-3)

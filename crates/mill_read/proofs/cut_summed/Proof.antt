@@ -14,32 +14,32 @@ use Rattle.mill_read.proofs.cut_summed.Tie as tie
 shown : tie.Start → Summed → Answer (Option Lines)
 shown s x = seen (cut_summary s.args.grant) (summed_of x)
 
-enum-known-summed : tie.Need-enum-known-summed
+enum-known-summed : tie.Need-enum_known-summed
 enum-known-summed c = search rules
 
-enum-known-summed-2 : tie.Need-enum-known-summed-2
+enum-known-summed-2 : tie.Need-enum_known-summed-in-Node-1
 enum-known-summed-2 c = search rules
 
-cut-node-requires : tie.Need-cut-node-requires
+cut-node-requires : tie.Need-cut_node-requires
 cut-node-requires c κs = search rules
 
-enum_told : tie.Need-enum-told
+enum_told : tie.Need-enum_told-1
 enum_told c = search rules
 
-returns : tie.Need-returns
+returns : tie.Need-returns-in-Refused
 unfolding shown
-returns c = sym (ap (shown c.before.before.before) c.before.summed.given.1)
+returns c = sym (ap (shown c.before.before.before) c.before.summed-1.given.1)
 
-returns-2 : tie.Need-returns-2
+returns-2 : tie.Need-returns-in-Node
 unfolding shown
-returns-2 c = ap (λ (n : Lines). given (some n)) c.cut-node.ensures ∙ sym (ap (shown c.before.before.before.before) c.before.before.summed2.given.1)
+returns-2 c = ap (λ (n : Lines). given (some n)) c.cut_node.ensures ∙ sym (ap (shown c.before.before.before.before) c.before.before.summed-in-Node-1.given.1)
 
-returns-3 : tie.Need-returns-3
+returns-3 : tie.Need-returns-in-Nothing
 unfolding shown
-returns-3 c = sym (ap (shown c.before.before) c.enum_told.given.1)
+returns-3 c = sym (ap (shown c.before.before) c.enum_told-1.given.1)
 
-pub cut-summed-spec : {M : Type 1} → statement M
-cut-summed-spec =
+pub cut_summed_spec : {M : Type 1} → statement M
+cut_summed_spec =
     tie.close
     (tie.spec
     enum-known-summed

@@ -18,7 +18,7 @@ use Rattle.mill.proofs.Under.{Passed, passed}
 use Rattle.mill_read.proofs.extent.Statement.{statement}
 use Rattle.mill_read.proofs.extent.Tie as tie
 
-module _ (f : tie.After-refusal) where
+module _ (f : tie.After-refusal-number) where
   abbrev s : tie.Start
   s = f.before.before.before.before.before.before
 
@@ -28,45 +28,45 @@ module _ (f : tie.After-refusal) where
   abbrev lent : Lent
   lent = lent_of s.args.samples.now (level_of s.args.l1.now s.args.l2.now s.args.l3.now s.args.l4.now)
 
-  let_pass : f.refusal.result ≡ 0 → Passed st lent (pos 0) (pos 0)
-  let_pass z = passed st lent false (pos 0) (pos 0) f.refusal.ensures z
+  let_pass : f.refusal-number.result ≡ 0 → Passed st lent (pos 0) (pos 0)
+  let_pass z = passed st lent false (pos 0) (pos 0) f.refusal-number.ensures z
 
 -- the origin and len are small
-small : (o : tie.After-origin) → (o.origin.result ≤ most_samples) × ((s o.before.before).args.c.len ≤ most_samples)
-small o = let t = let_pass o.before.before o.before.if1.false in (omega (arith, t.origin_small, o.origin.ensures), omega (arith, t.sound.len_most, t.sound.capacity_most))
+small : (o : tie.After-origin-base) → (o.origin-base.result ≤ most_samples) × ((s o.before.before).args.c.len ≤ most_samples)
+small o = let t = let_pass o.before.before o.before.if-number-ne0.false in (omega (arith, t.origin_small, o.origin-base.ensures), omega (arith, t.sound.len_most, t.sound.capacity_most))
 
 -- a place up to len, counted
-counts : (o : tie.After-origin) (i : ℕ) → i ≤ (s o.before.before).args.c.len → (r : ℤ) → r ≡ mill_place o.origin.result i → to_z w64 (of_z w64 r) ≡ mill_place (origin_in (s o.before.before).args.c) i
-counts o i h r e = let b = small o in counted_back o.origin.result i b.0 (omega (arith, b.1)) r e ∙ ap (λ (x : ℕ). mill_place x i) o.origin.ensures
+counts : (o : tie.After-origin-base) (i : ℕ) → i ≤ (s o.before.before).args.c.len → (r : ℤ) → r ≡ mill_place o.origin-base.result i → to_z w64 (of_z w64 r) ≡ mill_place (origin_in (s o.before.before).args.c) i
+counts o i h r e = let b = small o in counted_back o.origin-base.result i b.0 (omega (arith, b.1)) r e ∙ ap (λ (x : ℕ). mill_place x i) o.origin-base.ensures
 
-refusal-requires : tie.Need-refusal-requires
+refusal-requires : tie.Need-refusal-number-requires
 refusal-requires c κs = search rules
 
-returns : tie.Need-returns
-returns c = refused_is _ c.before.refusal.ensures c.if1.true
+returns : tie.Need-returns-then-number-ne0
+returns c = refused_is _ c.before.refusal-number.ensures c.if-number-ne0.true
 
-origin-requires : tie.Need-origin-requires
+origin-requires : tie.Need-origin-base-requires
 origin-requires c κs = search rules
 
-counted-from-requires : tie.Need-counted-from-requires
+counted-from-requires : tie.Need-counted_from-requires
 counted-from-requires c κs = (omega (arith, (small c).0), omega (arith, (small c).1))
 
-counted-from-requires-2 : tie.Need-counted-from-requires-2
+counted-from-requires-2 : tie.Need-counted_from-requires-2
 counted-from-requires-2 c κs = let o = c.before in (omega (arith, (small o).0), omega (arith, (small o).1))
 
-has-mark-requires : tie.Need-has-mark-requires
+has-mark-requires : tie.Need-has_mark-requires
 has-mark-requires c κs = search rules
 
-returns-2 : tie.Need-returns-2
+returns-2 : tie.Need-returns
 returns-2 c =
     let o = c.before.before.before in
     let f = o.before.before in
     let first = counts o 0 (omega arith) c.before.before.counted_from.result c.before.before.counted_from.ensures in
-    let end = counts o (s f).args.c.len (omega arith) c.before.counted-from2.result c.before.counted-from2.ensures in
-    given_is _ f.refusal.ensures o.before.if1.false (λ i. record { first = first i; end = end i; marked = c.has-mark.ensures i })
+    let end = counts o (s f).args.c.len (omega arith) c.before.counted_from-2.result c.before.counted_from-2.ensures in
+    given_is _ f.refusal-number.ensures o.before.if-number-ne0.false (λ i. record { first = first i; end = end i; marked = c.has_mark.ensures i })
 
-pub extent-spec : {M : Type 1} → statement M
-extent-spec =
+pub extent_spec : {M : Type 1} → statement M
+extent_spec =
     tie.close
     (tie.spec
     refusal-requires

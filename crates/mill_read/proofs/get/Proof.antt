@@ -20,7 +20,7 @@ use Rattle.mill.proofs.Under.{Passed, passed, under_refused, under_given, first_
 use Rattle.mill_read.proofs.get.Statement.{statement}
 use Rattle.mill_read.proofs.get.Tie as tie
 
-module _ (f : tie.After-refusal) where
+module _ (f : tie.After-refusal-number) where
   abbrev s : tie.Start
   s = f.before.before.before.before.before.before
 
@@ -42,26 +42,26 @@ module _ (f : tie.After-refusal) where
   abbrev own : List Row
   own = get_row st.len (place_at (origin_in s.args.c) p) ∷ []
 
-  let_pass : f.refusal.result ≡ 0 → Passed st lent p (pos 0)
-  let_pass z = passed st lent false p (pos 0) f.refusal.ensures z
+  let_pass : f.refusal-number.result ≡ 0 → Passed st lent p (pos 0)
+  let_pass z = passed st lent false p (pos 0) f.refusal-number.ensures z
 
   -- what is shown at the place as it is read back is shown at the place
   answered : (r : Answer ℕ) → r ≡ answer p → r ≡ answer s.args.place
   answered r e = e ∙ ap answer (read_is s.args.place s.fits.place)
 
-refusal-requires : tie.Need-refusal-requires
+refusal-requires : tie.Need-refusal-number-requires
 refusal-requires c κs = search rules
 
-returns : tie.Need-returns
+returns : tie.Need-returns-then-number-ne0
 returns c =
     let f = c.before in
-    answered f _ (under_refused (st f) (lent f) false (p f) (pos 0) f.refusal.ensures (own f) _ c.if1.true)
+    answered f _ (under_refused (st f) (lent f) false (p f) (pos 0) f.refusal-number.ensures (own f) _ c.if-number-ne0.true)
 
 origin-requires : tie.Need-origin-requires
 origin-requires c κs = search rules
 
-place-at-requires : tie.Need-place-at-requires
-place-at-requires c κs = first_placed (let_pass c.before.before c.before.if1.false) _ c.origin.ensures
+place-at-requires : tie.Need-place_at-i-requires
+place-at-requires c κs = first_placed (let_pass c.before.before c.before.if-number-ne0.false) _ c.origin.ensures
 
 get-requires : tie.Need-get-requires
 get-requires c κs = search rules
@@ -69,16 +69,16 @@ get-requires c κs = search rules
 granted-requires : tie.Need-granted-requires
 granted-requires c κs = search rules
 
-returns-2 : tie.Need-returns-2
+returns-2 : tie.Need-returns
 returns-2 c =
     let f = c.before.before.before.before.before in
     let a = f.before.before.before.before.before.before.args in
-    let i-is = c.before.before.place_at.ensures ∙ ap (λ (o : ℕ). place_at o (p f)) c.before.before.before.origin.ensures in
+    let i-is = c.before.before.place_at-i.ensures ∙ ap (λ (o : ℕ). place_at o (p f)) c.before.before.before.origin.ensures in
     let grant : ℕ → ℕ = λ v. bit_and v a.grant in
     answered f _
     (c.granted.ensures
     ∙ ap (seen grant) (c.before.get.ensures ∙ ap (λ (i : ℕ). unless (get_refusal (st f) (lent f) i) (sample_of a.c.unitsize a.samples.now i)) i-is)
-    ∙ under_given (st f) (lent f) false (p f) (pos 0) f.refusal.ensures (own f) grant (sample_of a.c.unitsize a.samples.now (place_at (origin_in a.c) (p f))) c.before.before.before.before.if1.false)
+    ∙ under_given (st f) (lent f) false (p f) (pos 0) f.refusal-number.ensures (own f) grant (sample_of a.c.unitsize a.samples.now (place_at (origin_in a.c) (p f))) c.before.before.before.before.if-number-ne0.false)
 
 pub get_spec : {M : Type 1} → statement M
 get_spec =

@@ -13,19 +13,19 @@ use Rattle.mill_read.proofs.granted.Tie as tie
 shown : tie.Start → Got → Answer ℕ
 shown s g = seen (λ (v : ℕ). bit_and v s.args.grant) (got_of g)
 
-enum-known-got : tie.Need-enum-known-got
+enum-known-got : tie.Need-enum_known-got
 enum-known-got c = search rules
 
-enum-known-got-2 : tie.Need-enum-known-got-2
+enum-known-got-2 : tie.Need-enum_known-got-in-Value-1
 enum-known-got-2 c = search rules
 
-returns : tie.Need-returns
+returns : tie.Need-returns-in-Refused
 unfolding shown
-returns c = sym (ap (shown c.before.before.before) c.before.got.given.1)
+returns c = sym (ap (shown c.before.before.before) c.before.got-1.given.1)
 
-returns-2 : tie.Need-returns-2
+returns-2 : tie.Need-returns-in-Value
 unfolding shown
-returns-2 c = sym (ap (shown c.before.before.before) c.before.got2.given.1)
+returns-2 c = sym (ap (shown c.before.before.before) c.before.got-in-Value-1.given.1)
 
-pub granted-spec : {M : Type 1} → statement M
-granted-spec = tie.close (tie.spec enum-known-got enum-known-got-2 returns returns-2)
+pub granted_spec : {M : Type 1} → statement M
+granted_spec = tie.close (tie.spec enum-known-got enum-known-got-2 returns returns-2)

@@ -22,7 +22,7 @@ use Rattle.mill_read.proofs.Copy.{copies_refused, copies_none, copies_room, copi
 use Rattle.mill_read.proofs.samples.Statement.{statement}
 use Rattle.mill_read.proofs.samples.Tie as tie
 
-module _ (f : tie.After-refusal) where
+module _ (f : tie.After-refusal-number) where
   abbrev s : tie.Start
   s = f.before.before.before.before.before.before.before
 
@@ -40,84 +40,84 @@ module _ (f : tie.After-refusal) where
   abbrev Copied-at : ℤ → Copied → List ℕ → Type 0
   Copied-at z r output' = MillCopies st s.args.bytes.now levels s.args.grant z s.args.count s.args.output.now r output'
 
-  let_pass : f.refusal.result ≡ 0 → Passed st (lent_of s.args.bytes.now levels) p (pos 0)
-  let_pass z = passed st (lent_of s.args.bytes.now levels) false p (pos 0) f.refusal.ensures z
+  let_pass : f.refusal-number.result ≡ 0 → Passed st (lent_of s.args.bytes.now levels) p (pos 0)
+  let_pass z = passed st (lent_of s.args.bytes.now levels) false p (pos 0) f.refusal-number.ensures z
 
   -- what holds at the place as it is read back holds at the place
   answered : (r : Copied) (output' : List ℕ) → Copied-at p r output' → Copied-at s.args.start r output'
   answered r output' h = subst (λ (z : ℤ). Copied-at z r output') (read_is s.args.start s.fits.start) h
 
 -- what the service answered and left, at the place as it is read back
-module _ (g : tie.After-samples) where
-  abbrev called : tie.After-refusal
+module _ (g : tie.After-samples-copied) where
+  abbrev called : tie.After-refusal-number
   called = g.before.before.before.before.before
 
   abbrev left : List ℕ
-  left = g.samples.last.1.1.1.1.1.1.1.1.0
+  left = g.samples-copied.last.1.1.1.1.1.1.1.1.0
 
   abbrev i : ℕ
   i = place_at (origin_in (s called).args.c) (p called)
 
-  service : Copies (st called) (s called).args.bytes.now (levels called) i (s called).args.count (s called).args.output.now g.samples.result left
+  service : Copies (st called) (s called).args.bytes.now (levels called) i (s called).args.count (s called).args.output.now g.samples-copied.result left
   service =
-      subst (λ (x : ℕ). Copies (st called) (s called).args.bytes.now (levels called) x (s called).args.count (s called).args.output.now g.samples.result left)
-      (g.before.before.place_at.ensures ∙ ap (λ (o : ℕ). place_at o (p called)) g.before.before.before.origin.ensures)
-      g.samples.ensures
+      subst (λ (x : ℕ). Copies (st called) (s called).args.bytes.now (levels called) x (s called).args.count (s called).args.output.now g.samples-copied.result left)
+      (g.before.before.place_at-i.ensures ∙ ap (λ (o : ℕ). place_at o (p called)) g.before.before.before.origin.ensures)
+      g.samples-copied.ensures
 
-refusal-requires : tie.Need-refusal-requires
+refusal-requires : tie.Need-refusal-number-requires
 refusal-requires c κs = search rules
 
-returns : tie.Need-returns
+returns : tie.Need-returns-then-number-ne0
 returns c =
     let f = c.before in
     let a = f.before.before.before.before.before.before.before.args in
-    answered f _ _ (copies_refused (st f) a.bytes.now (levels f) a.grant (p f) a.count a.output.now f.refusal.ensures c.if1.true)
+    answered f _ _ (copies_refused (st f) a.bytes.now (levels f) a.grant (p f) a.count a.output.now f.refusal-number.ensures c.if-number-ne0.true)
 
 origin-requires : tie.Need-origin-requires
 origin-requires c κs = search rules
 
-place-at-requires : tie.Need-place-at-requires
-place-at-requires c κs = first_placed (let_pass c.before.before c.before.if1.false) _ c.origin.ensures
+place-at-requires : tie.Need-place_at-i-requires
+place-at-requires c κs = first_placed (let_pass c.before.before c.before.if-number-ne0.false) _ c.origin.ensures
 
-samples-requires : tie.Need-samples-requires
+samples-requires : tie.Need-samples-copied-requires
 samples-requires c κs = search rules
 
-enum-known-copied : tie.Need-enum-known-copied
+enum-known-copied : tie.Need-enum_known-copied
 enum-known-copied c = search rules
 
-enum_told : tie.Need-enum-told
+enum_told : tie.Need-enum_told-1
 enum_told c = search rules
 
-same_length : tie.Need-same-length
+same_length : tie.Need-shape_of-output-in_default
 same_length c = search rules
 
-returns-2 : tie.Need-returns-2
+returns-2 : tie.Need-returns-in_default
 returns-2 c =
     let g = c.before.before.before.before in
     let f = called g in
     let a = f.before.before.before.before.before.before.before.args in
-    answered f _ _ (copies_none (st f) a.bytes.now (levels f) a.grant (p f) a.count a.output.now f.refusal.ensures g.before.before.before.before.if1.false g.samples.result (left g) (service g) _ c.enum_told.given.1)
+    answered f _ _ (copies_none (st f) a.bytes.now (levels f) a.grant (p f) a.count a.output.now f.refusal-number.ensures g.before.before.before.before.if-number-ne0.false g.samples-copied.result (left g) (service g) _ c.enum_told-1.given.1)
 
-cut-down-requires : tie.Need-cut-down-requires
+cut-down-requires : tie.Need-cut_down-requires
 cut-down-requires c κs =
     let g = c.before.before.before.before.before.before in
     let f = called g in
     let a = f.before.before.before.before.before.before.before.args in
-    omega (arith, copies_room (st f) a.bytes.now (levels f) a.grant (p f) a.count a.output.now f.refusal.ensures g.before.before.before.before.if1.false g.samples.result (left g) (service g) _ c.before.before.copied.given.1)
+    omega (arith, copies_room (st f) a.bytes.now (levels f) a.grant (p f) a.count a.output.now f.refusal-number.ensures g.before.before.before.before.if-number-ne0.false g.samples-copied.result (left g) (service g) _ c.before.before.copied-1.given.1)
 
-same-length-2 : tie.Need-same-length-2
+same-length-2 : tie.Need-shape_of-output
 same-length-2 c = search rules
 
-returns-3 : tie.Need-returns-3
+returns-3 : tie.Need-returns
 returns-3 c =
     let m = c.before.before.before.before.before in
     let g = m.before.before.before.before in
     let f = called g in
     let a = f.before.before.before.before.before.before.before.args in
-    answered f _ _ (copies_count (st f) a.bytes.now (levels f) a.grant (p f) a.count a.output.now f.refusal.ensures g.before.before.before.before.if1.false g.samples.result (left g) (service g) _ m.copied.given.1 _ c.before.before.cut_down.ensures)
+    answered f _ _ (copies_count (st f) a.bytes.now (levels f) a.grant (p f) a.count a.output.now f.refusal-number.ensures g.before.before.before.before.if-number-ne0.false g.samples-copied.result (left g) (service g) _ m.copied-1.given.1 _ c.before.before.cut_down.ensures)
 
-pub samples-spec : {M : Type 1} → statement M
-samples-spec =
+pub samples_spec : {M : Type 1} → statement M
+samples_spec =
     tie.close
     (tie.spec
     refusal-requires

@@ -23,7 +23,7 @@ use Rattle.mill.proofs.Under.{Passed, passed, under_refused, under_given, given_
 use Rattle.mill_read.proofs.summary.Statement.{statement}
 use Rattle.mill_read.proofs.summary.Tie as tie
 
-module _ (f : tie.After-refusal) where
+module _ (f : tie.After-refusal-number) where
   abbrev s : tie.Start
   s = f.before.before.before.before.before.before
 
@@ -50,50 +50,50 @@ module _ (f : tie.After-refusal) where
   abbrev answer : ℤ → ℤ → Answer (Option Lines)
   answer y z = unless (mill_summary_refusal st lent y z) (cut_summary s.args.grant (summed_at (place_at (origin_in s.args.c) y) (place_at (origin_in s.args.c) z)))
 
-  let_pass : f.refusal.result ≡ 0 → Passed st lent p q
-  let_pass z = passed st lent false p q f.refusal.ensures z
+  let_pass : f.refusal-number.result ≡ 0 → Passed st lent p q
+  let_pass z = passed st lent false p q f.refusal-number.ensures z
 
   -- what is shown at the places as they are read back is shown at the places
   answered : (r : Answer (Option Lines)) → r ≡ answer p q → r ≡ answer s.args.a s.args.b
   answered r e = e ∙ ap₂ answer (read_is s.args.a s.fits.a) (read_is s.args.b s.fits.b)
 
-refusal-requires : tie.Need-refusal-requires
+refusal-requires : tie.Need-refusal-number-requires
 refusal-requires c κs = search rules
 
-returns : tie.Need-returns
+returns : tie.Need-returns-then-number-ne0
 returns c =
     let f = c.before in
-    answered f _ (under_refused (st f) (lent f) false (p f) (q f) f.refusal.ensures [] _ c.if1.true)
+    answered f _ (under_refused (st f) (lent f) false (p f) (q f) f.refusal-number.ensures [] _ c.if-number-ne0.true)
 
-origin-requires : tie.Need-origin-requires
+origin-requires : tie.Need-origin-base-requires
 origin-requires c κs = search rules
 
-place-at-requires : tie.Need-place-at-requires
-place-at-requires c κs = first_placed (let_pass c.before.before c.before.if1.false) _ c.origin.ensures
+place-at-requires : tie.Need-place_at-i-requires
+place-at-requires c κs = first_placed (let_pass c.before.before c.before.if-number-ne0.false) _ c.origin-base.ensures
 
-place-at-requires-2 : tie.Need-place-at-requires-2
-place-at-requires-2 c κs = let o = c.before in second_placed (let_pass o.before.before o.before.if1.false) _ o.origin.ensures
+place-at-requires-2 : tie.Need-place_at-j-requires
+place-at-requires-2 c κs = let o = c.before in second_placed (let_pass o.before.before o.before.if-number-ne0.false) _ o.origin-base.ensures
 
-summed-in-requires : tie.Need-summed-in-requires
-summed-in-requires c κs = let o = c.before.before in (let_pass o.before.before o.before.if1.false).sound
+summed-in-requires : tie.Need-summed_in-requires
+summed-in-requires c κs = let o = c.before.before in (let_pass o.before.before o.before.if-number-ne0.false).sound
 
-cut-summed-requires : tie.Need-cut-summed-requires
+cut-summed-requires : tie.Need-cut_summed-requires
 cut-summed-requires c κs = search rules
 
-returns-2 : tie.Need-returns-2
+returns-2 : tie.Need-returns
 returns-2 c =
     let o = c.before.before.before.before in
     let f = o.before.before in
     let a = f.before.before.before.before.before.before.args in
-    let i-is = c.before.before.before.place_at.ensures ∙ ap (λ (x : ℕ). place_at x (p f)) o.origin.ensures in
-    let j-is = c.before.before.place-at2.ensures ∙ ap (λ (x : ℕ). place_at x (q f)) o.origin.ensures in
+    let i-is = c.before.before.before.place_at-i.ensures ∙ ap (λ (x : ℕ). place_at x (p f)) o.origin-base.ensures in
+    let j-is = c.before.before.place_at-j.ensures ∙ ap (λ (x : ℕ). place_at x (q f)) o.origin-base.ensures in
     answered f _
-    (c.cut_summed_lem.ensures
-    ∙ ap (seen (cut_summary a.grant)) (c.before.summed-in.ensures ∙ ap₂ (λ (i j : ℕ). given (summed_at f i j)) i-is j-is ∙ given_under (st f) (lent f) false (p f) (q f) f.refusal.ensures (summed_at f (place_at (origin_in a.c) (p f)) (place_at (origin_in a.c) (q f))) o.before.if1.false)
-    ∙ under_given (st f) (lent f) false (p f) (q f) f.refusal.ensures [] (cut_summary a.grant) (summed_at f (place_at (origin_in a.c) (p f)) (place_at (origin_in a.c) (q f))) o.before.if1.false)
+    (c.cut_summed.ensures
+    ∙ ap (seen (cut_summary a.grant)) (c.before.summed_in.ensures ∙ ap₂ (λ (i j : ℕ). given (summed_at f i j)) i-is j-is ∙ given_under (st f) (lent f) false (p f) (q f) f.refusal-number.ensures (summed_at f (place_at (origin_in a.c) (p f)) (place_at (origin_in a.c) (q f))) o.before.if-number-ne0.false)
+    ∙ under_given (st f) (lent f) false (p f) (q f) f.refusal-number.ensures [] (cut_summary a.grant) (summed_at f (place_at (origin_in a.c) (p f)) (place_at (origin_in a.c) (q f))) o.before.if-number-ne0.false)
 
-pub summary-spec : {M : Type 1} → statement M
-summary-spec =
+pub summary_spec : {M : Type 1} → statement M
+summary_spec =
     tie.close
     (tie.spec
     refusal-requires

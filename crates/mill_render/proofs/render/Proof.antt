@@ -21,7 +21,7 @@ use Rattle.mill_render.proofs.render.Statement.{statement}
 use Rattle.mill_render.proofs.render.Tie as tie
 
 -- the nodes that memory holds, its lengths, and the call's own rows
-module _ (f : tie.After-refusal) where
+module _ (f : tie.After-refusal-n) where
   abbrev s : tie.Start
   s = f.before.before.before.before.before.before.before
 
@@ -41,63 +41,63 @@ module _ (f : tie.After-refusal) where
   own = view_rows (view_as s.args.view) s.args.width (length s.args.output.now)
 
 -- the number that view_refusal gave is the call's
-number_is : (v : tie.After-view-refusal) → let f = v.before.before in v.view-refusal.result ≡ first_of (store_rows (st f) (lent f) (own f))
-number_is v = let f = v.before.before in rows_decide (st f) (lent f) (own f) f.refusal.ensures v.before.if1.false _ v.view-refusal.ensures
+number_is : (v : tie.After-view_refusal-k) → let f = v.before.before in v.view_refusal-k.result ≡ first_of (store_rows (st f) (lent f) (own f))
+number_is v = let f = v.before.before in rows_decide (st f) (lent f) (own f) f.refusal-n.ensures v.before.if-n-ne0.false _ v.view_refusal-k.ensures
 
 -- past it the view can be drawn
-ready : (c : tie.After-origin) → let f = c.before.before.before.before in Drawable (st f) (lent f) c.origin.result (s f).args.width (length (s f).args.output.now)
+ready : (c : tie.After-origin-from) → let f = c.before.before.before.before in Drawable (st f) (lent f) c.origin-from.result (s f).args.width (length (s f).args.output.now)
 ready c =
     let v = c.before.before in
     let f = v.before.before in
     let a = (s f).args in
-    drawable (st f) (lent f) (view_as a.view) a.width (length a.output.now) (let_in f.refusal.ensures v.before.if1.false) c.origin.result
-    (omega (arith, c.origin.ensures, origin_stored (st f) (lent f) f.refusal.ensures v.before.if1.false)) (sym v.view-refusal.ensures ∙ c.before.if2.false)
+    drawable (st f) (lent f) (view_as a.view) a.width (length a.output.now) (let_in f.refusal-n.ensures v.before.if-n-ne0.false) c.origin-from.result
+    (omega (arith, c.origin-from.ensures, origin_stored (st f) (lent f) f.refusal-n.ensures v.before.if-n-ne0.false)) (sym v.view_refusal-k.ensures ∙ c.before.if-k-ne0.false)
 
-refusal-requires : tie.Need-refusal-requires
+refusal-requires : tie.Need-refusal-n-requires
 refusal-requires c κs = search rules
 
-returns : tie.Need-returns
+returns : tie.Need-returns-then-n-ne0
 returns c =
     let f = c.before in
     let a = (s f).args in
-    draws_refused (node_at f) (st f) (lent f) a.grant (view_as a.view) a.width a.output.now (rows_refuse (st f) (lent f) (own f) f.refusal.ensures c.if1.true) c.if1.true
+    draws_refused (node_at f) (st f) (lent f) a.grant (view_as a.view) a.width a.output.now (rows_refuse (st f) (lent f) (own f) f.refusal-n.ensures c.if-n-ne0.true) c.if-n-ne0.true
 
-view-refusal-requires : tie.Need-view-refusal-requires
+view-refusal-requires : tie.Need-view_refusal-k-requires
 view-refusal-requires c κs = search rules
 
-returns-2 : tie.Need-returns-2
+returns-2 : tie.Need-returns-then-k-ne0
 returns-2 c =
     let f = c.before.before.before in
     let a = (s f).args in
-    draws_refused (node_at f) (st f) (lent f) a.grant (view_as a.view) a.width a.output.now (number_is c.before) c.if2.true
+    draws_refused (node_at f) (st f) (lent f) a.grant (view_as a.view) a.width a.output.now (number_is c.before) c.if-k-ne0.true
 
-origin-requires : tie.Need-origin-requires
+origin-requires : tie.Need-origin-from-requires
 origin-requires c κs = search rules
 
 draw-requires : tie.Need-draw-requires
 draw-requires c κs = ready c.before
 
-mul-cut-down : tie.Need-overflow-mul-cut-down
+mul-cut-down : tie.Need-overflow_mul-width
 mul-cut-down c = omega (arith, (ready c.before.before.before.before.before).most)
 
-cut-down-requires : tie.Need-cut-down-requires
+cut-down-requires : tie.Need-cut_down-requires
 cut-down-requires c κs =
     let d = c.before.before.before in
     let o = d.before.before in
     let f = o.before.before.before.before in
     let a = (s f).args in
-    drawn_room a.grant (node_at f) (range_from o.origin.result (view_as a.view) a.c.len) a.width a.output.now _ (ready o).room d.draw.ensures
+    drawn_room a.grant (node_at f) (range_from o.origin-from.result (view_as a.view) a.c.len) a.width a.output.now _ (ready o).room d.draw.ensures
 
-same_length : tie.Need-same-length
+same_length : tie.Need-shape_of-output
 same_length c = search rules
 
-returns-3 : tie.Need-returns-3
+returns-3 : tie.Need-returns
 returns-3 c =
     let d = c.before.before.before.before.before.before in
     let o = d.before.before in
     let f = o.before.before.before.before in
     let a = (s f).args in
-    draws_done (node_at f) (st f) (lent f) a.grant (view_as a.view) a.width a.output.now (number_is o.before.before) o.before.if2.false o.origin.result _ _ o.origin.ensures d.draw.ensures c.before.before.cut_down.ensures
+    draws_done (node_at f) (st f) (lent f) a.grant (view_as a.view) a.width a.output.now (number_is o.before.before) o.before.if-k-ne0.false o.origin-from.result _ _ o.origin-from.ensures d.draw.ensures c.before.before.cut_down.ensures
 
-pub render-spec : {M : Type 1} → statement M
-render-spec = tie.close (tie.spec refusal-requires returns view-refusal-requires returns-2 origin-requires draw-requires mul-cut-down cut-down-requires same_length returns-3)
+pub render_spec : {M : Type 1} → statement M
+render_spec = tie.close (tie.spec refusal-requires returns view-refusal-requires returns-2 origin-requires draw-requires mul-cut-down cut-down-requires same_length returns-3)

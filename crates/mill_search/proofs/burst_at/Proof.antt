@@ -16,7 +16,7 @@ use Rattle.mill_search.proofs.Asked.{asked_refused, asked_placed, asked_counts, 
 use Rattle.mill_search.proofs.burst_at.Statement.{statement}
 use Rattle.mill_search.proofs.burst_at.Tie as tie
 
-module _ (f : tie.After-refusal) where
+module _ (f : tie.After-refusal-number) where
   abbrev s : tie.Start
   s = f.before.before.before.before.before.before.before
 
@@ -26,60 +26,60 @@ module _ (f : tie.After-refusal) where
   -- the service's question
   abbrev find : ℕ → Counted Burst
   find x =
-      bursted_by (back s.args.c.unitsize s.args.c.len s.args.samples.now levels s.args.mask) (fore s.args.c.unitsize s.args.c.len s.args.samples.now levels s.args.mask) s.args.c.len x s.args.max-gap s.args.tolerance s.args.budget
+      bursted_by (back s.args.c.unitsize s.args.c.len s.args.samples.now levels s.args.mask) (fore s.args.c.unitsize s.args.c.len s.args.samples.now levels s.args.mask) s.args.c.len x s.args.max_gap s.args.tolerance s.args.budget
 
-beyond-requires : tie.Need-beyond-requires
+beyond-requires : tie.Need-beyond-outside-requires
 beyond-requires c κs = search rules
 
-refusal-requires : tie.Need-refusal-requires
+refusal-requires : tie.Need-refusal-number-requires
 refusal-requires c κs = search rules
 
-returns : tie.Need-returns
+returns : tie.Need-returns-then-number-ne0
 unfolding burst_of
 returns c =
     let f = c.before in
     let t = s f in
-    asked_refused t.args.c t.args.samples.now (levels f) t.args.grant t.args.mask t.args.sample t.fits.sample f.before.beyond.ensures f.refusal.ensures
+    asked_refused t.args.c t.args.samples.now (levels f) t.args.grant t.args.mask t.args.sample t.fits.sample f.before.beyond-outside.ensures f.refusal-number.ensures
     (λ (y : ℤ). through (shown_burst (origin_in t.args.c)) (find f (place_at (origin_in t.args.c) y)))
-    c.if1.true
+    c.if-number-ne0.true
 
-origin-requires : tie.Need-origin-requires
+origin-requires : tie.Need-origin-base-requires
 origin-requires c κs = search rules
 
-place-at-requires : tie.Need-place-at-requires
+place-at-requires : tie.Need-place_at-i-requires
 place-at-requires c κs =
     let f = c.before.before in
     let t = s f in
-    asked_placed t.args.c t.args.samples.now (levels f) t.args.grant t.args.mask t.args.sample t.fits.sample f.before.beyond.ensures f.refusal.ensures
-    c.before.if1.false c.origin.result c.origin.ensures
+    asked_placed t.args.c t.args.samples.now (levels f) t.args.grant t.args.mask t.args.sample t.fits.sample f.before.beyond-outside.ensures f.refusal-number.ensures
+    c.before.if-number-ne0.false c.origin-base.result c.origin-base.ensures
 
-burst-at-requires : tie.Need-burst-at-requires
+burst-at-requires : tie.Need-burst_at-requires
 burst-at-requires c κs = search rules
 
-burst-from-requires : tie.Need-burst-from-requires
+burst-from-requires : tie.Need-burst_from-requires
 burst-from-requires c κs =
     let o = c.before.before in
     let f = o.before.before in
     let t = s f in
-    asked_counts t.args.c t.args.samples.now (levels f) t.args.grant t.args.mask t.args.sample t.fits.sample f.before.beyond.ensures f.refusal.ensures
-    o.before.if1.false o.origin.result o.origin.ensures
-    (find f) c.before.place_at.result c.before.place_at.ensures (service.burst_as c.burst-at.result) (c.burst-at.ensures ∙ burst_asked t.args.c t.args.samples.now (levels f) t.args.mask t.args.max-gap t.args.tolerance t.args.budget c.before.place_at.result)
-    SmallBurst (burst_small t.args.c t.args.samples.now (levels f) t.args.mask t.args.max-gap t.args.tolerance t.args.budget)
+    asked_counts t.args.c t.args.samples.now (levels f) t.args.grant t.args.mask t.args.sample t.fits.sample f.before.beyond-outside.ensures f.refusal-number.ensures
+    o.before.if-number-ne0.false o.origin-base.result o.origin-base.ensures
+    (find f) c.before.place_at-i.result c.before.place_at-i.ensures (service.burst_as c.burst_at.result) (c.burst_at.ensures ∙ burst_asked t.args.c t.args.samples.now (levels f) t.args.mask t.args.max_gap t.args.tolerance t.args.budget c.before.place_at-i.result)
+    SmallBurst (burst_small t.args.c t.args.samples.now (levels f) t.args.mask t.args.max_gap t.args.tolerance t.args.budget)
 
-returns-2 : tie.Need-returns-2
+returns-2 : tie.Need-returns
 unfolding burst_of
 returns-2 c =
     let g = c.before in
     let o = g.before.before in
     let f = o.before.before in
     let t = s f in
-    asked_shown t.args.c t.args.samples.now (levels f) t.args.grant t.args.mask t.args.sample t.fits.sample f.before.beyond.ensures f.refusal.ensures
-    o.before.if1.false o.origin.result o.origin.ensures
-    (find f) g.before.place_at.result g.before.place_at.ensures (service.burst_as g.burst-at.result) (g.burst-at.ensures ∙ burst_asked t.args.c t.args.samples.now (levels f) t.args.mask t.args.max-gap t.args.tolerance t.args.budget g.before.place_at.result)
-    shown_burst _ c.burst-from.ensures
+    asked_shown t.args.c t.args.samples.now (levels f) t.args.grant t.args.mask t.args.sample t.fits.sample f.before.beyond-outside.ensures f.refusal-number.ensures
+    o.before.if-number-ne0.false o.origin-base.result o.origin-base.ensures
+    (find f) g.before.place_at-i.result g.before.place_at-i.ensures (service.burst_as g.burst_at.result) (g.burst_at.ensures ∙ burst_asked t.args.c t.args.samples.now (levels f) t.args.mask t.args.max_gap t.args.tolerance t.args.budget g.before.place_at-i.result)
+    shown_burst _ c.burst_from.ensures
 
-pub burst-at-spec : {M : Type 1} → statement M
-burst-at-spec =
+pub burst_at_spec : {M : Type 1} → statement M
+burst_at_spec =
     tie.close
     (tie.spec
     beyond-requires

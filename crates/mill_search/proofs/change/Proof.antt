@@ -20,7 +20,7 @@ use Rattle.mill_search.proofs.Asked.{asked_refused, asked_stored, asked_given, a
 use Rattle.mill_search.proofs.change.Statement.{statement}
 use Rattle.mill_search.proofs.change.Tie as tie
 
-module _ (f : tie.After-refusal) where
+module _ (f : tie.After-refusal-number) where
   abbrev s : tie.Start
   s = f.before.before.before.before.before.before.before
 
@@ -31,85 +31,85 @@ module _ (f : tie.After-refusal) where
   abbrev find : Bool → ℕ → Walked
   find backward = sought backward s.args.c.unitsize s.args.c.len s.args.samples.now levels s.args.mask
 
-beyond-requires : tie.Need-beyond-requires
+beyond-requires : tie.Need-beyond-outside-requires
 beyond-requires c κs = search rules
 
-refusal-requires : tie.Need-refusal-requires
+refusal-requires : tie.Need-refusal-number-requires
 refusal-requires c κs = search rules
 
-returns : tie.Need-returns
+returns : tie.Need-returns-then-number-ne0
 unfolding change_of
 returns c =
     let f = c.before in
     let t = s f in
-    asked_refused t.args.c t.args.samples.now (levels f) t.args.grant t.args.mask t.args.from t.fits.from f.before.beyond.ensures f.refusal.ensures
+    asked_refused t.args.c t.args.samples.now (levels f) t.args.grant t.args.mask t.args.from t.fits.from f.before.beyond-outside.ensures f.refusal-number.ensures
     (λ (y : ℤ). through (shown_place (origin_in t.args.c)) (find f t.args.backward (place_at (origin_in t.args.c) y)))
-    c.if1.true
+    c.if-number-ne0.true
 
-origin-requires : tie.Need-origin-requires
+origin-requires : tie.Need-origin-base-requires
 origin-requires c κs = search rules
 
-place-at-requires : tie.Need-place-at-requires
+place-at-requires : tie.Need-place_at-i-requires
 place-at-requires c κs =
     let f = c.before.before in
     let t = s f in
-    asked_placed t.args.c t.args.samples.now (levels f) t.args.grant t.args.mask t.args.from t.fits.from f.before.beyond.ensures f.refusal.ensures c.before.if1.false c.origin.result c.origin.ensures
+    asked_placed t.args.c t.args.samples.now (levels f) t.args.grant t.args.mask t.args.from t.fits.from f.before.beyond-outside.ensures f.refusal-number.ensures c.before.if-number-ne0.false c.origin-base.result c.origin-base.ensures
 
 -- ---- the place is known: what either search answers
-module _ (a : tie.After-place-at) where
-  abbrev o : tie.After-origin
+module _ (a : tie.After-place_at-i) where
+  abbrev o : tie.After-origin-base
   o = a.before
 
-  abbrev f : tie.After-refusal
+  abbrev f : tie.After-refusal-number
   f = o.before.before
 
   abbrev t : tie.Start
   t = s f
 
   stored : Stored t.args.c.unitsize t.args.c.len t.args.samples.now (levels f)
-  stored = asked_stored t.args.c t.args.samples.now (levels f) t.args.grant t.args.mask t.args.from t.fits.from f.before.beyond.ensures f.refusal.ensures o.before.if1.left o.origin.result o.origin.ensures
+  stored = asked_stored t.args.c t.args.samples.now (levels f) t.args.grant t.args.mask t.args.from t.fits.from f.before.beyond-outside.ensures f.refusal-number.ensures o.before.if-number-ne0.left o.origin-base.result o.origin-base.ensures
 
   -- a search in the direction asked
-  module _ (backward : Bool) (same : t.args.backward ≡ backward) (place : Place) (answer : place_of place ≡ find f backward a.place_at.result) where
-    answered : given (place_of place) ≡ unless (store_refusal (store_of t.args.c) (lent_of t.args.samples.now (levels f))) (find f t.args.backward a.place_at.result)
+  module _ (backward : Bool) (same : t.args.backward ≡ backward) (place : Place) (answer : place_of place ≡ find f backward a.place_at-i.result) where
+    answered : given (place_of place) ≡ unless (store_refusal (store_of t.args.c) (lent_of t.args.samples.now (levels f))) (find f t.args.backward a.place_at-i.result)
     answered =
-        ap given (answer ∙ ap (λ (b : Bool). find f b a.place_at.result) (sym same))
-        ∙ asked_given t.args.c t.args.samples.now (levels f) t.args.grant t.args.mask t.args.from t.fits.from f.before.beyond.ensures f.refusal.ensures o.before.if1.left o.origin.result o.origin.ensures (find f t.args.backward a.place_at.result)
+        ap given (answer ∙ ap (λ (b : Bool). find f b a.place_at-i.result) (sym same))
+        ∙ asked_given t.args.c t.args.samples.now (levels f) t.args.grant t.args.mask t.args.from t.fits.from f.before.beyond-outside.ensures f.refusal-number.ensures o.before.if-number-ne0.left o.origin-base.result o.origin-base.ensures (find f t.args.backward a.place_at-i.result)
 
-    counts : Counts SmallPlace o.origin.result (given (place_of place))
+    counts : Counts SmallPlace o.origin-base.result (given (place_of place))
     counts =
-        asked_counts t.args.c t.args.samples.now (levels f) t.args.grant t.args.mask t.args.from t.fits.from f.before.beyond.ensures f.refusal.ensures o.before.if1.left o.origin.result o.origin.ensures
-        (find f t.args.backward) a.place_at.result a.place_at.ensures (given (place_of place)) answered
+        asked_counts t.args.c t.args.samples.now (levels f) t.args.grant t.args.mask t.args.from t.fits.from f.before.beyond-outside.ensures f.refusal-number.ensures o.before.if-number-ne0.left o.origin-base.result o.origin-base.ensures
+        (find f t.args.backward) a.place_at-i.result a.place_at-i.ensures (given (place_of place)) answered
         SmallPlace (change_small t.args.c t.args.samples.now (levels f) t.args.mask t.args.backward)
 
-    shows : (shown : Answer (Counted ℤ)) → shown ≡ given (through (shown_place o.origin.result) (place_of place))
+    shows : (shown : Answer (Counted ℤ)) → shown ≡ given (through (shown_place o.origin-base.result) (place_of place))
         → shown ≡ change_of t.args.backward t.args.c t.args.samples.now (levels f) t.args.grant t.args.mask t.args.from
     unfolding change_of
     shows shown e =
-        asked_shown t.args.c t.args.samples.now (levels f) t.args.grant t.args.mask t.args.from t.fits.from f.before.beyond.ensures f.refusal.ensures o.before.if1.left o.origin.result o.origin.ensures
-        (find f t.args.backward) a.place_at.result a.place_at.ensures (given (place_of place)) answered
+        asked_shown t.args.c t.args.samples.now (levels f) t.args.grant t.args.mask t.args.from t.fits.from f.before.beyond-outside.ensures f.refusal-number.ensures o.before.if-number-ne0.left o.origin-base.result o.origin-base.ensures
+        (find f t.args.backward) a.place_at-i.result a.place_at-i.ensures (given (place_of place)) answered
         shown_place shown e
 
-prev-in-requires : tie.Need-prev-in-requires
+prev-in-requires : tie.Need-prev_in-place-requires
 prev-in-requires c κs = stored c.before
 
-found-from-requires : tie.Need-found-from-requires
-found-from-requires c κs = counts c.before.before true c.before.if2.true c.prev-in.result c.prev-in.ensures
+found-from-requires : tie.Need-found_from-requires
+found-from-requires c κs = counts c.before.before true c.before.if-backward.true c.prev_in-place.result c.prev_in-place.ensures
 
-returns-2 : tie.Need-returns-2
-returns-2 c = let p = c.before in shows p.before.before true p.before.if2.true p.prev-in.result p.prev-in.ensures _ c.found_from_lem.ensures
+returns-2 : tie.Need-returns-then-backward
+returns-2 c = let p = c.before in shows p.before.before true p.before.if-backward.true p.prev_in-place.result p.prev_in-place.ensures _ c.found_from.ensures
 
-next-in-requires : tie.Need-next-in-requires
+next-in-requires : tie.Need-next_in-place-requires
 next-in-requires c κs = stored c.before
 
-found-from-requires-2 : tie.Need-found-from-requires-2
-found-from-requires-2 c κs = counts c.before.before false c.before.if2.false c.next_in_lem.result c.next_in_lem.ensures
+found-from-requires-2 : tie.Need-found_from-requires-2
+found-from-requires-2 c κs = counts c.before.before false c.before.if-backward.false c.next_in-place.result c.next_in-place.ensures
 
-returns-3 : tie.Need-returns-3
-returns-3 c = let p = c.before in shows p.before.before false p.before.if2.false p.next_in_lem.result p.next_in_lem.ensures _ c.found-from2.ensures
+returns-3 : tie.Need-returns
+returns-3 c = let p = c.before in shows p.before.before false p.before.if-backward.false p.next_in-place.result p.next_in-place.ensures _ c.found_from-2.ensures
 
-pub change-spec : {M : Type 1} → statement M
-change-spec =
+pub change_spec : {M : Type 1} → statement M
+change_spec =
     tie.close
     (tie.spec
     beyond-requires

@@ -16,5 +16,5 @@ returns c =
     let s = c.before.before.before.before.before.before in
     c.change.ensures ∙ ap (λ (z : ℤ). previous_of s.args.c s.args.samples.now (level_of s.args.l1.now s.args.l2.now s.args.l3.now s.args.l4.now) s.args.grant s.args.mask z) (read_is s.args.from s.ranges.from)
 
-pub prev-change-spec : {M : Type 1} → statement M
-prev-change-spec = tie.close (tie.spec change-requires returns)
+pub prev_change_spec : {M : Type 1} → statement M
+prev_change_spec = tie.close (tie.spec change-requires returns)

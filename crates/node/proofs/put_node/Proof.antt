@@ -31,68 +31,68 @@ five l i x y z u v u' v' eu ev =
     four : i + 4 ≡ suc (suc (suc (suc i)))
     four = omega arith
 
-mul_at : tie.Need-overflow-mul-at
+mul_at : tie.Need-overflow_mul-at
 mul_at c = search rules
 
-mul-level : tie.Need-overflow-mul-level
+mul-level : tie.Need-offset_bounds-level-at
 mul-level c = search rules
 
-slice-write-level : tie.Need-slice-write-level
+slice-write-level : tie.Need-bounds-level-at
 slice-write-level c = search rules
 
-add-level : tie.Need-overflow-add-level
+add-level : tie.Need-overflow_add-level
 add-level c = search rules
 
-mul-level-2 : tie.Need-overflow-mul-level-2
+mul-level-2 : tie.Need-offset_bounds-level-at-2
 mul-level-2 c = search rules
 
-slice-write-level-2 : tie.Need-slice-write-level-2
+slice-write-level-2 : tie.Need-bounds-level-at-2
 slice-write-level-2 c = simp length-set (omega arith)
 
-add-level-2 : tie.Need-overflow-add-level-2
+add-level-2 : tie.Need-overflow_add-level-2
 add-level-2 c = search rules
 
-mul-level-3 : tie.Need-overflow-mul-level-3
+mul-level-3 : tie.Need-offset_bounds-level-at-3
 mul-level-3 c = search rules
 
-slice-write-level-3 : tie.Need-slice-write-level-3
+slice-write-level-3 : tie.Need-bounds-level-at-3
 slice-write-level-3 c = simp length-set (omega arith)
 
-low-of-requires : tie.Need-low-of-requires
+low-of-requires : tie.Need-low_of-requires
 low-of-requires c κs = search rules
 
-add-level-3 : tie.Need-overflow-add-level-3
+add-level-3 : tie.Need-overflow_add-level-3
 add-level-3 c = search rules
 
-mul-level-4 : tie.Need-overflow-mul-level-4
+mul-level-4 : tie.Need-offset_bounds-level-at-4
 mul-level-4 c = search rules
 
-slice-write-level-4 : tie.Need-slice-write-level-4
+slice-write-level-4 : tie.Need-bounds-level-at-4
 slice-write-level-4 c = simp length-set (omega arith)
 
-high-of-requires : tie.Need-high-of-requires
+high-of-requires : tie.Need-high_of-requires
 high-of-requires c κs = search rules
 
-add-level-4 : tie.Need-overflow-add-level-4
+add-level-4 : tie.Need-overflow_add-level-4
 add-level-4 c = search rules
 
-mul-level-5 : tie.Need-overflow-mul-level-5
+mul-level-5 : tie.Need-offset_bounds-level-at-5
 mul-level-5 c = search rules
 
-slice-write-level-5 : tie.Need-slice-write-level-5
+slice-write-level-5 : tie.Need-bounds-level-at-5
 slice-write-level-5 c = simp length-set (omega arith)
 
-same_length : tie.Need-same-length
+same_length : tie.Need-shape_of-level
 same_length c = search rules
 
 returns : tie.Need-returns
 unfolding put_node
 returns c =
     let a = c.before.before.before.args in
-    five a.level.now (a.j * node_size) a.n.first a.n.last a.n.mask _ _ _ _ c.before.low_of.ensures c.high-of.ensures
+    five a.level.now (a.j * node_size) a.n.first a.n.last a.n.mask _ _ _ _ c.before.low_of.ensures c.high_of.ensures
 
-pub put-node-spec : {M : Type 1} → statement M
-put-node-spec =
+pub put_node_spec : {M : Type 1} → statement M
+put_node_spec =
     tie.close
     (tie.spec
     mul_at

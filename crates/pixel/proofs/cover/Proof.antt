@@ -11,47 +11,47 @@ use Rattle.pixel.specs.Ranges.{ended_by, cover_by}
 use Rattle.pixel.proofs.cover.Statement.{statement}
 use Rattle.pixel.proofs.cover.Tie as tie
 
-returns : tie.Need-returns
+returns : tie.Need-returns-then-len-eq0
 returns c =
     let s = c.before.args in
-    sym (ap (λ (t : Bool). cond {A = Option Range} t none (ended_by s.a s.b s.len)) (eq-eqb s.len 0 c.if1.true))
+    sym (ap (λ (t : Bool). cond {A = Option Range} t none (ended_by s.a s.b s.len)) (eq-eqb s.len 0 c.if-len-eq0.true))
 
-enum_told : tie.Need-enum-told
+enum_told : tie.Need-enum_told-1
 enum_told c = search rules
 
-enum-known-b : tie.Need-enum-known-b
+enum-known-b : tie.Need-enum_known-b
 enum-known-b c = search rules
 
 spanned-requires : tie.Need-spanned-requires
 spanned-requires c κs = search rules
 
-enum-told-2 : tie.Need-enum-told-2
+enum-told-2 : tie.Need-enum_told-in-Beyond
 enum-told-2 c = search rules
 
-spanned-requires-2 : tie.Need-spanned-requires-2
+spanned-requires-2 : tie.Need-spanned-requires-in-Beyond
 spanned-requires-2 c κs = search rules
 
 -- with len above 0, b's place decides
 ended : (a b : Place) (len : ℕ) {p : Place} {r : Option Range} → (len ≡ 0 → ⊥) → b ≡ p → r ≡ ended_by a p len → r ≡ cover_by a b len
 ended a b len n e h = h ∙ ap (λ (q : Place). ended_by a q len) (sym e) ∙ sym (ap (λ (t : Bool). cond {A = Option Range} t none (ended_by a b len)) (ne_eqb len 0 n))
 
-returns-2 : tie.Need-returns-2
+returns-2 : tie.Need-returns-in-Below
 returns-2 c =
     let e = c.before.before in
     let s = e.before.args in
-    ended s.a s.b s.len e.if1.false c.enum_told.given.1 refl
+    ended s.a s.b s.len e.if-len-eq0.false c.enum_told-1.given.1 refl
 
-returns-3 : tie.Need-returns-3
+returns-3 : tie.Need-returns-in-At
 returns-3 c =
     let e = c.before.before.before.before in
     let s = e.before.args in
-    ended s.a s.b s.len e.if1.false c.before.before.b.given.1 c.spanned.ensures
+    ended s.a s.b s.len e.if-len-eq0.false c.before.before.b-1.given.1 c.spanned.ensures
 
-returns-4 : tie.Need-returns-4
+returns-4 : tie.Need-returns-in-Beyond
 returns-4 c =
     let e = c.before.before.before in
     let s = e.before.args in
-    ended s.a s.b s.len e.if1.false c.before.enum-told2.given.1 c.spanned2.ensures
+    ended s.a s.b s.len e.if-len-eq0.false c.before.enum_told-in-Beyond-1.given.1 c.spanned-in-Beyond.ensures
 
-pub cover-spec : {M : Type 1} → statement M
-cover-spec = tie.close (tie.spec returns enum_told enum-known-b spanned-requires enum-told-2 spanned-requires-2 returns-2 returns-3 returns-4)
+pub cover_spec : {M : Type 1} → statement M
+cover_spec = tie.close (tie.spec returns enum_told enum-known-b spanned-requires enum-told-2 spanned-requires-2 returns-2 returns-3 returns-4)

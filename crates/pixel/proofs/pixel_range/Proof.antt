@@ -11,13 +11,13 @@ use Rattle.pixel.proofs.Covers.{covers}
 use Rattle.pixel.proofs.pixel_range.Statement.{statement}
 use Rattle.pixel.proofs.pixel_range.Tie as tie
 
-edge-in-requires : tie.Need-edge-in-requires
+edge-in-requires : tie.Need-edge_in-a-requires
 edge-in-requires c κs = search rules
 
-add-edge-in : tie.Need-overflow-add-edge-in
+add-edge-in : tie.Need-overflow_add-px
 add-edge-in c = search rules
 
-edge-in-requires-2 : tie.Need-edge-in-requires-2
+edge-in-requires-2 : tie.Need-edge_in-b-requires
 edge-in-requires-2 c κs = search rules
 
 cover-requires : tie.Need-cover-requires
@@ -29,9 +29,9 @@ returns c =
     let a = moved (pos s.origin) (pixel_edge (view_as s.v) s.px) in
     let b = moved (pos s.origin) (pixel_edge (view_as s.v) (s.px + 1)) in
     c.cover.ensures
-    ∙ ap (λ (p : Place). cover_by p c.before.edge-in2.result s.len) c.before.before.edge_in.ensures
-    ∙ ap (λ (p : Place). cover_by (place_of a s.len) p s.len) c.before.edge-in2.ensures
+    ∙ ap (λ (p : Place). cover_by p c.before.edge_in-b.result s.len) c.before.before.edge_in-a.ensures
+    ∙ ap (λ (p : Place). cover_by (place_of a s.len) p s.len) c.before.edge_in-b.ensures
     ∙ covers a b s.len
 
-pub pixel-range-spec : {M : Type 1} → statement M
-pixel-range-spec = tie.close (tie.spec edge-in-requires add-edge-in edge-in-requires-2 cover-requires returns)
+pub pixel_range_spec : {M : Type 1} → statement M
+pixel_range_spec = tie.close (tie.spec edge-in-requires add-edge-in edge-in-requires-2 cover-requires returns)

@@ -8,48 +8,48 @@ use borrow.Author.Rules.{rules}
 use Rattle.range.proofs.count_on.Statement.{statement}
 use Rattle.range.proofs.count_on.Tie as tie
 
-abbrev invariant-loop : tie.invariant-loop
+abbrev invariant-loop : tie.invariant-loop-i
 invariant-loop below from b sum₀ last₀ i₀ sum last i = Counting (node_in below) (as_node last₀) from b sum last.last i
 
-abbrev decreases-loop : tie.decreases-loop
+abbrev decreases-loop : tie.decreases-loop-i
 decreases-loop below from b sum₀ last₀ i₀ sum last i = b - i
 
-cast-sum : tie.Need-overflow-cast-sum invariant-loop decreases-loop
+cast-sum : tie.Need-overflow_cast-sum invariant-loop decreases-loop
 cast-sum c = search rules
 
-loop-holds : tie.Need-loop-init invariant-loop decreases-loop
+loop-holds : tie.Need-loop-i-init invariant-loop decreases-loop
 loop-holds c = let s = c.before.before in counting_starts _ _ _ _ s.requires.0 (search rules)
 
-node-in-requires : tie.Need-node-in-requires invariant-loop decreases-loop
+node-in-requires : tie.Need-node_in-m-requires invariant-loop decreases-loop
 node-in-requires c κs = search rules
 
-changes-to-requires : tie.Need-changes-to-requires invariant-loop decreases-loop
+changes-to-requires : tie.Need-changes_to-sum-requires invariant-loop decreases-loop
 changes-to-requires c κs = search rules
 
-add-sum : tie.Need-overflow-add-sum invariant-loop decreases-loop
+add-sum : tie.Need-overflow_add-sum invariant-loop decreases-loop
 add-sum c = search rules
 
-add-i : tie.Need-overflow-add-i invariant-loop decreases-loop
+add-i : tie.Need-overflow_add-i invariant-loop decreases-loop
 add-i c = search rules
 
-loop-less : tie.Need-loop-smaller invariant-loop decreases-loop
+loop-less : tie.Need-loop-i-smaller invariant-loop decreases-loop
 loop-less c = search rules
 
-loop-again : tie.Need-loop-preserved invariant-loop decreases-loop
+loop-again : tie.Need-loop-i-preserved invariant-loop decreases-loop
 loop-again c =
-    let p = c.before.before.before.loop in
-    counting_on _ _ _ _ p.sum _ p.i (as_node c.before.node_in.result) _ p.invariant c.before.before.loop-test.true c.before.node_in.ensures c.changes-to.ensures.0 c.changes-to.ensures.1
+    let p = c.before.before.before.loop-i in
+    counting_on _ _ _ _ p.sum _ p.i (as_node c.before.node_in-m.result) _ p.invariant c.before.before.loop-i-test.true c.before.node_in-m.ensures c.changes_to-sum.ensures.0 c.changes_to-sum.ensures.1
 
 capped-requires : tie.Need-capped-requires invariant-loop decreases-loop
 capped-requires c κs = search rules
 
 returns : tie.Need-returns invariant-loop decreases-loop
 returns c =
-    let p = c.before.before.loop in
-    c.capped.ensures ∙ counting_ends _ _ _ _ p.sum _ p.i p.invariant c.before.loop-test.false
+    let p = c.before.before.loop-i in
+    c.capped.ensures ∙ counting_ends _ _ _ _ p.sum _ p.i p.invariant c.before.loop-i-test.false
 
-pub count-on-spec : {M : Type 1} → statement M
-count-on-spec =
+pub count_on_spec : {M : Type 1} → statement M
+count_on_spec =
     tie.close
     (tie.spec
     invariant-loop

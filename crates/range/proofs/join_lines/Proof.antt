@@ -7,20 +7,20 @@ use Rattle.range.proofs.Joins.{over_all}
 use Rattle.range.proofs.join_lines.Statement.{statement}
 use Rattle.range.proofs.join_lines.Tie as tie
 
-node-in-requires : tie.Need-node-in-requires
+node-in-requires : tie.Need-node_in-requires
 node-in-requires c κs = search rules
 
-add-lines-on : tie.Need-overflow-add-lines-on
+add-lines-on : tie.Need-overflow_add-a
 add-lines-on c = search rules
 
-lines-on-requires : tie.Need-lines-on-requires
+lines-on-requires : tie.Need-lines_on-requires
 lines-on-requires c κs = search rules
 
 returns : tie.Need-returns
 returns c =
     let n = c.before in
     let s = n.before.before in
-    told_on false _ _ _ c.lines-on.ensures (over_all (node_in s.args.below.now) s.args.a s.args.b _ s.requires.0 n.node_in.ensures)
+    told_on false _ _ _ c.lines_on.ensures (over_all (node_in s.args.below.now) s.args.a s.args.b _ s.requires.0 n.node_in.ensures)
 
-pub join-lines-spec : {M : Type 1} → statement M
-join-lines-spec = tie.close (tie.spec node-in-requires add-lines-on lines-on-requires returns)
+pub join_lines_spec : {M : Type 1} → statement M
+join_lines_spec = tie.close (tie.spec node-in-requires add-lines-on lines-on-requires returns)

@@ -6,20 +6,20 @@ use Rattle.range.proofs.Joins.{over_all}
 use Rattle.range.proofs.join_nodes.Statement.{statement}
 use Rattle.range.proofs.join_nodes.Tie as tie
 
-node-in-requires : tie.Need-node-in-requires
+node-in-requires : tie.Need-node_in-requires
 node-in-requires c κs = search rules
 
-add-join-on : tie.Need-overflow-add-join-on
+add-join-on : tie.Need-overflow_add-a
 add-join-on c = search rules
 
-join-on-requires : tie.Need-join-on-requires
+join-on-requires : tie.Need-join_on-requires
 join-on-requires c κs = search rules
 
 returns : tie.Need-returns
 returns c =
     let n = c.before in
     let s = n.before.before in
-    c.join-on.ensures ∙ over_all (node_in s.args.below.now) s.args.a s.args.b _ s.requires.0 n.node_in.ensures
+    c.join_on.ensures ∙ over_all (node_in s.args.below.now) s.args.a s.args.b _ s.requires.0 n.node_in.ensures
 
-pub join-nodes-spec : {M : Type 1} → statement M
-join-nodes-spec = tie.close (tie.spec node-in-requires add-join-on join-on-requires returns)
+pub join_nodes_spec : {M : Type 1} → statement M
+join_nodes_spec = tie.close (tie.spec node-in-requires add-join-on join-on-requires returns)

@@ -7,40 +7,40 @@ use borrow.Author.Rules.{rules}
 use Rattle.range.proofs.lines_four.Statement.{statement}
 use Rattle.range.proofs.lines_four.Tie as tie
 
-node-in-requires : tie.Need-node-in-requires
+node-in-requires : tie.Need-node_in-requires
 node-in-requires c κs = search rules
 
-join-lines-requires : tie.Need-join-lines-requires
+join-lines-requires : tie.Need-join_lines-n1-requires
 join-lines-requires c κs = search rules
 
-add-node-in : tie.Need-overflow-add-node-in
+add-node-in : tie.Need-overflow_add-i
 add-node-in c = search rules
 
-node-in-requires-2 : tie.Need-node-in-requires-2
+node-in-requires-2 : tie.Need-node_in-requires-2
 node-in-requires-2 c κs = search rules
 
-join-lines-requires-2 : tie.Need-join-lines-requires-2
+join-lines-requires-2 : tie.Need-join_lines-n2-requires
 join-lines-requires-2 c κs = search rules
 
-add-node-in-2 : tie.Need-overflow-add-node-in-2
+add-node-in-2 : tie.Need-overflow_add-i-2
 add-node-in-2 c = search rules
 
-node-in-requires-3 : tie.Need-node-in-requires-3
+node-in-requires-3 : tie.Need-node_in-requires-3
 node-in-requires-3 c κs = search rules
 
-join-lines-requires-3 : tie.Need-join-lines-requires-3
+join-lines-requires-3 : tie.Need-join_lines-n3-requires
 join-lines-requires-3 c κs = search rules
 
-add-node-in-3 : tie.Need-overflow-add-node-in-3
+add-node-in-3 : tie.Need-overflow_add-i-3
 add-node-in-3 c =
     let j1 = c.before.before.before.before in
     let s = j1.before.before.before in
     record { fits = omega (arith, s.requires, s.ranges) }
 
-node-in-requires-4 : tie.Need-node-in-requires-4
+node-in-requires-4 : tie.Need-node_in-requires-4
 node-in-requires-4 c κs = search rules
 
-join-lines-requires-4 : tie.Need-join-lines-requires-4
+join-lines-requires-4 : tie.Need-join_lines-requires
 join-lines-requires-4 c κs = search rules
 
 returns : tie.Need-returns
@@ -50,13 +50,13 @@ returns c =
     let j1 = j2.before.before in
     let a = j1.before.before.before.args in
     let nodes = node_in a.below.now in
-    let r1 = join_one false (as_node a.n) nodes a.i _ _ j1.before.node_in.ensures j1.join-lines.ensures in
-    let r2 = join_next false (as_node a.n) nodes a.i 1 _ _ _ r1 j2.before.node-in2.ensures j2.join-lines2.ensures in
-    let r3 = join_next false (as_node a.n) nodes a.i 2 _ _ _ r2 j3.before.node-in3.ensures j3.join-lines3.ensures in
-    join_next false (as_node a.n) nodes a.i 3 _ _ _ r3 c.before.node-in4.ensures c.join-lines4.ensures
+    let r1 = join_one false (as_node a.n) nodes a.i _ _ j1.before.node_in.ensures j1.join_lines-n1.ensures in
+    let r2 = join_next false (as_node a.n) nodes a.i 1 _ _ _ r1 j2.before.node_in-2.ensures j2.join_lines-n2.ensures in
+    let r3 = join_next false (as_node a.n) nodes a.i 2 _ _ _ r2 j3.before.node_in-3.ensures j3.join_lines-n3.ensures in
+    join_next false (as_node a.n) nodes a.i 3 _ _ _ r3 c.before.node_in-4.ensures c.join_lines.ensures
 
-pub lines-four-spec : {M : Type 1} → statement M
-lines-four-spec =
+pub lines_four_spec : {M : Type 1} → statement M
+lines_four_spec =
     tie.close
     (tie.spec
     node-in-requires

@@ -5,23 +5,23 @@ use borrow.Author.Rules.{rules}
 use Rattle.range.proofs.raw_node.Statement.{statement}
 use Rattle.range.proofs.raw_node.Tie as tie
 
-raw-lines-requires : tie.Need-raw-lines-requires
+raw-lines-requires : tie.Need-raw_lines-lines-requires
 raw-lines-requires c κs = search rules
 
-raw-count-requires : tie.Need-raw-count-requires
+raw-count-requires : tie.Need-raw_count-requires
 raw-count-requires c κs = search rules
 
-with-count-requires : tie.Need-with-count-requires
+with-count-requires : tie.Need-with_count-requires
 with-count-requires c κs = search rules
 
-returns : tie.Need-returns
+returns : tie.Need-returns-then-counted
 returns c = record {
-  lines = c.with-count.ensures.0 ∙ c.before.before.before.raw-lines.ensures;
-  count = λ _. c.with-count.ensures.1 ∙ c.before.raw-count.ensures;
+  lines = c.with_count.ensures.0 ∙ c.before.before.before.raw_lines-lines.ensures;
+  count = λ _. c.with_count.ensures.1 ∙ c.before.raw_count.ensures;
 }
 
-returns-2 : tie.Need-returns-2
-returns-2 c = record { lines = c.before.raw-lines.ensures; count = λ z. absurd (false≢true (sym c.if1.false ∙ z)) }
+returns-2 : tie.Need-returns
+returns-2 c = record { lines = c.before.raw_lines-lines.ensures; count = λ z. absurd (false≢true (sym c.if-counted.false ∙ z)) }
 
-pub raw-node-spec : {M : Type 1} → statement M
-raw-node-spec = tie.close (tie.spec raw-lines-requires raw-count-requires with-count-requires returns returns-2)
+pub raw_node_spec : {M : Type 1} → statement M
+raw_node_spec = tie.close (tie.spec raw-lines-requires raw-count-requires with-count-requires returns returns-2)

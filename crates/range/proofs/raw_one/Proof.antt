@@ -9,42 +9,42 @@ use Rattle.rules.proofs.Sample.{byte_sample}
 use Rattle.range.proofs.raw_one.Statement.{statement}
 use Rattle.range.proofs.raw_one.Tie as tie
 
-abbrev invariant-loop : tie.invariant-loop
+abbrev invariant-loop : tie.invariant-loop-i
 invariant-loop part a b first mask₀ i₀ mask i = (a ≤ i) × (i ≤ b) × (mask ≡ apart (sample_of 1 part) a (i - a))
 
-abbrev decreases-loop : tie.decreases-loop
+abbrev decreases-loop : tie.decreases-loop-i
 decreases-loop part a b first mask₀ i₀ mask i = b - i
 
-shared-slice-read-first : tie.Need-shared-slice-read-first invariant-loop decreases-loop
+shared-slice-read-first : tie.Need-bounds-part-a invariant-loop decreases-loop
 shared-slice-read-first c = search rules
 
-loop-holds : tie.Need-loop-init invariant-loop decreases-loop
+loop-holds : tie.Need-loop-i-init invariant-loop decreases-loop
 loop-holds c =
     let a = c.before.before.args in
     (search rules, search rules, sym (apart_none (sample_of 1 a.part.now) a.a))
 
-shared-slice-read-mask : tie.Need-shared-slice-read-mask invariant-loop decreases-loop
+shared-slice-read-mask : tie.Need-bounds-part-i invariant-loop decreases-loop
 shared-slice-read-mask c = search rules
 
-add-i : tie.Need-overflow-add-i invariant-loop decreases-loop
+add-i : tie.Need-overflow_add-i invariant-loop decreases-loop
 add-i c = search rules
 
-loop-less : tie.Need-loop-smaller invariant-loop decreases-loop
+loop-less : tie.Need-loop-i-smaller invariant-loop decreases-loop
 loop-less c = search rules
 
-loop-again : tie.Need-loop-preserved invariant-loop decreases-loop
+loop-again : tie.Need-loop-i-preserved invariant-loop decreases-loop
 loop-again c =
-    let p = c.before.before.loop in
+    let p = c.before.before.loop-i in
     let a = c.before.before.before.before.before.args in
     (search rules, search rules, apart_turn (sample_of 1 a.part.now) a.a p.i p.mask _ _ p.invariant.0 p.invariant.2 (byte_sample a.part.now p.i) (byte_sample a.part.now a.a))
 
 wide-requires : tie.Need-wide-requires invariant-loop decreases-loop
 wide-requires c κs = search rules
 
-sub_wide : tie.Need-overflow-sub-wide invariant-loop decreases-loop
+sub_wide : tie.Need-overflow_sub-b invariant-loop decreases-loop
 sub_wide c = search rules
 
-shared-slice-read-wide : tie.Need-shared-slice-read-wide invariant-loop decreases-loop
+shared-slice-read-wide : tie.Need-bounds-part-b invariant-loop decreases-loop
 shared-slice-read-wide c = search rules
 
 wide-requires-2 : tie.Need-wide-requires-2 invariant-loop decreases-loop
@@ -56,14 +56,14 @@ wide-requires-3 c κs = search rules
 returns : tie.Need-returns invariant-loop decreases-loop
 returns c =
     let w = c.before.before.before in
-    let p = w.before.before.loop in
+    let p = w.before.before.loop-i in
     let s = w.before.before.before.before.before in
     let part = s.args.part.now in
-    scanned (sample_of 1 part) s.args.a s.args.b p.i _ s.requires.0 (le_antisymm p.invariant.1 w.before.loop-test.false)
-    (w.wide.ensures.0 ∙ byte_sample part s.args.a) (c.before.wide2.ensures.0 ∙ byte_sample part (s.args.b - 1)) (c.wide3.ensures.0 ∙ p.invariant.2)
+    scanned (sample_of 1 part) s.args.a s.args.b p.i _ s.requires.0 (le_antisymm p.invariant.1 w.before.loop-i-test.false)
+    (w.wide.ensures.0 ∙ byte_sample part s.args.a) (c.before.wide-2.ensures.0 ∙ byte_sample part (s.args.b - 1)) (c.wide-3.ensures.0 ∙ p.invariant.2)
 
-pub raw-one-spec : {M : Type 1} → statement M
-raw-one-spec =
+pub raw_one_spec : {M : Type 1} → statement M
+raw_one_spec =
     tie.close
     (tie.spec
     invariant-loop

@@ -8,51 +8,51 @@ use Rattle.range.proofs.Apart.{apart, apart_none, apart_turn, scanned}
 use Rattle.range.proofs.raw_two.Statement.{statement}
 use Rattle.range.proofs.raw_two.Tie as tie
 
-abbrev invariant-loop : tie.invariant-loop
+abbrev invariant-loop : tie.invariant-loop-i
 invariant-loop part a b first mask₀ i₀ mask i = (a ≤ i) × (i ≤ b) × (mask ≡ apart (sample_of 2 part) a (i - a))
 
-abbrev decreases-loop : tie.decreases-loop
+abbrev decreases-loop : tie.decreases-loop-i
 decreases-loop part a b first mask₀ i₀ mask i = b - i
 
-get-requires : tie.Need-get-requires invariant-loop decreases-loop
+get-requires : tie.Need-get-first-requires invariant-loop decreases-loop
 get-requires c κs = search rules
 
-loop-holds : tie.Need-loop-init invariant-loop decreases-loop
+loop-holds : tie.Need-loop-i-init invariant-loop decreases-loop
 loop-holds c =
     let a = c.before.before.args in
     (search rules, search rules, sym (apart_none (sample_of 2 a.part.now) a.a))
 
-get-requires-2 : tie.Need-get-requires-2 invariant-loop decreases-loop
+get-requires-2 : tie.Need-get-requires invariant-loop decreases-loop
 get-requires-2 c κs = search rules
 
-add-i : tie.Need-overflow-add-i invariant-loop decreases-loop
+add-i : tie.Need-overflow_add-i invariant-loop decreases-loop
 add-i c = search rules
 
-loop-less : tie.Need-loop-smaller invariant-loop decreases-loop
+loop-less : tie.Need-loop-i-smaller invariant-loop decreases-loop
 loop-less c = search rules
 
-loop-again : tie.Need-loop-preserved invariant-loop decreases-loop
+loop-again : tie.Need-loop-i-preserved invariant-loop decreases-loop
 loop-again c =
-    let p = c.before.before.loop in
+    let p = c.before.before.loop-i in
     let g = c.before.before.before in
     let a = g.before.before.args in
-    (search rules, search rules, apart_turn (sample_of 2 a.part.now) a.a p.i p.mask _ _ p.invariant.0 p.invariant.2 c.get2.ensures g.get.ensures)
+    (search rules, search rules, apart_turn (sample_of 2 a.part.now) a.a p.i p.mask _ _ p.invariant.0 p.invariant.2 c.get.ensures g.get-first.ensures)
 
-sub-get : tie.Need-overflow-sub-get invariant-loop decreases-loop
+sub-get : tie.Need-overflow_sub-b invariant-loop decreases-loop
 sub-get c = search rules
 
-get-requires-3 : tie.Need-get-requires-3 invariant-loop decreases-loop
+get-requires-3 : tie.Need-get-requires-2 invariant-loop decreases-loop
 get-requires-3 c κs = search rules
 
 returns : tie.Need-returns invariant-loop decreases-loop
 returns c =
-    let p = c.before.before.loop in
+    let p = c.before.before.loop-i in
     let g = c.before.before.before in
     let s = g.before.before in
-    scanned (sample_of 2 s.args.part.now) s.args.a s.args.b p.i _ s.requires.0 (le_antisymm p.invariant.1 c.before.loop-test.false) g.get.ensures c.get3.ensures p.invariant.2
+    scanned (sample_of 2 s.args.part.now) s.args.a s.args.b p.i _ s.requires.0 (le_antisymm p.invariant.1 c.before.loop-i-test.false) g.get-first.ensures c.get-2.ensures p.invariant.2
 
-pub raw-two-spec : {M : Type 1} → statement M
-raw-two-spec =
+pub raw_two_spec : {M : Type 1} → statement M
+raw_two_spec =
     tie.close
     (tie.spec
     invariant-loop

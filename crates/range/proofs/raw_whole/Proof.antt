@@ -18,12 +18,12 @@ halves s a n mask count x y d e p ex ey ed = both_whole s a mask count x y d (bo
 end : (a : ℕ) → a + 31 ≡ a + 32 - 1
 end a = omega arith
 
-both-requires : tie.Need-both-requires
+both-requires : tie.Need-both-halves-requires
 both-requires c κs =
     let s = c.before in
     (omega (arith, s.requires.0), range_part s.requires.1 s.args.a (s.args.a + s.args.half + 16) (omega arith) (omega (arith, s.requires.0)))
 
-add-get : tie.Need-overflow-add-get
+add-get : tie.Need-overflow_add-a
 add-get c = record { fits = omega (arith, range_places c.before.before.requires.1) }
 
 get-requires : tie.Need-get-requires
@@ -31,7 +31,7 @@ get-requires c κs =
     let s = c.before.before in
     held_in s.requires.1 _ (omega arith)
 
-add-get-2 : tie.Need-overflow-add-get-2
+add-get-2 : tie.Need-overflow_add-a-2
 add-get-2 c = record { fits = omega (arith, range_places c.before.before.before.requires.1) }
 
 get-requires-2 : tie.Need-get-requires-2
@@ -39,7 +39,7 @@ get-requires-2 c κs =
     let s = c.before.before.before in
     held_in s.requires.1 _ (omega arith)
 
-border-requires : tie.Need-border-requires
+border-requires : tie.Need-border-twice-requires
 border-requires c κs = search rules
 
 get-requires-3 : tie.Need-get-requires-3
@@ -47,7 +47,7 @@ get-requires-3 c κs =
     let s = c.before.before.before.before.before in
     held_in s.requires.1 _ (omega arith)
 
-add-get-3 : tie.Need-overflow-add-get-3
+add-get-3 : tie.Need-overflow_add-a-3
 add-get-3 c = record { fits = omega (arith, range_places c.before.before.before.before.before.before.requires.1) }
 
 get-requires-4 : tie.Need-get-requires-4
@@ -55,13 +55,13 @@ get-requires-4 c κs =
     let s = c.before.before.before.before.before.before in
     held_in s.requires.1 _ (omega arith)
 
-sub-capped : tie.Need-overflow-sub-capped
+sub-capped : tie.Need-overflow_sub-halves
 sub-capped c =
     let w = c.before.before.before in
     let h = w.before.before.before in
     let s = h.before.before in
     let a = s.args in
-    (halves (sample_of a.unitsize a.part.now) a.a a.half h.both.result.mask h.both.result.count _ _ _ s.requires.0 h.both.ensures w.before.get2.ensures w.before.before.get.ensures w.border.ensures.0).0
+    (halves (sample_of a.unitsize a.part.now) a.a a.half h.both-halves.result.mask h.both-halves.result.count _ _ _ s.requires.0 h.both-halves.ensures w.before.get-2.ensures w.before.before.get.ensures w.border-twice.ensures.0).0
 
 capped-requires : tie.Need-capped-requires
 capped-requires c κs = search rules
@@ -73,11 +73,11 @@ returns c =
     let s = h.before.before in
     let a = s.args in
     run_node (sample_of a.unitsize a.part.now) a.a (a.a + 32) _ _ _ 31
-    (halves (sample_of a.unitsize a.part.now) a.a a.half h.both.result.mask h.both.result.count _ _ _ s.requires.0 h.both.ensures w.before.get2.ensures w.before.before.get.ensures w.border.ensures.0).1
-    (omega arith) c.before.before.before.get3.ensures (c.before.before.get4.ensures ∙ ap (sample_of a.unitsize a.part.now) (end a.a)) refl c.capped.ensures
+    (halves (sample_of a.unitsize a.part.now) a.a a.half h.both-halves.result.mask h.both-halves.result.count _ _ _ s.requires.0 h.both-halves.ensures w.before.get-2.ensures w.before.before.get.ensures w.border-twice.ensures.0).1
+    (omega arith) c.before.before.before.get-3.ensures (c.before.before.get-4.ensures ∙ ap (sample_of a.unitsize a.part.now) (end a.a)) refl c.capped.ensures
 
-pub raw-whole-spec : {M : Type 1} → statement M
-raw-whole-spec =
+pub raw_whole_spec : {M : Type 1} → statement M
+raw_whole_spec =
     tie.close
     (tie.spec
     both-requires

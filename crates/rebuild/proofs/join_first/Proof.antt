@@ -5,28 +5,28 @@ use Rattle.rebuild.proofs.Running.{join_room, first_joins}
 use Rattle.rebuild.proofs.join_first.Statement.{statement}
 use Rattle.rebuild.proofs.join_first.Tie as tie
 
-mul-a : tie.Need-overflow-mul-a
+mul-a : tie.Need-overflow_mul-a
 mul-a c = search rules
 
-end-of-requires : tie.Need-end-of-requires
+end-of-requires : tie.Need-end_of-b-requires
 end-of-requires c κs = search rules
 
-sub-raw-node : tie.Need-overflow-sub-raw-node
+sub-raw-node : tie.Need-overflow_sub-len
 sub-raw-node c = search rules
 
-sub-raw-node-2 : tie.Need-overflow-sub-raw-node-2
+sub-raw-node-2 : tie.Need-overflow_sub-b
 sub-raw-node-2 c = search rules
 
-raw-node-requires : tie.Need-raw-node-requires
+raw-node-requires : tie.Need-raw_node-n-requires
 raw-node-requires c κs =
     let s = c.before.before.before in
     let a = s.args in
-    join_room a.unitsize a.base a.len a.top _ _ c.end_of.result s.requires c.end_of.ensures
+    join_room a.unitsize a.base a.len a.top _ _ c.end_of-b.result s.requires c.end_of-b.ensures
 
-put-running-requires : tie.Need-put-running-requires
+put-running-requires : tie.Need-put_running-requires
 put-running-requires c κs = search rules
 
-same_length : tie.Need-same-length
+same_length : tie.Need-shape_of-level
 same_length c = search rules
 
 returns : tie.Need-returns
@@ -36,11 +36,11 @@ returns c =
     let b = n.before in
     let s = b.before.before.before in
     let a = s.args in
-    first_joins a.unitsize a.part.now a.level.now _ a.base a.len a.top b.end_of.result _ s.requires.from s.requires.some b.end_of.ensures
-    (is_told _ _ n.raw-node.ensures) p.put_running_lem.ensures
+    first_joins a.unitsize a.part.now a.level.now _ a.base a.len a.top b.end_of-b.result _ s.requires.from s.requires.some b.end_of-b.ensures
+    (is_told _ _ n.raw_node-n.ensures) p.put_running.ensures
 
-pub join-first-spec : {M : Type 1} → statement M
-join-first-spec =
+pub join_first_spec : {M : Type 1} → statement M
+join_first_spec =
     tie.close
     (tie.spec
     mul-a

@@ -12,55 +12,55 @@ use Rattle.rebuild.proofs.put_running.Statement.{statement}
 use Rattle.rebuild.proofs.put_running.Tie as tie
 
 -- the node lies in the level
-inside : (c : tie.After-span) → c.before.before.args.len / c.span.result * node_size + node_size ≤ length c.before.before.args.level.now
-inside c = let s = c.before.before in subst⁻¹ (λ x. s.args.len / x * node_size + node_size ≤ length s.args.level.now) c.span.ensures.0 s.requires.node
+inside : (c : tie.After-span-w) → c.before.before.args.len / c.span-w.result * node_size + node_size ≤ length c.before.before.args.level.now
+inside c = let s = c.before.before in subst⁻¹ (λ x. s.args.len / x * node_size + node_size ≤ length s.args.level.now) c.span-w.ensures.0 s.requires.node
 
-span-requires : tie.Need-span-requires
+span-requires : tie.Need-span-w-requires
 span-requires c κs = search rules
 
-div-j : tie.Need-nonzero-div-j
+div-j : tie.Need-nonzero_div-j
 div-j c = search rules
 
-mul-if1 : tie.Need-overflow-mul-if1
-mul-if1 c = omega (arith, div-add-mod' c.before.before.args.len c.span.result)
+mul-if1 : tie.Need-overflow_mul-j
+mul-if1 c = omega (arith, div-add-mod' c.before.before.args.len c.span-w.result)
 
-node-in-requires : tie.Need-node-in-requires
+node-in-requires : tie.Need-node_in-kept-requires
 node-in-requires c κs = omega (arith, inside c.before.before)
 
 join-requires : tie.Need-join-requires
 join-requires c κs = search rules
 
-put-node-requires : tie.Need-put-node-requires
+put-node-requires : tie.Need-put_node-requires
 put-node-requires c κs = omega (arith, inside c.before.before.before.before.before)
 
-put-node-requires-2 : tie.Need-put-node-requires-2
+put-node-requires-2 : tie.Need-put_node-requires-else-j-w
 put-node-requires-2 c κs = omega (arith, inside c.before.before)
 
-same_length : tie.Need-same-length
+same_length : tie.Need-shape_of-level-then-j-w
 same_length c = search rules
 
-returns : tie.Need-returns
+returns : tie.Need-returns-then-j-w
 returns c =
     let p = c.before.before in
     let n = p.before.before.before in
     let i = n.before.before in
     let s = i.before in
     let a = s.before.before.args in
-    put_kept a.level.now _ a.l a.len s.span.result (as_node a.n) _ _ s.span.ensures.0 i.if1.true n.node_in.ensures p.before.join.ensures p.put-node.ensures
+    put_kept a.level.now _ a.l a.len s.span-w.result (as_node a.n) _ _ s.span-w.ensures.0 i.if-j-w.true n.node_in-kept.ensures p.before.join.ensures p.put_node.ensures
 
-same-length-2 : tie.Need-same-length-2
+same-length-2 : tie.Need-shape_of-level-else-j-w
 same-length-2 c = search rules
 
-returns-2 : tie.Need-returns-2
+returns-2 : tie.Need-returns-else-j-w
 returns-2 c =
     let p = c.before.before in
     let i = p.before.before in
     let s = i.before in
     let a = s.before.before.args in
-    put_new a.level.now _ a.l a.len s.span.result (as_node a.n) s.span.ensures.0 i.if1.false p.put-node2.ensures
+    put_new a.level.now _ a.l a.len s.span-w.result (as_node a.n) s.span-w.ensures.0 i.if-j-w.false p.put_node-else-j-w.ensures
 
-pub put-running-spec : {M : Type 1} → statement M
-put-running-spec =
+pub put_running_spec : {M : Type 1} → statement M
+put_running_spec =
     tie.close
     (tie.spec
     span-requires

@@ -11,61 +11,61 @@ use Rattle.rebuild.proofs.Running.{part_node_lem, part_room}
 use Rattle.rebuild.proofs.rebuild_each.Statement.{statement}
 use Rattle.rebuild.proofs.rebuild_each.Tie as tie
 
-abbrev invariant-loop : tie.invariant-loop
+abbrev invariant-loop : tie.invariant-loop-j
 invariant-loop part level₀ unitsize base first top last j₀ level j = Putting (level_node (part_sample unitsize part base) (top + 1) 1) level₀ first last level j
 
-abbrev decreases-loop : tie.decreases-loop
+abbrev decreases-loop : tie.decreases-loop-j
 decreases-loop part level₀ unitsize base first top last j₀ level j = last + 1 - j
 
-loop-holds : tie.Need-loop-init invariant-loop decreases-loop
+loop-holds : tie.Need-loop-j-init invariant-loop decreases-loop
 loop-holds c = putting_starts _ _ _ _
 
-mul-a : tie.Need-overflow-mul-a invariant-loop decreases-loop
+mul-a : tie.Need-overflow_mul-a invariant-loop decreases-loop
 mul-a c = search rules
 
-end-of-requires : tie.Need-end-of-requires invariant-loop decreases-loop
+end-of-requires : tie.Need-end_of-b-requires invariant-loop decreases-loop
 end-of-requires c κs = search rules
 
-sub-raw-node : tie.Need-overflow-sub-raw-node invariant-loop decreases-loop
+sub-raw-node : tie.Need-overflow_sub-a invariant-loop decreases-loop
 sub-raw-node c = search rules
 
-sub-raw-node-2 : tie.Need-overflow-sub-raw-node-2 invariant-loop decreases-loop
+sub-raw-node-2 : tie.Need-overflow_sub-b invariant-loop decreases-loop
 sub-raw-node-2 c = search rules
 
-raw-node-requires : tie.Need-raw-node-requires invariant-loop decreases-loop
+raw-node-requires : tie.Need-raw_node-requires invariant-loop decreases-loop
 raw-node-requires c κs =
     let s = c.before.before.before.before.before.before in
-    let p = c.before.before.before.loop in
-    part_room s.args.unitsize s.args.base s.args.first s.args.top _ _ p.j _ c.before.end_of.result s.requires p.invariant.from c.before.before.loop-test.true refl c.before.end_of.ensures
+    let p = c.before.before.before.loop-j in
+    part_room s.args.unitsize s.args.base s.args.first s.args.top _ _ p.j _ c.before.end_of-b.result s.requires p.invariant.from c.before.before.loop-j-test.true refl c.before.end_of-b.ensures
 
-put-node-requires : tie.Need-put-node-requires invariant-loop decreases-loop
+put-node-requires : tie.Need-put_node-requires invariant-loop decreases-loop
 put-node-requires c κs = search rules
 
-add-j : tie.Need-overflow-add-j invariant-loop decreases-loop
+add-j : tie.Need-overflow_add-j invariant-loop decreases-loop
 add-j c = search rules
 
-loop-less : tie.Need-loop-smaller invariant-loop decreases-loop
+loop-less : tie.Need-loop-j-smaller invariant-loop decreases-loop
 loop-less c = search rules
 
-loop-again : tie.Need-loop-preserved invariant-loop decreases-loop
+loop-again : tie.Need-loop-j-preserved invariant-loop decreases-loop
 loop-again c =
     let n = c.before.before.before in
     let e = n.before.before in
-    let p = e.before.before.loop in
+    let p = e.before.before.loop-j in
     let s = e.before.before.before.before.before in
     let a = s.args in
-    putting_on _ _ _ _ p.level p.j p.invariant _ _ e.before.loop-test.true
-    (part_node_lem a.unitsize a.part.now a.base a.top p.j _ e.end_of.result _ (omega (arith, s.requires.from, p.invariant.from)) (omega (arith, e.before.loop-test.true)) refl e.end_of.ensures (is_told _ _ n.raw-node.ensures))
-    c.before.before.put-node.ensures
+    putting_on _ _ _ _ p.level p.j p.invariant _ _ e.before.loop-j-test.true
+    (part_node_lem a.unitsize a.part.now a.base a.top p.j _ e.end_of-b.result _ (omega (arith, s.requires.from, p.invariant.from)) (omega (arith, e.before.loop-j-test.true)) refl e.end_of-b.ensures (is_told _ _ n.raw_node.ensures))
+    c.before.before.put_node.ensures
 
-same_length : tie.Need-same-length invariant-loop decreases-loop
+same_length : tie.Need-shape_of-level invariant-loop decreases-loop
 same_length c = search rules
 
 returns : tie.Need-returns invariant-loop decreases-loop
-returns c = putting_end _ _ _ _ c.before.loop.level c.before.loop.j c.before.loop.invariant c.loop-test.false
+returns c = putting_end _ _ _ _ c.before.loop-j.level c.before.loop-j.j c.before.loop-j.invariant c.loop-j-test.false
 
-pub rebuild-each-spec : {M : Type 1} → statement M
-rebuild-each-spec =
+pub rebuild_each_spec : {M : Type 1} → statement M
+rebuild_each_spec =
     tie.close
     (tie.spec
     invariant-loop

@@ -9,51 +9,51 @@ use Rattle.rebuild.proofs.Nodes.{Putting, putting_starts, putting_on, putting_en
 use Rattle.rebuild.proofs.rebuild_level.Statement.{statement}
 use Rattle.rebuild.proofs.rebuild_level.Tie as tie
 
-abbrev invariant-loop : tie.invariant-loop
+abbrev invariant-loop : tie.invariant-loop-j
 invariant-loop below level₀ first top last j₀ level j = Putting (made_over (node_in below) top) level₀ first last level j
 
-abbrev decreases-loop : tie.decreases-loop
+abbrev decreases-loop : tie.decreases-loop-j
 decreases-loop below level₀ first top last j₀ level j = last + 1 - j
 
-loop-holds : tie.Need-loop-init invariant-loop decreases-loop
+loop-holds : tie.Need-loop-j-init invariant-loop decreases-loop
 loop-holds c = putting_starts _ _ _ _
 
-mul-a : tie.Need-overflow-mul-a invariant-loop decreases-loop
+mul-a : tie.Need-overflow_mul-a invariant-loop decreases-loop
 mul-a c = search rules
 
-end-of-requires : tie.Need-end-of-requires invariant-loop decreases-loop
+end-of-requires : tie.Need-end_of-b-requires invariant-loop decreases-loop
 end-of-requires c κs = search rules
 
-join-nodes-requires : tie.Need-join-nodes-requires invariant-loop decreases-loop
+join-nodes-requires : tie.Need-join_nodes-requires invariant-loop decreases-loop
 join-nodes-requires c κs = search rules
 
-put-node-requires : tie.Need-put-node-requires invariant-loop decreases-loop
+put-node-requires : tie.Need-put_node-requires invariant-loop decreases-loop
 put-node-requires c κs = search rules
 
-add-j : tie.Need-overflow-add-j invariant-loop decreases-loop
+add-j : tie.Need-overflow_add-j invariant-loop decreases-loop
 add-j c = search rules
 
-loop-less : tie.Need-loop-smaller invariant-loop decreases-loop
+loop-less : tie.Need-loop-j-smaller invariant-loop decreases-loop
 loop-less c = search rules
 
-loop-again : tie.Need-loop-preserved invariant-loop decreases-loop
+loop-again : tie.Need-loop-j-preserved invariant-loop decreases-loop
 loop-again c =
     let n = c.before.before.before in
     let e = n.before.before in
-    let p = e.before.before.loop in
+    let p = e.before.before.loop-j in
     let a = e.before.before.before.before.before.args in
-    putting_on _ _ _ _ p.level p.j p.invariant _ _ e.before.loop-test.true
-    (made_at (node_in a.below.now) a.top p.j _ e.end_of.result _ e.before.loop-test.true refl e.end_of.ensures n.join-nodes.ensures)
-    c.before.before.put-node.ensures
+    putting_on _ _ _ _ p.level p.j p.invariant _ _ e.before.loop-j-test.true
+    (made_at (node_in a.below.now) a.top p.j _ e.end_of-b.result _ e.before.loop-j-test.true refl e.end_of-b.ensures n.join_nodes.ensures)
+    c.before.before.put_node.ensures
 
-same_length : tie.Need-same-length invariant-loop decreases-loop
+same_length : tie.Need-shape_of-level invariant-loop decreases-loop
 same_length c = search rules
 
 returns : tie.Need-returns invariant-loop decreases-loop
-returns c = putting_end _ _ _ _ c.before.loop.level c.before.loop.j c.before.loop.invariant c.loop-test.false
+returns c = putting_end _ _ _ _ c.before.loop-j.level c.before.loop-j.j c.before.loop-j.invariant c.loop-j-test.false
 
-pub rebuild-level-spec : {M : Type 1} → statement M
-rebuild-level-spec =
+pub rebuild_level_spec : {M : Type 1} → statement M
+rebuild_level_spec =
     tie.close
     (tie.spec
     invariant-loop

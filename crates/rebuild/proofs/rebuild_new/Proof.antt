@@ -5,23 +5,23 @@ use borrow.Author.Rules.{rules}
 use Rattle.rebuild.proofs.rebuild_new.Statement.{statement}
 use Rattle.rebuild.proofs.rebuild_new.Tie as tie
 
-rebuild-whole-requires : tie.Need-rebuild-whole-requires
+rebuild-whole-requires : tie.Need-rebuild_whole-rest-requires
 rebuild-whole-requires c κs = search rules
 
-rebuild-each-requires : tie.Need-rebuild-each-requires
+rebuild-each-requires : tie.Need-rebuild_each-requires
 rebuild-each-requires c κs =
     let w = c.before.before.before in
     let r = w.before.before.before.before.requires in
-    record { unit_size = r.unit_size; fits = r.fits; from = omega (arith, r.from, w.rebuild-whole.ensures.0); samples = r.samples; nodes = omega (arith, r.nodes) }
+    record { unit_size = r.unit_size; fits = r.fits; from = omega (arith, r.from, w.rebuild_whole-rest.ensures.0); samples = r.samples; nodes = omega (arith, r.nodes) }
 
-same_length : tie.Need-same-length
+same_length : tie.Need-shape_of-level
 same_length c = search rules
 
 returns : tie.Need-returns
 returns c =
     let e = c.before.before in
     let w = e.before.before.before.before in
-    e.rebuild-each.ensures ∙ w.rebuild-whole.ensures.1
+    e.rebuild_each.ensures ∙ w.rebuild_whole-rest.ensures.1
 
-pub rebuild-new-spec : {M : Type 1} → statement M
-rebuild-new-spec = tie.close (tie.spec rebuild-whole-requires rebuild-each-requires same_length returns)
+pub rebuild_new_spec : {M : Type 1} → statement M
+rebuild_new_spec = tie.close (tie.spec rebuild-whole-requires rebuild-each-requires same_length returns)

@@ -17,69 +17,69 @@ use Rattle.rebuild.proofs.rebuild_whole.Tie as tie
 ends : (a base : ℕ) → base ≤ a → a - base + 32 ≡ a + 32 - base
 ends a base h = omega arith
 
-abbrev invariant-loop : tie.invariant-loop
+abbrev invariant-loop : tie.invariant-loop-j
 invariant-loop part level₀ unitsize base first top end half j₀ level j = Putting (level_node (part_sample unitsize part base) (top + 1) 1) level₀ first (top / 32) level j
 
-abbrev decreases-loop : tie.decreases-loop
+abbrev decreases-loop : tie.decreases-loop-j
 decreases-loop part level₀ unitsize base first top end half j₀ level j = end - j
 
-add-end : tie.Need-overflow-add-end invariant-loop decreases-loop
+add-end : tie.Need-overflow_add-end invariant-loop decreases-loop
 add-end c = search rules
 
-lesser-requires : tie.Need-lesser-requires invariant-loop decreases-loop
+lesser-requires : tie.Need-lesser-half-requires invariant-loop decreases-loop
 lesser-requires c κs = search rules
 
-loop-holds : tie.Need-loop-init invariant-loop decreases-loop
+loop-holds : tie.Need-loop-j-init invariant-loop decreases-loop
 loop-holds c = putting_starts _ _ _ _
 
-mul-raw-whole : tie.Need-overflow-mul-raw-whole invariant-loop decreases-loop
+mul-raw-whole : tie.Need-overflow_mul-j invariant-loop decreases-loop
 mul-raw-whole c = search rules
 
-sub-raw-whole : tie.Need-overflow-sub-raw-whole invariant-loop decreases-loop
+sub-raw-whole : tie.Need-overflow_sub-j invariant-loop decreases-loop
 sub-raw-whole c = search rules
 
-raw-whole-requires : tie.Need-raw-whole-requires invariant-loop decreases-loop
+raw-whole-requires : tie.Need-raw_whole-requires invariant-loop decreases-loop
 raw-whole-requires c κs =
     let t = c.before in
-    let p = t.before.loop in
+    let p = t.before.loop-j in
     let l = t.before.before in
     let s = l.before.before.before in
     let a = s.args in
     let r =
     subst (λ (e : ℕ). RangeIn a.unitsize (p.j * 32 - a.base) e (length a.part.now)) (sym (ends (p.j * 32) a.base (omega (arith, s.requires.from, p.invariant.from))))
-    (part_room a.unitsize a.base a.first a.top _ _ p.j (p.j * 32) (p.j * 32 + 32) s.requires p.invariant.from (omega (arith, t.loop-test.true)) refl (omega (arith, t.loop-test.true))) in
-    (omega (arith, l.lesser.ensures, range_places r), r)
+    (part_room a.unitsize a.base a.first a.top _ _ p.j (p.j * 32) (p.j * 32 + 32) s.requires p.invariant.from (omega (arith, t.loop-j-test.true)) refl (omega (arith, t.loop-j-test.true))) in
+    (omega (arith, l.lesser-half.ensures, range_places r), r)
 
-put-node-requires : tie.Need-put-node-requires invariant-loop decreases-loop
+put-node-requires : tie.Need-put_node-requires invariant-loop decreases-loop
 put-node-requires c κs = search rules
 
-add-j : tie.Need-overflow-add-j invariant-loop decreases-loop
+add-j : tie.Need-overflow_add-j invariant-loop decreases-loop
 add-j c = search rules
 
-loop-less : tie.Need-loop-smaller invariant-loop decreases-loop
+loop-less : tie.Need-loop-j-smaller invariant-loop decreases-loop
 loop-less c = search rules
 
-loop-again : tie.Need-loop-preserved invariant-loop decreases-loop
+loop-again : tie.Need-loop-j-preserved invariant-loop decreases-loop
 loop-again c =
     let n = c.before.before.before in
     let t = n.before.before in
-    let p = t.before.loop in
+    let p = t.before.loop-j in
     let s = t.before.before.before.before.before in
     let a = s.args in
     let h : a.base ≤ p.j * 32 = omega (arith, s.requires.from, p.invariant.from) in
-    putting_on _ _ _ _ p.level p.j p.invariant _ _ (omega (arith, t.loop-test.true))
-    (part_node_lem a.unitsize a.part.now a.base a.top p.j (p.j * 32) (p.j * 32 + 32) _ h (omega (arith, t.loop-test.true)) refl (omega (arith, t.loop-test.true))
-    (n.raw-whole.ensures ∙ ap (node_of (sample_of a.unitsize a.part.now) (p.j * 32 - a.base)) (ends (p.j * 32) a.base h)))
-    c.before.before.put-node.ensures
+    putting_on _ _ _ _ p.level p.j p.invariant _ _ (omega (arith, t.loop-j-test.true))
+    (part_node_lem a.unitsize a.part.now a.base a.top p.j (p.j * 32) (p.j * 32 + 32) _ h (omega (arith, t.loop-j-test.true)) refl (omega (arith, t.loop-j-test.true))
+    (n.raw_whole.ensures ∙ ap (node_of (sample_of a.unitsize a.part.now) (p.j * 32 - a.base)) (ends (p.j * 32) a.base h)))
+    c.before.before.put_node.ensures
 
-same_length : tie.Need-same-length invariant-loop decreases-loop
+same_length : tie.Need-shape_of-level invariant-loop decreases-loop
 same_length c = search rules
 
 returns : tie.Need-returns invariant-loop decreases-loop
-returns c = (c.before.loop.invariant.from, c.before.loop.invariant.same)
+returns c = (c.before.loop-j.invariant.from, c.before.loop-j.invariant.same)
 
-pub rebuild-whole-spec : {M : Type 1} → statement M
-rebuild-whole-spec =
+pub rebuild_whole_spec : {M : Type 1} → statement M
+rebuild_whole_spec =
     tie.close
     (tie.spec
     invariant-loop

@@ -12,33 +12,33 @@ use Rattle.render.proofs.pixel_node.Statement.{statement}
 use Rattle.render.proofs.pixel_node.Tie as tie
 
 -- the function's start, from where its slices are known
-abbrev start_at : tie.After-shared-slice-known5 → tie.Start
+abbrev start_at : tie.After-shared_slice_known-5-1 → tie.Start
 start_at p = p.before.before.before.before.before
 
-enum_told : tie.Need-enum-told
+enum_told : tie.Need-enum_told-1
 enum_told c = search rules
 
 leaf-requires : tie.Need-leaf-requires
 leaf-requires c κs = search rules
 
-enum-known-p : tie.Need-enum-known-p
+enum-known-p : tie.Need-enum_known-p
 enum-known-p c = search rules
 
-summary-in-requires : tie.Need-summary-in-requires
+summary-in-requires : tie.Need-summary_in-requires
 summary-in-requires c κs =
     let s = start_at c.before.before.before in
-    let i = subst (λ (p : Pixel). Inside (range_as p) s.args.c.len) c.before.p.given.1 s.pre.inside in
+    let i = subst (λ (p : Pixel). Inside (range_as p) s.args.c.len) c.before.p-1.given.1 s.pre.inside in
     record { sound = s.pre.sound; order = i.0; stored = i.1 }
 
-returns : tie.Need-returns
+returns : tie.Need-returns-in-Blank
 returns c =
     let a = (start_at c.before.before.before).args in
-    ap lines_of c.leaf.ensures ∙ sym (ap (λ (p : Pixel). lines_of (pixel_node (summed (level_of a.l1.now a.l2.now a.l3.now a.l4.now) (sample_of a.c.unitsize a.samples.now)) (range_as p))) c.before.enum_told.given.1)
+    ap lines_of c.leaf.ensures ∙ sym (ap (λ (p : Pixel). lines_of (pixel_node (summed (level_of a.l1.now a.l2.now a.l3.now a.l4.now) (sample_of a.c.unitsize a.samples.now)) (range_as p))) c.before.enum_told-1.given.1)
 
-returns-2 : tie.Need-returns-2
+returns-2 : tie.Need-returns-in-Span
 returns-2 c =
     let a = (start_at c.before.before.before.before).args in
-    c.summary-in.ensures.lines ∙ sym (ap (λ (p : Pixel). lines_of (pixel_node (summed (level_of a.l1.now a.l2.now a.l3.now a.l4.now) (sample_of a.c.unitsize a.samples.now)) (range_as p))) c.before.before.p.given.1)
+    c.summary_in.ensures.lines ∙ sym (ap (λ (p : Pixel). lines_of (pixel_node (summed (level_of a.l1.now a.l2.now a.l3.now a.l4.now) (sample_of a.c.unitsize a.samples.now)) (range_as p))) c.before.before.p-1.given.1)
 
-pub pixel-node-spec : {M : Type 1} → statement M
-pixel-node-spec = tie.close (tie.spec enum_told leaf-requires enum-known-p summary-in-requires returns returns-2)
+pub pixel_node_spec : {M : Type 1} → statement M
+pixel_node_spec = tie.close (tie.spec enum_told leaf-requires enum-known-p summary-in-requires returns returns-2)

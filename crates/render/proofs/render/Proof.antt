@@ -22,7 +22,7 @@ use Rattle.render.proofs.render.Statement.{statement}
 use Rattle.render.proofs.render.Tie as tie
 
 -- the nodes that memory holds, its lengths, and the call's own rows
-module _ (f : tie.After-refusal) where
+module _ (f : tie.After-refusal-n) where
   abbrev s : tie.Start
   s = f.before.before.before.before.before.before.before
 
@@ -41,43 +41,43 @@ module _ (f : tie.After-refusal) where
   abbrev own : List Row
   own = view_rows (view_as s.args.view) s.args.width (length s.args.output.now)
 
-refusal-requires : tie.Need-refusal-requires
+refusal-requires : tie.Need-refusal-n-requires
 refusal-requires c κs = search rules
 
-returns : tie.Need-returns
+returns : tie.Need-returns-then-n-ne0
 returns c =
     let f = c.before in
     let a = (s f).args in
-    draws_refused (node_at f) (st f) (lent f) (view_as a.view) a.width a.output.now (rows_refuse (st f) (lent f) (own f) f.refusal.ensures c.if1.true) c.if1.true
+    draws_refused (node_at f) (st f) (lent f) (view_as a.view) a.width a.output.now (rows_refuse (st f) (lent f) (own f) f.refusal-n.ensures c.if-n-ne0.true) c.if-n-ne0.true
 
-view-refusal-requires : tie.Need-view-refusal-requires
+view-refusal-requires : tie.Need-view_refusal-k-requires
 view-refusal-requires c κs = search rules
 
-returns-2 : tie.Need-returns-2
+returns-2 : tie.Need-returns-then-k-ne0
 returns-2 c =
     let v = c.before in
     let f = v.before.before in
     let a = (s f).args in
-    draws_refused (node_at f) (st f) (lent f) (view_as a.view) a.width a.output.now (rows_decide (st f) (lent f) (own f) f.refusal.ensures v.before.if1.false _ v.view-refusal.ensures) c.if2.true
+    draws_refused (node_at f) (st f) (lent f) (view_as a.view) a.width a.output.now (rows_decide (st f) (lent f) (own f) f.refusal-n.ensures v.before.if-n-ne0.false _ v.view_refusal-k.ensures) c.if-k-ne0.true
 
 draw-requires : tie.Need-draw-requires
 draw-requires c κs =
     let v = c.before.before in
     let f = v.before.before in
     let a = (s f).args in
-    drawable (st f) (lent f) (view_as a.view) a.width (length a.output.now) (let_in f.refusal.ensures v.before.if1.false) 0 (omega arith) (sym v.view-refusal.ensures ∙ c.before.if2.false)
+    drawable (st f) (lent f) (view_as a.view) a.width (length a.output.now) (let_in f.refusal-n.ensures v.before.if-n-ne0.false) 0 (omega arith) (sym v.view_refusal-k.ensures ∙ c.before.if-k-ne0.false)
 
-same_length : tie.Need-same-length
+same_length : tie.Need-shape_of-output
 same_length c = search rules
 
-returns-3 : tie.Need-returns-3
+returns-3 : tie.Need-returns
 returns-3 c =
     let d = c.before.before.before.before in
     let v = d.before in
     let f = v.before.before in
     let a = (s f).args in
-    draws_done (node_at f) (st f) (lent f) (view_as a.view) a.width a.output.now (rows_decide (st f) (lent f) (own f) f.refusal.ensures v.before.if1.false _ v.view-refusal.ensures) d.if2.false _
+    draws_done (node_at f) (st f) (lent f) (view_as a.view) a.width a.output.now (rows_decide (st f) (lent f) (own f) f.refusal-n.ensures v.before.if-n-ne0.false _ v.view_refusal-k.ensures) d.if-k-ne0.false _
     (c.before.before.draw.ensures ∙ ap (λ (range : ℕ → Option Range). drawn (node_at f) range a.width a.output.now) (fun_ext (from_first (view_as a.view) a.c.len)))
 
-pub render-spec : {M : Type 1} → statement M
-render-spec = tie.close (tie.spec refusal-requires returns view-refusal-requires returns-2 draw-requires same_length returns-3)
+pub render_spec : {M : Type 1} → statement M
+render_spec = tie.close (tie.spec refusal-requires returns view-refusal-requires returns-2 draw-requires same_length returns-3)

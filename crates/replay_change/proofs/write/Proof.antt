@@ -7,38 +7,38 @@ use Rattle.replay_change.proofs.Pieces.{piece_falls}
 use Rattle.replay_change.proofs.write.Statement.{statement}
 use Rattle.replay_change.proofs.write.Tie as tie
 
-abbrev invariant-loop : tie.invariant-loop
+abbrev invariant-loop : tie.invariant-loop-a
 invariant-loop o line samples₀ l1₀ l2₀ l3₀ l4₀ ring₀ piece₀ a₀ samples l1 l2 l3 l4 ring piece a =
     (length samples ≡ length samples₀) × (length l1 ≡ length l1₀) × (length l2 ≡ length l2₀) × (length l3 ≡ length l3₀) × (length l4 ≡ length l4₀) × (length ring ≡ length ring₀) × (length piece ≡ length piece₀)
 
-abbrev decreases-loop : tie.decreases-loop
+abbrev decreases-loop : tie.decreases-loop-a
 decreases-loop o line samples₀ l1₀ l2₀ l3₀ l4₀ ring₀ piece₀ a₀ samples l1 l2 l3 l4 ring piece a =
-    ahead a.more a.feed
+    ahead a.more a.feed-1
 
 -- the call of append, and that of push, from the end of a turn
-abbrev appended : tie.After-after-append invariant-loop decreases-loop → tie.After-append invariant-loop decreases-loop
+abbrev appended : tie.After-after_append-a invariant-loop decreases-loop → tie.After-append-r invariant-loop decreases-loop
 appended p =
     let l3 = p.before.before.before.before in
     l3.before.before.before.before.before.before.before
 
-abbrev pushed : tie.After-after-push invariant-loop decreases-loop → tie.After-push invariant-loop decreases-loop
+abbrev pushed : tie.After-after_push-a invariant-loop decreases-loop → tie.After-push-r invariant-loop decreases-loop
 pushed p =
     let l3 = p.before.before.before.before.before.before in
     l3.before.before.before.before.before.before.before
 
 -- the piece that each of them is given
-abbrev filled_for_append : tie.After-append invariant-loop decreases-loop → tie.After-fill invariant-loop decreases-loop
+abbrev filled_for_append : tie.After-append-r invariant-loop decreases-loop → tie.After-fill-p invariant-loop decreases-loop
 filled_for_append p =
     let lent = p.before.before.before.before.before.before.before in
     lent.before.before.before.before.before.before
 
-abbrev filled_for_push : tie.After-push invariant-loop decreases-loop → tie.After-fill invariant-loop decreases-loop
+abbrev filled_for_push : tie.After-push-r invariant-loop decreases-loop → tie.After-fill-p invariant-loop decreases-loop
 filled_for_push p =
     let lent = p.before.before.before.before.before.before.before in
     lent.before.before.before.before.before.before
 
 -- the change as it was put, from the loop's head
-abbrev put_at : tie.At-loop invariant-loop decreases-loop → tie.After-put invariant-loop decreases-loop
+abbrev put_at : tie.At-loop-a invariant-loop decreases-loop → tie.After-put invariant-loop decreases-loop
 put_at p =
     let l4 = p.before.before.before.before.before.before in
     l4.before.before.before.before.before.before.before
@@ -46,119 +46,119 @@ put_at p =
 put-requires : tie.Need-put-requires invariant-loop decreases-loop
 put-requires c κs = search rules
 
-feed-of-requires : tie.Need-feed-of-requires invariant-loop decreases-loop
+feed-of-requires : tie.Need-feed_of-requires invariant-loop decreases-loop
 feed-of-requires c κs = search rules
 
 refused-requires : tie.Need-refused-requires invariant-loop decreases-loop
 refused-requires c κs = search rules
 
-loop-holds : tie.Need-loop-init invariant-loop decreases-loop
+loop-holds : tie.Need-loop-a-init invariant-loop decreases-loop
 loop-holds c = search rules
 
-fill-requires : tie.Need-fill-requires invariant-loop decreases-loop
+fill-requires : tie.Need-fill-p-requires invariant-loop decreases-loop
 fill-requires c κs = search rules
 
-sub-append : tie.Need-overflow-sub-append invariant-loop decreases-loop
+sub-append : tie.Need-slice_bounds-append-count invariant-loop decreases-loop
 sub-append c = search rules
 
-part-append-start : tie.Need-slice-bounds-append-start invariant-loop decreases-loop
+part-append-start : tie.Need-slice_bounds-append-start invariant-loop decreases-loop
 part-append-start c = search rules
 
-part-append-end : tie.Need-slice-bounds-append-end invariant-loop decreases-loop
+part-append-end : tie.Need-slice_bounds-append-end invariant-loop decreases-loop
 part-append-end c = search rules
 
-append-requires : tie.Need-append-requires invariant-loop decreases-loop
+append-requires : tie.Need-append-r-requires invariant-loop decreases-loop
 append-requires c κs = search rules
 
-after-append-requires : tie.Need-after-append-requires invariant-loop decreases-loop
+after-append-requires : tie.Need-after_append-a-requires invariant-loop decreases-loop
 after-append-requires c κs = search rules
 
-loop-less : tie.Need-loop-smaller invariant-loop decreases-loop
+loop-less : tie.Need-loop-a-smaller-then-o-lt50 invariant-loop decreases-loop
 loop-less c =
     let filled = filled_for_append (appended c) in
-    piece_falls _ _ _ _ _ _ filled.before.before.before.before.loop-test.taken filled.fill.ensures.less c.after-append.ensures
+    piece_falls _ _ _ _ _ _ filled.before.before.before.before.loop-a-test.taken filled.fill-p.ensures.less c.after_append-a.ensures
 
-loop-again : tie.Need-loop-preserved invariant-loop decreases-loop
+loop-again : tie.Need-loop-a-preserved-then-o-lt50 invariant-loop decreases-loop
 loop-again c =
     let sent = appended c in
-    let kept = sent.append.kept.1 in
+    let kept = sent.append-r.kept.1 in
     let filled = filled_for_append sent in
-    let inv = filled.before.before.before.before.before.loop.inv in (
+    let inv = filled.before.before.before.before.before.loop-a.inv in (
       kept.0 ∙ inv.0,
       kept.1.0 ∙ inv.1,
       kept.1.1.0 ∙ inv.2,
       kept.1.1.1.0 ∙ inv.3,
       kept.1.1.1.1.0 ∙ inv.4,
       inv.5,
-      filled.fill.kept.1.1.0 ∙ inv.6,
+      filled.fill-p.kept.1.1.0 ∙ inv.6,
     )
 
-sub-push : tie.Need-overflow-sub-push invariant-loop decreases-loop
+sub-push : tie.Need-slice_bounds-push-count invariant-loop decreases-loop
 sub-push c = search rules
 
-part-push-start : tie.Need-slice-bounds-push-start invariant-loop decreases-loop
+part-push-start : tie.Need-slice_bounds-push-start invariant-loop decreases-loop
 part-push-start c = search rules
 
-part-push-end : tie.Need-slice-bounds-push-end invariant-loop decreases-loop
+part-push-end : tie.Need-slice_bounds-push-end invariant-loop decreases-loop
 part-push-end c = search rules
 
-push-requires : tie.Need-push-requires invariant-loop decreases-loop
+push-requires : tie.Need-push-r-requires invariant-loop decreases-loop
 push-requires c κs = search rules
 
-after-push-requires : tie.Need-after-push-requires invariant-loop decreases-loop
+after-push-requires : tie.Need-after_push-a-requires invariant-loop decreases-loop
 after-push-requires c κs = search rules
 
-loop-less-2 : tie.Need-loop-smaller-2 invariant-loop decreases-loop
+loop-less-2 : tie.Need-loop-a-smaller invariant-loop decreases-loop
 loop-less-2 c =
     let filled = filled_for_push (pushed c) in
-    piece_falls _ _ _ _ _ _ filled.before.before.before.before.loop-test.taken filled.fill.ensures.less c.after_push.ensures
+    piece_falls _ _ _ _ _ _ filled.before.before.before.before.loop-a-test.taken filled.fill-p.ensures.less c.after_push-a.ensures
 
-loop-again-2 : tie.Need-loop-preserved-2 invariant-loop decreases-loop
+loop-again-2 : tie.Need-loop-a-preserved invariant-loop decreases-loop
 loop-again-2 c =
     let sent = pushed c in
-    let kept = sent.push.kept.1 in
+    let kept = sent.push-r.kept.1 in
     let filled = filled_for_push sent in
-    let inv = filled.before.before.before.before.before.loop.inv in (
+    let inv = filled.before.before.before.before.before.loop-a.inv in (
       kept.0 ∙ inv.0,
       kept.1.0 ∙ inv.1,
       kept.1.1.0 ∙ inv.2,
       kept.1.1.1.0 ∙ inv.3,
       kept.1.1.1.1.0 ∙ inv.4,
       kept.1.1.1.1.1.0 ∙ inv.5,
-      filled.fill.kept.1.1.0 ∙ inv.6,
+      filled.fill-p.kept.1.1.0 ∙ inv.6,
     )
 
 changed-requires : tie.Need-changed-requires invariant-loop decreases-loop
 changed-requires c κs = search rules
 
-same_length : tie.Need-same-length invariant-loop decreases-loop
-same_length c = c.before.before.loop.invariant.0
+same_length : tie.Need-shape_of-samples invariant-loop decreases-loop
+same_length c = c.before.before.loop-a.invariant.0
 
-same-length-2 : tie.Need-same-length-2 invariant-loop decreases-loop
+same-length-2 : tie.Need-shape_of-l1 invariant-loop decreases-loop
 same-length-2 c =
     let entered = c.before.before in
-    entered.loop.invariant.1 ∙ (put_at entered).put.auto.1.0
+    entered.loop-a.invariant.1 ∙ (put_at entered).put.auto.1.0
 
-same-length-3 : tie.Need-same-length-3 invariant-loop decreases-loop
+same-length-3 : tie.Need-shape_of-l2 invariant-loop decreases-loop
 same-length-3 c =
     let entered = c.before.before in
-    entered.loop.invariant.2 ∙ (put_at entered).put.auto.1.1.0
+    entered.loop-a.invariant.2 ∙ (put_at entered).put.auto.1.1.0
 
-same-length-4 : tie.Need-same-length-4 invariant-loop decreases-loop
+same-length-4 : tie.Need-shape_of-l3 invariant-loop decreases-loop
 same-length-4 c =
     let entered = c.before.before in
-    entered.loop.invariant.3 ∙ (put_at entered).put.auto.1.1.1.0
+    entered.loop-a.invariant.3 ∙ (put_at entered).put.auto.1.1.1.0
 
-same-length-5 : tie.Need-same-length-5 invariant-loop decreases-loop
+same-length-5 : tie.Need-shape_of-l4 invariant-loop decreases-loop
 same-length-5 c =
     let entered = c.before.before in
-    entered.loop.invariant.4 ∙ (put_at entered).put.auto.1.1.1.1.0
+    entered.loop-a.invariant.4 ∙ (put_at entered).put.auto.1.1.1.1.0
 
-same-length-6 : tie.Need-same-length-6 invariant-loop decreases-loop
-same-length-6 c = c.before.before.loop.invariant.5
+same-length-6 : tie.Need-shape_of-ring invariant-loop decreases-loop
+same-length-6 c = c.before.before.loop-a.invariant.5
 
-same-length-7 : tie.Need-same-length-7 invariant-loop decreases-loop
-same-length-7 c = c.before.before.loop.invariant.6
+same-length-7 : tie.Need-shape_of-piece invariant-loop decreases-loop
+same-length-7 c = c.before.before.loop-a.invariant.6
 
 returns : tie.Need-returns invariant-loop decreases-loop
 returns c = search rules

@@ -6,11 +6,11 @@ use borrow.Author.Rules.{rules}
 use Rattle.replay_feed.proofs.filled_with.Statement.{statement}
 use Rattle.replay_feed.proofs.filled_with.Tie as tie
 
-returns : tie.Need-returns
+returns : tie.Need-returns-then-bytes-eq0
 returns c = (refl, refl, λ e. let z : ◌≡◌ {A = ℕ} 0 1 = cc in omega arith)
 
-returns-2 : tie.Need-returns-2
+returns-2 : tie.Need-returns
 returns-2 c = search rules
 
-pub filled-with-spec : {M : Type 1} → statement M
-filled-with-spec = tie.close (tie.spec returns returns-2)
+pub filled_with_spec : {M : Type 1} → statement M
+filled_with_spec = tie.close (tie.spec returns returns-2)

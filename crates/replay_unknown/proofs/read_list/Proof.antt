@@ -6,41 +6,41 @@ use borrow.Author.Rules.{rules}
 use Rattle.replay_unknown.proofs.read_list.Statement.{statement}
 use Rattle.replay_unknown.proofs.read_list.Tie as tie
 
-abbrev invariant-loop : tie.invariant-loop
+abbrev invariant-loop : tie.invariant-loop-i
 invariant-loop line at list₀ next₀ i₀ list next i = length list ≡ length list₀
 
-abbrev decreases-loop : tie.decreases-loop
+abbrev decreases-loop : tie.decreases-loop-i
 decreases-loop line at list₀ next₀ i₀ list next i = length list₀ - i
 
-loop-holds : tie.Need-loop-init invariant-loop decreases-loop
+loop-holds : tie.Need-loop-i-init invariant-loop decreases-loop
 loop-holds c = search rules
 
-number-requires : tie.Need-number-requires invariant-loop decreases-loop
+number-requires : tie.Need-number-n-requires invariant-loop decreases-loop
 number-requires c κs = search rules
 
-mul-list : tie.Need-overflow-mul-list invariant-loop decreases-loop
+mul-list : tie.Need-offset_bounds-list-i invariant-loop decreases-loop
 mul-list c = search rules
 
-slice-write-list : tie.Need-slice-write-list invariant-loop decreases-loop
+slice-write-list : tie.Need-bounds-list-i invariant-loop decreases-loop
 slice-write-list c = search rules
 
-add-i : tie.Need-overflow-add-i invariant-loop decreases-loop
+add-i : tie.Need-overflow_add-i invariant-loop decreases-loop
 add-i c = search rules
 
-loop-less : tie.Need-loop-smaller invariant-loop decreases-loop
+loop-less : tie.Need-loop-i-smaller invariant-loop decreases-loop
 loop-less c = search rules
 
-loop-again : tie.Need-loop-preserved invariant-loop decreases-loop
+loop-again : tie.Need-loop-i-preserved invariant-loop decreases-loop
 loop-again c = search rules
 
-same_length : tie.Need-same-length invariant-loop decreases-loop
+same_length : tie.Need-shape_of-list invariant-loop decreases-loop
 same_length c = search rules
 
 returns : tie.Need-returns invariant-loop decreases-loop
 returns c = search rules
 
-pub read-list-spec : {M : Type 1} → statement M
-read-list-spec =
+pub read_list_spec : {M : Type 1} → statement M
+read_list_spec =
     tie.close
     (tie.spec
     invariant-loop

@@ -17,16 +17,16 @@ use Rattle.search.proofs.Quiet.{AtBorder, quiet_passes, chunks_held}
 use Rattle.search.proofs.chunks_back.Statement.{statement}
 use Rattle.search.proofs.chunks_back.Tie as tie
 
-abbrev invariant-loop : tie.invariant-loop
+abbrev invariant-loop : tie.invariant-loop-left
 invariant-loop samples l1 l2 l3 l4 unitsize len mask start at₀ left₀ count₀ at left count =
     let reader = reader_of unitsize samples (level_of l1 l2 l3 l4) in
     Coursing (behind all_levels reader) mask (previous_from all_levels reader mask start) count left (left - 1) at (reader 0 at).first × (at < len) × (at ≤ left * chunk) × (left * chunk ≤ at + chunk)
 
-abbrev decreases-loop : tie.decreases-loop
+abbrev decreases-loop : tie.decreases-loop-left
 decreases-loop samples l1 l2 l3 l4 unitsize len mask start at₀ left₀ count₀ at left count = left
 
 -- ---- names for what a turn knows
-abbrev start_at : tie.In-loop invariant-loop decreases-loop → tie.Start invariant-loop decreases-loop
+abbrev start_at : tie.In-loop-left invariant-loop decreases-loop → tie.Start invariant-loop decreases-loop
 start_at t = t.before.before.before.before.before.before.before
 
 abbrev levels_at : tie.Start invariant-loop decreases-loop → ℕ → List ℕ
@@ -40,92 +40,92 @@ abbrev Stands : tie.Start invariant-loop decreases-loop → ℕ → ℕ → Type
 Stands s count b = AtBorder (reader_at s) s.args.len s.args.mask (previous_from all_levels (reader_at s) s.args.mask s.args.start) true count b b
 
 -- what the chunk's search told
-told_at : (f : tie.After-in-chunk invariant-loop decreases-loop) (r : Place) → f.in-chunk.result ≡ r
+told_at : (f : tie.After-in_chunk-p invariant-loop decreases-loop) (r : Place) → f.in_chunk-p.result ≡ r
     → let s = start_at f.before in
-    let p = f.before.before.loop in
+    let p = f.before.before.loop-left in
     place_of r ≡ walk_from ((behind all_levels (reader_at s)).way (p.left - 1)) s.args.mask p.at (reader_at s 0 p.at).first
-told_at f r e = ap place_of (sym e) ∙ f.in-chunk.ensures
+told_at f r e = ap place_of (sym e) ∙ f.in_chunk-p.ensures
 
 -- after a chunk without a find, and past the quiet ones before it
-left_at : (f : tie.After-known-told2 invariant-loop decreases-loop)
+left_at : (f : tie.In-Nothing invariant-loop decreases-loop)
     → let t = f.before.before.before.before in
-    Stands (start_at t) (t.before.loop.count + f.before.p2.given.0.0) (t.before.loop.left - 1)
+    Stands (start_at t) (t.before.loop-left.count + f.before.p-in-Nothing-1.given.0.0) (t.before.loop-left.left - 1)
 left_at f =
-    let p = f.before.before.before.before.before.loop in
-    coursing_on p.invariant.0 (p.left - 1) (omega arith) _ (told_at f.before.before.before _ f.before.p2.given.1) refl
+    let p = f.before.before.before.before.before.loop-left in
+    coursing_on p.invariant.0 (p.left - 1) (omega arith) _ (told_at f.before.before.before _ f.before.p-in-Nothing-1.given.1) refl
 
-passed_at : (c : tie.After-quiet-chunks invariant-loop decreases-loop)
+passed_at : (c : tie.After-quiet_chunks-passed invariant-loop decreases-loop)
     → let t = c.before.before.before.before.before in
-    Stands (start_at t) (t.before.loop.count + c.before.before.p2.given.0.0 + c.quiet-chunks.result) (t.before.loop.left - 1 - c.quiet-chunks.result)
+    Stands (start_at t) (t.before.loop-left.count + c.before.before.p-in-Nothing-1.given.0.0 + c.quiet_chunks-passed.result) (t.before.loop-left.left - 1 - c.quiet_chunks-passed.result)
 unfolding level_of
 passed_at c =
     let t = c.before.before.before.before.before in
     let s = start_at t in
-    let ci = t.before.loop.left - 1 in
-    quiet_passes s.args.unitsize s.args.len s.args.samples.now (levels_at s) (left_at c.before) (le_refl ci) c.quiet-chunks.ensures (ci - c.quiet-chunks.result) (omega (arith, c.quiet-chunks.ensures.most))
+    let ci = t.before.loop-left.left - 1 in
+    quiet_passes s.args.unitsize s.args.len s.args.samples.now (levels_at s) (left_at c.before) (le_refl ci) c.quiet_chunks-passed.ensures (ci - c.quiet_chunks-passed.result) (omega (arith, c.quiet_chunks-passed.ensures.most))
 
 -- ---- the needs
-add_left : tie.Need-overflow-add-left invariant-loop decreases-loop
+add_left : tie.Need-overflow_add-left invariant-loop decreases-loop
 add_left c = omega arith
 
-loop-holds : tie.Need-loop-init invariant-loop decreases-loop
+loop-holds : tie.Need-loop-left-init invariant-loop decreases-loop
 loop-holds c =
     let s = c.before.before.before.before.before in
     (previous_starts all_levels (reader_at s) s.args.mask s.args.len s.requires.0.most s.args.start s.requires.1, s.requires.1, omega arith, omega arith)
 
-sub-ci : tie.Need-overflow-sub-ci invariant-loop decreases-loop
+sub-ci : tie.Need-overflow_sub-ci invariant-loop decreases-loop
 sub-ci c = omega arith
 
-in-chunk-requires : tie.Need-in-chunk-requires invariant-loop decreases-loop
+in-chunk-requires : tie.Need-in_chunk-p-requires invariant-loop decreases-loop
 in-chunk-requires c κs = ((start_at c).requires.0, record { low = omega arith; high = omega arith; most = omega arith; stored = omega arith })
 
-enum-known-p : tie.Need-enum-known-p invariant-loop decreases-loop
+enum-known-p : tie.Need-enum_known-p invariant-loop decreases-loop
 enum-known-p c = search rules
 
-add-count : tie.Need-overflow-add-count invariant-loop decreases-loop
+add-count : tie.Need-overflow_add-count invariant-loop decreases-loop
 add-count c =
-    let p = c.before.before.before.before.before.loop in
-    omega (arith, coursing_counts p.invariant.0 (p.left - 1) (omega arith) _ (told_at c.before.before.before _ c.before.p.given.1))
+    let p = c.before.before.before.before.before.loop-left in
+    omega (arith, coursing_counts p.invariant.0 (p.left - 1) (omega arith) _ (told_at c.before.before.before _ c.before.p-1.given.1))
 
-returns : tie.Need-returns invariant-loop decreases-loop
+returns : tie.Need-returns-in-At invariant-loop decreases-loop
 returns c =
-    let p = c.before.before.before.before.before.loop in
-    coursing_found p.invariant.0 (p.left - 1) (omega arith) _ (told_at c.before.before.before _ c.before.p.given.1) (λ z. none-ne-some _ (sym z))
+    let p = c.before.before.before.before.before.loop-left in
+    coursing_found p.invariant.0 (p.left - 1) (omega arith) _ (told_at c.before.before.before _ c.before.p-1.given.1) (λ z. none-ne-some _ (sym z))
 
-enum-known-p-2 : tie.Need-enum-known-p-2 invariant-loop decreases-loop
+enum-known-p-2 : tie.Need-enum_known-p-in-Nothing-1 invariant-loop decreases-loop
 enum-known-p-2 c = search rules
 
-add-count-2 : tie.Need-overflow-add-count-2 invariant-loop decreases-loop
+add-count-2 : tie.Need-overflow_add-count-in-Nothing invariant-loop decreases-loop
 add-count-2 c = omega (arith, coursing_fits (left_at c))
 
-quiet-chunks-requires : tie.Need-quiet-chunks-requires invariant-loop decreases-loop
+quiet-chunks-requires : tie.Need-quiet_chunks-passed-requires invariant-loop decreases-loop
 unfolding level_of
 quiet-chunks-requires c κs =
     let t = c.before.before.before.before in
     let s = start_at t in
-    let ci = t.before.loop.left - 1 in
+    let ci = t.before.loop-left.left - 1 in
     chunks_held s.args.unitsize s.args.len s.args.samples.now (levels_at s) s.pre.0 true ci ci (le_refl ci) (λ _. omega arith) (λ z. absurd (true≢false z))
 
-add-count-3 : tie.Need-overflow-add-count-3 invariant-loop decreases-loop
+add-count-3 : tie.Need-overflow_add-count-in-loop-left invariant-loop decreases-loop
 add-count-3 c = omega (arith, coursing_fits (passed_at c))
 
-sub-left : tie.Need-overflow-sub-left invariant-loop decreases-loop
+sub-left : tie.Need-overflow_sub-left invariant-loop decreases-loop
 sub-left c = omega arith
 
-mul_at : tie.Need-overflow-mul-at invariant-loop decreases-loop
+mul_at : tie.Need-overflow_mul-at invariant-loop decreases-loop
 mul_at c = omega arith
 
-loop-less : tie.Need-loop-smaller invariant-loop decreases-loop
+loop-less : tie.Need-loop-left-smaller invariant-loop decreases-loop
 loop-less c = omega arith
 
-loop-again : tie.Need-loop-preserved invariant-loop decreases-loop
+loop-again : tie.Need-loop-left-preserved invariant-loop decreases-loop
 loop-again c = (passed_at c, omega arith, omega arith, omega arith)
 
-returns-2 : tie.Need-returns-2 invariant-loop decreases-loop
-returns-2 c = coursing_end c.before.loop.invariant.0 (omega arith)
+returns-2 : tie.Need-returns invariant-loop decreases-loop
+returns-2 c = coursing_end c.before.loop-left.invariant.0 (omega arith)
 
-pub chunks-back-spec : {M : Type 1} → statement M
-chunks-back-spec =
+pub chunks_back_spec : {M : Type 1} → statement M
+chunks_back_spec =
     tie.close
     (tie.spec
     invariant-loop

@@ -16,16 +16,16 @@ use Rattle.search.proofs.Quiet.{AtBorder, quiet_passes, chunks_held}
 use Rattle.search.proofs.chunks_fwd.Statement.{statement}
 use Rattle.search.proofs.chunks_fwd.Tie as tie
 
-abbrev invariant-loop : tie.invariant-loop
+abbrev invariant-loop : tie.invariant-loop-ci
 invariant-loop samples l1 l2 l3 l4 unitsize len mask from end whole lo₀ ci₀ count₀ lo ci count =
     let reader = reader_of unitsize samples (level_of l1 l2 l3 l4) in
     Coursing (ahead all_levels reader len) mask (next_walk all_levels reader len mask from) count (chunks_for len - ci) ci lo (reader 0 (lo - 1)).first × (1 ≤ lo) × (ci * chunk ≤ lo) × (lo ≤ (ci + 1) * chunk) × (ci * chunk < len → lo ≤ len)
 
-abbrev decreases-loop : tie.decreases-loop
+abbrev decreases-loop : tie.decreases-loop-ci
 decreases-loop samples l1 l2 l3 l4 unitsize len mask from end whole lo₀ ci₀ count₀ lo ci count = chunks_for len - ci
 
 -- ---- names for what a turn knows
-abbrev start_at : tie.In-loop invariant-loop decreases-loop → tie.Start invariant-loop decreases-loop
+abbrev start_at : tie.In-loop-ci invariant-loop decreases-loop → tie.Start invariant-loop decreases-loop
 start_at t = t.before.before.before.before.before.before.before
 
 abbrev levels_at : tie.Start invariant-loop decreases-loop → ℕ → List ℕ
@@ -43,110 +43,110 @@ abbrev Stands : tie.Start invariant-loop decreases-loop → ℕ → ℕ → Type
 Stands s count b = AtBorder (reader_at s) s.args.len s.args.mask (next_walk all_levels (reader_at s) s.args.len s.args.mask s.args.from) false count (rest_at s b) b
 
 -- what the chunk's search told
-told_at : (f : tie.After-in-chunk invariant-loop decreases-loop) (r : Place) → f.in-chunk.result ≡ r
+told_at : (f : tie.After-in_chunk-p invariant-loop decreases-loop) (r : Place) → f.in_chunk-p.result ≡ r
     → let s = start_at f.before in
-    let p = f.before.before.loop in
+    let p = f.before.before.loop-ci in
     place_of r ≡ walk_from ((ahead all_levels (reader_at s) s.args.len).way p.ci) s.args.mask p.lo (reader_at s 0 (p.lo - 1)).first
-told_at f r e = ap place_of (sym e) ∙ f.in-chunk.ensures
+told_at f r e = ap place_of (sym e) ∙ f.in_chunk-p.ensures
 
 -- after a chunk without a find, and past the quiet ones behind it
-left_at : (f : tie.After-known-told2 invariant-loop decreases-loop)
+left_at : (f : tie.In-Nothing invariant-loop decreases-loop)
     → let t = f.before.before.before.before in
-    Stands (start_at t) (t.before.loop.count + f.before.p2.given.0.0) (t.before.loop.ci + 1)
+    Stands (start_at t) (t.before.loop-ci.count + f.before.p-in-Nothing-1.given.0.0) (t.before.loop-ci.ci + 1)
 left_at f =
     let t = f.before.before.before.before in
-    let p = t.before.loop in
-    coursing_on p.invariant.0 (rest_at (start_at t) (p.ci + 1)) (omega arith) _ (told_at f.before.before.before _ f.before.p2.given.1) refl
+    let p = t.before.loop-ci in
+    coursing_on p.invariant.0 (rest_at (start_at t) (p.ci + 1)) (omega arith) _ (told_at f.before.before.before _ f.before.p-in-Nothing-1.given.1) refl
 
-passed_at : (c : tie.After-quiet-chunks invariant-loop decreases-loop)
+passed_at : (c : tie.After-quiet_chunks-passed invariant-loop decreases-loop)
     → let t = c.before.before.before.before.before.before in
-    Stands (start_at t) (t.before.loop.count + c.before.before.before.p2.given.0.0 + c.quiet-chunks.result) (t.before.loop.ci + 1 + c.quiet-chunks.result)
+    Stands (start_at t) (t.before.loop-ci.count + c.before.before.before.p-in-Nothing-1.given.0.0 + c.quiet_chunks-passed.result) (t.before.loop-ci.ci + 1 + c.quiet_chunks-passed.result)
 unfolding level_of
 passed_at c =
     let t = c.before.before.before.before.before.before in
     let s = start_at t in
-    quiet_passes s.args.unitsize s.args.len s.args.samples.now (levels_at s) (left_at c.before.before) (omega arith) c.quiet-chunks.ensures
-    (rest_at s (t.before.loop.ci + 1 + c.quiet-chunks.result)) (omega (arith, c.quiet-chunks.ensures.most))
+    quiet_passes s.args.unitsize s.args.len s.args.samples.now (levels_at s) (left_at c.before.before) (omega arith) c.quiet_chunks-passed.ensures
+    (rest_at s (t.before.loop-ci.ci + 1 + c.quiet_chunks-passed.result)) (omega (arith, c.quiet_chunks-passed.ensures.most))
 
 -- ---- the needs
-sub-end : tie.Need-overflow-sub-end invariant-loop decreases-loop
+sub-end : tie.Need-overflow_sub-end invariant-loop decreases-loop
 sub-end c = omega arith
 
-add-end : tie.Need-overflow-add-end invariant-loop decreases-loop
+add-end : tie.Need-overflow_add-end invariant-loop decreases-loop
 add-end c = omega arith
 
-add-lo : tie.Need-overflow-add-lo invariant-loop decreases-loop
+add-lo : tie.Need-overflow_add-lo invariant-loop decreases-loop
 add-lo c = omega arith
 
-loop-holds : tie.Need-loop-init invariant-loop decreases-loop
+loop-holds : tie.Need-loop-ci-init invariant-loop decreases-loop
 loop-holds c =
     let s = c.before.before.before.before.before in
     (next_starts all_levels (reader_at s) s.args.mask s.args.len s.requires.0.most s.args.from s.requires.1, omega arith, omega arith, omega arith, λ h. omega arith)
 
-sub-in-chunk : tie.Need-overflow-sub-in-chunk invariant-loop decreases-loop
+sub-in-chunk : tie.Need-overflow_sub-lo invariant-loop decreases-loop
 sub-in-chunk c = omega arith
 
-in-chunk-requires : tie.Need-in-chunk-requires invariant-loop decreases-loop
+in-chunk-requires : tie.Need-in_chunk-p-requires invariant-loop decreases-loop
 in-chunk-requires c κs =
-    let most : c.before.loop.lo ≤ (start_at c).args.len = c.before.loop.invariant.4 (omega arith) in
+    let most : c.before.loop-ci.lo ≤ (start_at c).args.len = c.before.loop-ci.invariant.4 (omega arith) in
     ((start_at c).requires.0, record { low = omega arith; high = omega arith; most = most; stored = omega (arith, most) })
 
-enum-known-p : tie.Need-enum-known-p invariant-loop decreases-loop
+enum-known-p : tie.Need-enum_known-p invariant-loop decreases-loop
 enum-known-p c = search rules
 
-add-count : tie.Need-overflow-add-count invariant-loop decreases-loop
+add-count : tie.Need-overflow_add-count invariant-loop decreases-loop
 add-count c =
     let t = c.before.before.before.before in
-    let p = t.before.loop in
-    omega (arith, coursing_counts p.invariant.0 (rest_at (start_at t) (p.ci + 1)) (omega arith) _ (told_at c.before.before.before _ c.before.p.given.1))
+    let p = t.before.loop-ci in
+    omega (arith, coursing_counts p.invariant.0 (rest_at (start_at t) (p.ci + 1)) (omega arith) _ (told_at c.before.before.before _ c.before.p-1.given.1))
 
-returns : tie.Need-returns invariant-loop decreases-loop
+returns : tie.Need-returns-in-At invariant-loop decreases-loop
 returns c =
     let t = c.before.before.before.before in
-    let p = t.before.loop in
-    coursing_found p.invariant.0 (rest_at (start_at t) (p.ci + 1)) (omega arith) _ (told_at c.before.before.before _ c.before.p.given.1) (λ z. none-ne-some _ (sym z))
+    let p = t.before.loop-ci in
+    coursing_found p.invariant.0 (rest_at (start_at t) (p.ci + 1)) (omega arith) _ (told_at c.before.before.before _ c.before.p-1.given.1) (λ z. none-ne-some _ (sym z))
 
-enum-known-p-2 : tie.Need-enum-known-p-2 invariant-loop decreases-loop
+enum-known-p-2 : tie.Need-enum_known-p-in-Nothing-1 invariant-loop decreases-loop
 enum-known-p-2 c = search rules
 
-add-count-2 : tie.Need-overflow-add-count-2 invariant-loop decreases-loop
+add-count-2 : tie.Need-overflow_add-count-in-Nothing invariant-loop decreases-loop
 add-count-2 c = omega (arith, coursing_fits (left_at c))
 
-add-ci : tie.Need-overflow-add-ci invariant-loop decreases-loop
+add-ci : tie.Need-overflow_add-ci invariant-loop decreases-loop
 add-ci c = omega arith
 
 lesser-requires : tie.Need-lesser-requires invariant-loop decreases-loop
 lesser-requires c κs = search rules
 
-sub-quiet-chunks : tie.Need-overflow-sub-quiet-chunks invariant-loop decreases-loop
+sub-quiet-chunks : tie.Need-overflow_sub-whole invariant-loop decreases-loop
 sub-quiet-chunks c = omega arith
 
-quiet-chunks-requires : tie.Need-quiet-chunks-requires invariant-loop decreases-loop
+quiet-chunks-requires : tie.Need-quiet_chunks-passed-requires invariant-loop decreases-loop
 unfolding level_of
 quiet-chunks-requires c κs =
     let s = start_at c.before.before.before.before.before in
     chunks_held s.args.unitsize s.args.len s.args.samples.now (levels_at s) s.pre.0 false _ _ (omega arith) (λ z. absurd (false≢true z)) (λ _. omega arith)
 
-add-count-3 : tie.Need-overflow-add-count-3 invariant-loop decreases-loop
+add-count-3 : tie.Need-overflow_add-count-in-loop-ci invariant-loop decreases-loop
 add-count-3 c = omega (arith, coursing_fits (passed_at c))
 
-add-ci-2 : tie.Need-overflow-add-ci-2 invariant-loop decreases-loop
+add-ci-2 : tie.Need-overflow_add-ci-in-loop-ci invariant-loop decreases-loop
 add-ci-2 c = omega arith
 
-mul-lo : tie.Need-overflow-mul-lo invariant-loop decreases-loop
+mul-lo : tie.Need-overflow_mul-lo invariant-loop decreases-loop
 mul-lo c = omega arith
 
-loop-less : tie.Need-loop-smaller invariant-loop decreases-loop
+loop-less : tie.Need-loop-ci-smaller invariant-loop decreases-loop
 loop-less c = omega arith
 
-loop-again : tie.Need-loop-preserved invariant-loop decreases-loop
+loop-again : tie.Need-loop-ci-preserved invariant-loop decreases-loop
 loop-again c = (passed_at c, omega arith, omega arith, omega arith, λ h. omega arith)
 
-returns-2 : tie.Need-returns-2 invariant-loop decreases-loop
-returns-2 c = coursing_end c.before.loop.invariant.0 (omega arith)
+returns-2 : tie.Need-returns invariant-loop decreases-loop
+returns-2 c = coursing_end c.before.loop-ci.invariant.0 (omega arith)
 
-pub chunks-fwd-spec : {M : Type 1} → statement M
-chunks-fwd-spec =
+pub chunks_fwd_spec : {M : Type 1} → statement M
+chunks_fwd_spec =
     tie.close
     (tie.spec
     invariant-loop

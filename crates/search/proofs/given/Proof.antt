@@ -7,17 +7,17 @@ use Rattle.find.specs.Way.{place_of}
 use Rattle.search.proofs.given.Statement.{statement}
 use Rattle.search.proofs.given.Tie as tie
 
-enum-known-place : tie.Need-enum-known-place
+enum-known-place : tie.Need-enum_known-place
 enum-known-place c = search rules
 
-enum-known-place-2 : tie.Need-enum-known-place-2
+enum-known-place-2 : tie.Need-enum_known-place-in-Nothing-1
 enum-known-place-2 c = search rules
 
-returns : tie.Need-returns
-returns c = ap (λ (p : Place). given (place_of p)) (sym c.before.place.given.1)
+returns : tie.Need-returns-in-At
+returns c = ap (λ (p : Place). given (place_of p)) (sym c.before.place-1.given.1)
 
-returns-2 : tie.Need-returns-2
-returns-2 c = ap (λ (p : Place). given (place_of p)) (sym c.before.place2.given.1)
+returns-2 : tie.Need-returns-in-Nothing
+returns-2 c = ap (λ (p : Place). given (place_of p)) (sym c.before.place-in-Nothing-1.given.1)
 
-pub given-spec : {M : Type 1} → statement M
-given-spec = tie.close (tie.spec enum-known-place enum-known-place-2 returns returns-2)
+pub given_spec : {M : Type 1} → statement M
+given_spec = tie.close (tie.spec enum-known-place enum-known-place-2 returns returns-2)

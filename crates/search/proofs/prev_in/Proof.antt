@@ -7,23 +7,23 @@ use Rattle.search.proofs.Asked.{previous_nothing, previous_something}
 use Rattle.search.proofs.prev_in.Statement.{statement}
 use Rattle.search.proofs.prev_in.Tie as tie
 
-returns : tie.Need-returns
-returns c = let a = c.before.before.before.before.before.before.args in previous_nothing all_levels (reader_of a.unitsize a.samples.now (level_of a.l1.now a.l2.now a.l3.now a.l4.now)) a.len a.mask a.from c.if1.true
+returns : tie.Need-returns-then-len-eq0
+returns c = let a = c.before.before.before.before.before.before.args in previous_nothing all_levels (reader_of a.unitsize a.samples.now (level_of a.l1.now a.l2.now a.l3.now a.l4.now)) a.len a.mask a.from c.if-len-eq0.true
 
-sub-lesser : tie.Need-overflow-sub-lesser
+sub-lesser : tie.Need-overflow_sub-len
 sub-lesser c = search rules
 
 lesser-requires : tie.Need-lesser-requires
 lesser-requires c κs = search rules
 
-prev-from-requires : tie.Need-prev-from-requires
+prev-from-requires : tie.Need-prev_from-requires
 prev-from-requires c κs = search rules
 
-returns-2 : tie.Need-returns-2
+returns-2 : tie.Need-returns
 returns-2 c =
     let known = c.before.before.before in
     let a = known.before.before.before.before.before.args in
-    c.prev-from.ensures ∙ previous_something all_levels (reader_of a.unitsize a.samples.now (level_of a.l1.now a.l2.now a.l3.now a.l4.now)) a.len a.mask a.from c.before.before.if1.false c.before.lesser.result c.before.lesser.ensures
+    c.prev_from.ensures ∙ previous_something all_levels (reader_of a.unitsize a.samples.now (level_of a.l1.now a.l2.now a.l3.now a.l4.now)) a.len a.mask a.from c.before.before.if-len-eq0.false c.before.lesser.result c.before.lesser.ensures
 
-pub prev-in-spec : {M : Type 1} → statement M
-prev-in-spec = tie.close (tie.spec returns sub-lesser lesser-requires prev-from-requires returns-2)
+pub prev_in_spec : {M : Type 1} → statement M
+prev_in_spec = tie.close (tie.spec returns sub-lesser lesser-requires prev-from-requires returns-2)

@@ -9,36 +9,36 @@ use Rattle.search.specs.Quiet.{quiet_nth}
 use Rattle.search.proofs.quiet_chunks.Statement.{statement}
 use Rattle.search.proofs.quiet_chunks.Tie as tie
 
-abbrev invariant-loop : tie.invariant-loop
+abbrev invariant-loop : tie.invariant-loop-k
 invariant-loop samples l4 unitsize back mask border n k₀ k = (k ≤ n) × ((j : ℕ) → j < k → quiet_nth unitsize samples l4 back mask border j ≡ true)
 
-abbrev decreases-loop : tie.decreases-loop
+abbrev decreases-loop : tie.decreases-loop-k
 decreases-loop samples l4 unitsize back mask border n k₀ k = n - k
 
-loop-holds : tie.Need-loop-init invariant-loop decreases-loop
+loop-holds : tie.Need-loop-k-init invariant-loop decreases-loop
 loop-holds c = (omega arith, below_none _)
 
-quiet-nth-requires : tie.Need-quiet-nth-requires invariant-loop decreases-loop
-quiet-nth-requires c κs = c.before.before.before.before.requires.each c.before.loop.k (omega arith)
+quiet-nth-requires : tie.Need-quiet_nth-requires invariant-loop decreases-loop
+quiet-nth-requires c κs = c.before.before.before.before.requires.each c.before.loop-k.k (omega arith)
 
-returns : tie.Need-returns invariant-loop decreases-loop
+returns : tie.Need-returns-then-not-quiet_nth invariant-loop decreases-loop
 returns c =
-    let p = c.before.before.before.loop in
-    record { most = p.invariant.0; each = p.invariant.1; stops = λ _. sym c.before.quiet-nth.ensures ∙ not-true _ c.if1.true }
+    let p = c.before.before.before.loop-k in
+    record { most = p.invariant.0; each = p.invariant.1; stops = λ _. sym c.before.quiet_nth.ensures ∙ not-true _ c.if-not-quiet_nth.true }
 
-add-k : tie.Need-overflow-add-k invariant-loop decreases-loop
+add-k : tie.Need-overflow_add-k invariant-loop decreases-loop
 add-k c = omega arith
 
-loop-less : tie.Need-loop-smaller invariant-loop decreases-loop
+loop-less : tie.Need-loop-k-smaller invariant-loop decreases-loop
 loop-less c = omega arith
 
-loop-again : tie.Need-loop-preserved invariant-loop decreases-loop
+loop-again : tie.Need-loop-k-preserved invariant-loop decreases-loop
 loop-again c =
-    let p = c.before.before.before.loop in
-    (omega arith, below_more _ p.k p.invariant.1 (sym c.before.quiet-nth.ensures ∙ not-false _ c.if1.false))
+    let p = c.before.before.before.loop-k in
+    (omega arith, below_more _ p.k p.invariant.1 (sym c.before.quiet_nth.ensures ∙ not-false _ c.if-not-quiet_nth.false))
 
-returns-2 : tie.Need-returns-2 invariant-loop decreases-loop
-returns-2 c = let p = c.before.loop in record { most = p.invariant.0; each = p.invariant.1; stops = λ h. absurd (omega arith) }
+returns-2 : tie.Need-returns invariant-loop decreases-loop
+returns-2 c = let p = c.before.loop-k in record { most = p.invariant.0; each = p.invariant.1; stops = λ h. absurd (omega arith) }
 
-pub quiet-chunks-spec : {M : Type 1} → statement M
-quiet-chunks-spec = tie.close (tie.spec invariant-loop decreases-loop loop-holds quiet-nth-requires returns add-k loop-less loop-again returns-2)
+pub quiet_chunks_spec : {M : Type 1} → statement M
+quiet_chunks_spec = tie.close (tie.spec invariant-loop decreases-loop loop-holds quiet-nth-requires returns add-k loop-less loop-again returns-2)

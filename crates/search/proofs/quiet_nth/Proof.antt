@@ -17,13 +17,13 @@ moved-requires c κs = let s = c.before.before in (λ z. omega (arith, s.require
 beside-requires : tie.Need-beside-requires
 beside-requires c κs = let s = c.before.before.before in (omega arith, λ z. omega (arith, s.requires.past z))
 
-get-requires : tie.Need-get-requires
+get-requires : tie.Need-get-value-requires
 get-requires c κs =
     let s = c.before.before.before.before in
     let a = s.args in
     subst⁻¹ (λ (x : ℕ). Held a.unitsize x (length a.samples.now)) (c.beside.ensures ∙ ap (beside a.back) c.before.moved.ensures) s.requires.sample
 
-nth-requires : tie.Need-nth-requires
+nth-requires : tie.Need-nth-m-requires
 nth-requires c κs = c.before.before.before.before.before.requires.node
 
 quiet-requires : tie.Need-quiet-requires
@@ -35,8 +35,8 @@ returns c =
     let m = v.before.before in
     let a = m.before.before.before.args in
     c.quiet.ensures
-    ∙ ap₂ (λ (n : Node) (x : ℕ). quiet n x a.mask) c.before.nth.ensures
-    (v.get.ensures ∙ ap (sample_of a.unitsize a.samples.now) (v.before.beside.ensures ∙ ap (beside a.back) m.moved.ensures))
+    ∙ ap₂ (λ (n : Node) (x : ℕ). quiet n x a.mask) c.before.nth-m.ensures
+    (v.get-value.ensures ∙ ap (sample_of a.unitsize a.samples.now) (v.before.beside.ensures ∙ ap (beside a.back) m.moved.ensures))
 
-pub quiet-nth-spec : {M : Type 1} → statement M
-quiet-nth-spec = tie.close (tie.spec moved-requires beside-requires get-requires nth-requires quiet-requires returns)
+pub quiet_nth_spec : {M : Type 1} → statement M
+quiet_nth_spec = tie.close (tie.spec moved-requires beside-requires get-requires nth-requires quiet-requires returns)

@@ -8,31 +8,31 @@ use Rattle.rules.specs.Block.{check_modulus}
 use Rattle.shelf_block.proofs.check.Statement.{statement}
 use Rattle.shelf_block.proofs.check.Tie as tie
 
-weigh-block-requires : tie.Need-weigh-block-requires
+weigh-block-requires : tie.Need-weigh_block-sum-requires
 weigh-block-requires c κs = search rules
 
-shared-slice-read-short : tie.Need-shared-slice-read-short
+shared-slice-read-short : tie.Need-bounds-block-1
 shared-slice-read-short c = search rules
 
-short-requires : tie.Need-short-requires
+short-requires : tie.Need-short-one-requires
 short-requires c κs = search rules
 
-cast-result : tie.Need-overflow-cast-result
+cast-result : tie.Need-overflow_cast-result
 cast-result c = search rules
 
-sub-result : tie.Need-overflow-sub-result
-sub-result c = let s = c.before.before.before.before in omega (arith, c.before.before.weigh-block.ensures, weigh_two s.args.block.now s.requires, c.short.ensures.0)
+sub-result : tie.Need-overflow_sub-result
+sub-result c = let s = c.before.before.before.before in omega (arith, c.before.before.weigh_block-sum.ensures, weigh_two s.args.block.now s.requires, c.short-one.ensures.0)
 
-cast-result-2 : tie.Need-overflow-cast-result-2
+cast-result-2 : tie.Need-overflow_cast-result-2
 cast-result-2 c = search rules
 
 returns : tie.Need-returns
 returns c =
     let s = c.before.before.before.before in
-    ap (λ (n : ℕ). n % check_modulus) (without_one s.args.block.now s.requires c.before.before.weigh-block.ensures c.short.ensures.0)
+    ap (λ (n : ℕ). n % check_modulus) (without_one s.args.block.now s.requires c.before.before.weigh_block-sum.ensures c.short-one.ensures.0)
 
-pub check-spec : {M : Type 1} → statement M
-check-spec =
+pub check_spec : {M : Type 1} → statement M
+check_spec =
     tie.close
     (tie.spec
     weigh-block-requires

@@ -8,39 +8,39 @@ use Rattle.shelf_block.proofs.Made.{wrong_head, wrong_fill, last_check}
 use Rattle.shelf_block.proofs.good.Statement.{statement}
 use Rattle.shelf_block.proofs.good.Tie as tie
 
-is-headed-requires : tie.Need-is-headed-requires
+is-headed-requires : tie.Need-is_headed-requires
 is-headed-requires c κs = search rules
 
-returns : tie.Need-returns
+returns : tie.Need-returns-then-not-is_headed
 returns c =
     let s = c.before.before.before in
-    wrong_head s.args.number s.args.count s.args.block.now c.before.is-headed.ensures c.if1.true
+    wrong_head s.args.number s.args.count s.args.block.now c.before.is_headed.ensures c.if-not-is_headed.true
 
-is-filled-requires : tie.Need-is-filled-requires
+is-filled-requires : tie.Need-is_filled-requires
 is-filled-requires c κs = search rules
 
-returns-2 : tie.Need-returns-2
+returns-2 : tie.Need-returns-then-not-is_filled
 returns-2 c =
     let h = c.before.before in
     let s = h.before.before.before in
-    wrong_fill s.args.number s.args.count s.args.block.now h.before.is-headed.ensures h.if1.false c.before.is-filled.ensures c.if2.true
+    wrong_fill s.args.number s.args.count s.args.block.now h.before.is_headed.ensures h.if-not-is_headed.false c.before.is_filled.ensures c.if-not-is_filled.true
 
 check-requires : tie.Need-check-requires
 check-requires c κs = search rules
 
-is-at-requires : tie.Need-is-at-requires
+is-at-requires : tie.Need-is_at-requires
 is-at-requires c κs = search rules
 
-returns-3 : tie.Need-returns-3
+returns-3 : tie.Need-returns
 returns-3 c =
     let f = c.before.before in
     let h = f.before.before in
     let s = h.before.before.before in
-    last_check s.args.number s.args.count s.args.block.now h.before.is-headed.ensures h.if1.false f.before.is-filled.ensures f.if2.false
+    last_check s.args.number s.args.count s.args.block.now h.before.is_headed.ensures h.if-not-is_headed.false f.before.is_filled.ensures f.if-not-is_filled.false
     (c.is_at.ensures ∙ ap (λ (n : ℕ). same_bytes (field 0 2 s.args.block.now) (sample_bytes 2 n)) c.before.check.ensures)
 
-pub good-spec : {M : Type 1} → statement M
-good-spec =
+pub good_spec : {M : Type 1} → statement M
+good_spec =
     tie.close
     (tie.spec
     is-headed-requires

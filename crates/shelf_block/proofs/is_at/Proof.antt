@@ -8,16 +8,16 @@ use Rattle.shelf_block.proofs.Made.{part_length}
 use Rattle.shelf_block.proofs.is_at.Statement.{statement}
 use Rattle.shelf_block.proofs.is_at.Tie as tie
 
-sub-is-number : tie.Need-overflow-sub-is-number
+sub-is-number : tie.Need-slice_bounds-is_number-count
 sub-is-number c = search rules
 
-part-is-number-start : tie.Need-slice-bounds-is-number-start
+part-is-number-start : tie.Need-slice_bounds-is_number-start
 part-is-number-start c = search rules
 
-part-is-number-end : tie.Need-slice-bounds-is-number-end
+part-is-number-end : tie.Need-slice_bounds-is_number-end
 part-is-number-end c = search rules
 
-is-number-requires : tie.Need-is-number-requires
+is-number-requires : tie.Need-is_number-requires
 is-number-requires c κs = search rules
 
 returns : tie.Need-returns
@@ -25,7 +25,7 @@ returns c =
     let s = c.before.before.before in
     c.is_number.ensures ∙ ap (λ (n : ℕ). same_bytes (field s.args.from s.args.to s.args.block.now) (sample_bytes n s.args.value)) (part_length s.args.block.now s.args.from s.args.to s.requires.0 s.requires.1)
 
-pub is-at-spec : {M : Type 1} → statement M
-is-at-spec =
+pub is_at_spec : {M : Type 1} → statement M
+is_at_spec =
     tie.close
     (tie.spec sub-is-number part-is-number-start part-is-number-end is-number-requires returns)

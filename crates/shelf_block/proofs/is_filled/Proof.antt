@@ -9,23 +9,23 @@ use borrow.Author.Tests.{not-true, not-false}
 use Rattle.shelf_block.proofs.is_filled.Statement.{statement}
 use Rattle.shelf_block.proofs.is_filled.Tie as tie
 
-is-at-requires : tie.Need-is-at-requires
+is-at-requires : tie.Need-is_at-requires
 is-at-requires c κs = search rules
 
-returns : tie.Need-returns
-returns c = rw (← zeros_are 4, sym c.before.is_at.ensures ∙ not-true _ c.if1.true)
+returns : tie.Need-returns-then-not-is_at
+returns c = rw (← zeros_are 4, sym c.before.is_at.ensures ∙ not-true _ c.if-not-is_at.true)
 
-add-is-at : tie.Need-overflow-add-is-at
+add-is-at : tie.Need-overflow_add-count
 add-is-at c = search rules
 
-is-at-requires-2 : tie.Need-is-at-requires-2
+is-at-requires-2 : tie.Need-is_at-requires-2
 is-at-requires-2 c κs = search rules
 
-returns-2 : tie.Need-returns-2
+returns-2 : tie.Need-returns
 returns-2 c =
     let s = c.before.before.before.before in
-    rw (← zeros_are 4, sym c.before.before.is_at.ensures ∙ not-false _ c.before.if1.false)
-    (c.is-at2.ensures ∙ ap (same_bytes (field (payload_at + s.args.count) block_size s.args.block.now)) (padding s.args.count))
+    rw (← zeros_are 4, sym c.before.before.is_at.ensures ∙ not-false _ c.before.if-not-is_at.false)
+    (c.is_at-2.ensures ∙ ap (same_bytes (field (payload_at + s.args.count) block_size s.args.block.now)) (padding s.args.count))
 
-pub is-filled-spec : {M : Type 1} → statement M
-is-filled-spec = tie.close (tie.spec is-at-requires returns add-is-at is-at-requires-2 returns-2)
+pub is_filled_spec : {M : Type 1} → statement M
+is_filled_spec = tie.close (tie.spec is-at-requires returns add-is-at is-at-requires-2 returns-2)

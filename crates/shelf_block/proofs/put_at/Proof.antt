@@ -4,28 +4,28 @@ use Rattle.shelf_block.proofs.Made.{put_part}
 use Rattle.shelf_block.proofs.put_at.Statement.{statement}
 use Rattle.shelf_block.proofs.put_at.Tie as tie
 
-sub-put-number : tie.Need-overflow-sub-put-number
+sub-put-number : tie.Need-slice_bounds-put_number-count
 sub-put-number c = search rules
 
-part-put-number-start : tie.Need-slice-bounds-put-number-start
+part-put-number-start : tie.Need-slice_bounds-put_number-start
 part-put-number-start c = search rules
 
-part-put-number-end : tie.Need-slice-bounds-put-number-end
+part-put-number-end : tie.Need-slice_bounds-put_number-end
 part-put-number-end c = search rules
 
-put-number-requires : tie.Need-put-number-requires
+put-number-requires : tie.Need-put_number-requires
 put-number-requires c κs = search rules
 
-same_length : tie.Need-same-length
+same_length : tie.Need-shape_of-block
 same_length c = search rules
 
 returns : tie.Need-returns
 returns c =
     let s = c.before.before.before.before.before in
-    put_part s.args.block.now _ s.args.from s.args.to s.args.value s.requires.0 s.requires.1 c.before.before.put-number.ensures
+    put_part s.args.block.now _ s.args.from s.args.to s.args.value s.requires.0 s.requires.1 c.before.before.put_number.ensures
 
-pub put-at-spec : {M : Type 1} → statement M
-put-at-spec =
+pub put_at_spec : {M : Type 1} → statement M
+put_at_spec =
     tie.close
     (tie.spec
     sub-put-number

@@ -4,16 +4,16 @@ use Rattle.shelf_block.proofs.Made.{fields_put}
 use Rattle.shelf_block.proofs.put_fields.Statement.{statement}
 use Rattle.shelf_block.proofs.put_fields.Tie as tie
 
-put-at-requires : tie.Need-put-at-requires
+put-at-requires : tie.Need-put_at-requires
 put-at-requires c κs = search rules
 
-put-at-requires-2 : tie.Need-put-at-requires-2
+put-at-requires-2 : tie.Need-put_at-requires-2
 put-at-requires-2 c κs = search rules
 
-put-at-requires-3 : tie.Need-put-at-requires-3
+put-at-requires-3 : tie.Need-put_at-requires-3
 put-at-requires-3 c κs = search rules
 
-same_length : tie.Need-same-length
+same_length : tie.Need-shape_of-block
 same_length c = search rules
 
 returns : tie.Need-returns
@@ -22,8 +22,8 @@ returns c =
     let second = third.before.before.before.before in
     let first = second.before.before.before.before in
     let s = first.before.before.before in
-    fields_put s.args.block.now _ _ _ s.args.number s.args.count s.requires first.put-at.ensures second.put-at2.ensures third.put-at3.ensures
+    fields_put s.args.block.now _ _ _ s.args.number s.args.count s.requires first.put_at.ensures second.put_at-2.ensures third.put_at-3.ensures
 
-pub put-fields-spec : {M : Type 1} → statement M
-put-fields-spec =
+pub put_fields_spec : {M : Type 1} → statement M
+put_fields_spec =
     tie.close (tie.spec put-at-requires put-at-requires-2 put-at-requires-3 same_length returns)

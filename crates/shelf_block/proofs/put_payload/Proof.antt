@@ -17,13 +17,13 @@ part-copy-end c = search rules
 copy-requires : tie.Need-copy-requires
 copy-requires c κs = search rules
 
-add-end : tie.Need-overflow-add-end
+add-end : tie.Need-overflow_add-end
 add-end c = search rules
 
-put-at-requires : tie.Need-put-at-requires
+put-at-requires : tie.Need-put_at-requires
 put-at-requires c κs = search rules
 
-same_length : tie.Need-same-length
+same_length : tie.Need-shape_of-block
 same_length c = search rules
 
 returns : tie.Need-returns
@@ -31,10 +31,10 @@ returns c =
     let fill = c.before.before in
     let copied = fill.before.before.before.before in
     let s = copied.before.before.before.before in
-    payload_put s.args.block.now _ _ _ s.args.payload.now copied.copy.result copied.copy.ensures.0 s.requires.0 s.requires.1 copied.copy.ensures.1 refl fill.put-at.ensures
+    payload_put s.args.block.now _ _ _ s.args.payload.now copied.copy.result copied.copy.ensures.0 s.requires.0 s.requires.1 copied.copy.ensures.1 refl fill.put_at.ensures
 
-pub put-payload-spec : {M : Type 1} → statement M
-put-payload-spec =
+pub put_payload_spec : {M : Type 1} → statement M
+put_payload_spec =
     tie.close
     (tie.spec
     sub-copy

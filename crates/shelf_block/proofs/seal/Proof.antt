@@ -8,20 +8,20 @@ use Rattle.rules.specs.SampleBytes.{sample_bytes}
 use Rattle.shelf_block.proofs.seal.Statement.{statement}
 use Rattle.shelf_block.proofs.seal.Tie as tie
 
-check-requires : tie.Need-check-requires
+check-requires : tie.Need-check-sum-requires
 check-requires c κs = search rules
 
-put-at-requires : tie.Need-put-at-requires
+put-at-requires : tie.Need-put_at-requires
 put-at-requires c κs = search rules
 
-same_length : tie.Need-same-length
+same_length : tie.Need-shape_of-block
 same_length c = search rules
 
 returns : tie.Need-returns
 returns c =
     let put = c.before.before in
     let sum = put.before.before in
-    put.put-at.ensures ∙ ap (λ (n : ℕ). sample_bytes 2 n ++ drop 2 sum.before.before.before.args.block.now) sum.check.ensures
+    put.put_at.ensures ∙ ap (λ (n : ℕ). sample_bytes 2 n ++ drop 2 sum.before.before.before.args.block.now) sum.check-sum.ensures
 
-pub seal-spec : {M : Type 1} → statement M
-seal-spec = tie.close (tie.spec check-requires put-at-requires same_length returns)
+pub seal_spec : {M : Type 1} → statement M
+seal_spec = tie.close (tie.spec check-requires put-at-requires same_length returns)

@@ -5,31 +5,31 @@ use Rattle.shelf_codes.proofs.SalvagedBack.{refused_out, given_out}
 use Rattle.shelf_codes.proofs.salvaged_code.Statement.{statement}
 use Rattle.shelf_codes.proofs.salvaged_code.Tie as tie
 
-enum-known-answer : tie.Need-enum-known-answer
+enum-known-answer : tie.Need-enum_known-answer
 enum-known-answer c = search rules
 
 code-requires : tie.Need-code-requires
 code-requires c κs = search rules
 
-enum-known-answer-2 : tie.Need-enum-known-answer-2
+enum-known-answer-2 : tie.Need-enum_known-answer-in-Salvaged-1
 enum-known-answer-2 c = search rules
 
-put-capture-requires : tie.Need-put-capture-requires
+put-capture-requires : tie.Need-put_capture-requires
 put-capture-requires c κs = search rules
 
-put-counts-requires : tie.Need-put-counts-requires
+put-counts-requires : tie.Need-put_counts-requires
 put-counts-requires c κs = search rules
 
-returns : tie.Need-returns
-returns c = refused_out c.before.before.answer.given.1 refl c.code.ensures
+returns : tie.Need-returns-in-Refused
+returns c = refused_out c.before.before.answer-1.given.1 refl c.code.ensures
 
-returns-2 : tie.Need-returns-2
+returns-2 : tie.Need-returns-in-Salvaged
 returns-2 c =
     let p = c.before.before in
-    given_out p.before.before.before.answer2.given.1 refl p.put-capture.ensures c.put-counts.ensures
+    given_out p.before.before.before.answer-in-Salvaged-1.given.1 refl p.put_capture.ensures c.put_counts.ensures
 
-pub salvaged-code-spec : {M : Type 1} → statement M
-salvaged-code-spec =
+pub salvaged_code_spec : {M : Type 1} → statement M
+salvaged_code_spec =
     tie.close
     (tie.spec
     enum-known-answer

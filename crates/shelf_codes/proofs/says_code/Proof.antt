@@ -9,26 +9,26 @@ use Rattle.shelf_codes.specs.Said.{said_numbers}
 use Rattle.shelf_codes.proofs.says_code.Statement.{statement}
 use Rattle.shelf_codes.proofs.says_code.Tie as tie
 
-enum-known-answer : tie.Need-enum-known-answer
+enum-known-answer : tie.Need-enum_known-answer
 enum-known-answer c = search rules
 
 code-requires : tie.Need-code-requires
 code-requires c κs = search rules
 
-enum-known-answer-2 : tie.Need-enum-known-answer-2
+enum-known-answer-2 : tie.Need-enum_known-answer-in-Capture-1
 enum-known-answer-2 c = search rules
 
-put-said-requires : tie.Need-put-said-requires
+put-said-requires : tie.Need-put_said-requires
 put-said-requires c κs = search rules
 
-returns : tie.Need-returns
+returns : tie.Need-returns-in-Refused
 returns c = search rules
 
-returns-2 : tie.Need-returns-2
-returns-2 c = coded said_numbers (λ (x : Says). plain (said_of x)) _ _ _ c.before.before.before.answer2.given.1 refl c.put-said.ensures
+returns-2 : tie.Need-returns-in-Capture
+returns-2 c = coded said_numbers (λ (x : Says). plain (said_of x)) _ _ _ c.before.before.before.answer-in-Capture-1.given.1 refl c.put_said.ensures
 
-pub says-code-spec : {M : Type 1} → statement M
-says-code-spec =
+pub says_code_spec : {M : Type 1} → statement M
+says_code_spec =
     tie.close
     (tie.spec
     enum-known-answer

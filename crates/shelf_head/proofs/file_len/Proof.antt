@@ -12,27 +12,27 @@ use Rattle.shelf_head.proofs.file_len.Statement.{statement}
 use Rattle.shelf_head.proofs.file_len.Tie as tie
 
 -- row 1, by its test
-number_is : (c : tie.After-record-wrong) (t : Bool) → c.record-wrong.result ≡ t → length_refusal (store_of c.before.args.c) ≡ cond t 1 0
-number_is c t e = ap (λ (b : Bool). cond b 1 0) (sym c.record-wrong.ensures ∙ e)
+number_is : (c : tie.After-record_wrong) (t : Bool) → c.record_wrong.result ≡ t → length_refusal (store_of c.before.args.c) ≡ cond t 1 0
+number_is c t e = ap (λ (b : Bool). cond b 1 0) (sym c.record_wrong.ensures ∙ e)
 
-ranged_at : (c : tie.After-struct-known) → Ranged (store_of c.before.before.before.args.c)
-ranged_at c = ranged _ (sym c.before.before.record-wrong.ensures ∙ c.before.if1.false)
+ranged_at : (c : tie.After-struct_known-1) → Ranged (store_of c.before.before.before.args.c)
+ranged_at c = ranged _ (sym c.before.before.record_wrong.ensures ∙ c.before.if-record_wrong.false)
 
-record-wrong-requires : tie.Need-record-wrong-requires
+record-wrong-requires : tie.Need-record_wrong-requires
 record-wrong-requires c κs = search rules
 
-returns : tie.Need-returns
-returns c = refused_is _ (sym (number_is c.before true c.if1.true)) (λ z. omega arith)
+returns : tie.Need-returns-then-record_wrong
+returns c = refused_is _ (sym (number_is c.before true c.if-record_wrong.true)) (λ z. omega arith)
 
-mul-file-size : tie.Need-overflow-mul-file-size
+mul-file-size : tie.Need-overflow_mul-c
 mul-file-size c = record { fits = omega (arith, bytes_few (ranged_at c)) }
 
-file-size-requires : tie.Need-file-size-requires
+file-size-requires : tie.Need-file_size-requires
 file-size-requires c κs = omega (arith, bytes_few (ranged_at c))
 
-returns-2 : tie.Need-returns-2
-returns-2 c = let f = c.before.before.before in given_is _ (sym (number_is f false c.before.before.if1.false)) refl c.file-size.ensures
+returns-2 : tie.Need-returns
+returns-2 c = let f = c.before.before.before in given_is _ (sym (number_is f false c.before.before.if-record_wrong.false)) refl c.file_size.ensures
 
-pub file-len-spec : {M : Type 1} → statement M
-file-len-spec =
+pub file_len_spec : {M : Type 1} → statement M
+file_len_spec =
     tie.close (tie.spec record-wrong-requires returns mul-file-size file-size-requires returns-2)

@@ -6,51 +6,51 @@ use Rattle.shelf_head.proofs.Head.{too_short, block_wrong, mark_wrong_lem, by_he
 use Rattle.shelf_head.proofs.head_good.Statement.{statement}
 use Rattle.shelf_head.proofs.head_good.Tie as tie
 
-returns : tie.Need-returns
-returns c = too_short c.before.before.args.file.now c.if1.true
+returns : tie.Need-returns-then-file-lt-BLOCK
+returns c = too_short c.before.before.args.file.now c.if-file-lt-BLOCK.true
 
-sub-good : tie.Need-overflow-sub-good
+sub-good : tie.Need-slice_bounds-good-count
 sub-good c = search rules
 
-part-good-start : tie.Need-slice-bounds-good-start
+part-good-start : tie.Need-slice_bounds-good-start
 part-good-start c = search rules
 
-part-good-end : tie.Need-slice-bounds-good-end
+part-good-end : tie.Need-slice_bounds-good-end
 part-good-end c = search rules
 
 good-requires : tie.Need-good-requires
 good-requires c κs = search rules
 
-returns-2 : tie.Need-returns-2
+returns-2 : tie.Need-returns-then-not-good
 returns-2 c =
     let room = c.before.before.before in
-    block_wrong room.before.before.args.file.now room.if1.false c.before.good2.ensures c.if2.true
+    block_wrong room.before.before.args.file.now room.if-file-lt-BLOCK.false c.before.good2.ensures c.if-not-good.true
 
-mark-right-requires : tie.Need-mark-right-requires
+mark-right-requires : tie.Need-mark_right-requires
 mark-right-requires c κs = search rules
 
-returns-3 : tie.Need-returns-3
+returns-3 : tie.Need-returns-then-not-mark_right
 returns-3 c =
     let block = c.before.before in
     let room = block.before.before.before in
-    mark_wrong_lem room.before.before.args.file.now room.if1.false block.before.good2.ensures block.if2.false c.before.mark_right.ensures c.if3.true
+    mark_wrong_lem room.before.before.args.file.now room.if-file-lt-BLOCK.false block.before.good2.ensures block.if-not-good.false c.before.mark_right.ensures c.if-not-mark_right.true
 
-heading-in-requires : tie.Need-heading-in-requires
+heading-in-requires : tie.Need-heading_in-requires
 heading-in-requires c κs = search rules
 
-heading-wrong-requires : tie.Need-heading-wrong-requires
+heading-wrong-requires : tie.Need-heading_wrong-requires
 heading-wrong-requires c κs = search rules
 
-returns-4 : tie.Need-returns-4
+returns-4 : tie.Need-returns
 returns-4 c =
     let mark = c.before.before in
     let block = mark.before.before in
     let room = block.before.before.before in
-    by_heading room.before.before.args.file.now room.if1.false block.before.good2.ensures block.if2.false mark.before.mark_right.ensures mark.if3.false
-    (c.heading-wrong.ensures ∙ ap heading_wrong c.before.heading-in.ensures)
+    by_heading room.before.before.args.file.now room.if-file-lt-BLOCK.false block.before.good2.ensures block.if-not-good.false mark.before.mark_right.ensures mark.if-not-mark_right.false
+    (c.heading_wrong.ensures ∙ ap heading_wrong c.before.heading_in.ensures)
 
-pub head-good-spec : {M : Type 1} → statement M
-head-good-spec =
+pub head_good_spec : {M : Type 1} → statement M
+head_good_spec =
     tie.close
     (tie.spec
     returns

@@ -5,21 +5,21 @@ use borrow.Author.Tests.{lt-ltb, le-ltb}
 use Rattle.shelf_head.proofs.heading_wrong.Statement.{statement}
 use Rattle.shelf_head.proofs.heading_wrong.Tie as tie
 
-unit-wrong-requires : tie.Need-unit-wrong-requires
+unit-wrong-requires : tie.Need-unit_wrong-requires
 unit-wrong-requires c κs = search rules
 
-returns : tie.Need-returns
-returns c = simp (sym c.before.unit-wrong.ensures ∙ c.if1.true)
+returns : tie.Need-returns-then-unit_wrong
+returns c = simp (sym c.before.unit_wrong.ensures ∙ c.if-unit_wrong.true)
 
-returns-2 : tie.Need-returns-2
-returns-2 c = simp (sym c.before.before.before.unit-wrong.ensures ∙ c.before.before.if1.false, lt-ltb _ _ c.if2.true)
+returns-2 : tie.Need-returns-then-h-gt-MOST_SAMPLES
+returns-2 c = simp (sym c.before.before.before.unit_wrong.ensures ∙ c.before.before.if-unit_wrong.false, lt-ltb _ _ c.if-h-gt-MOST_SAMPLES.true)
 
-mark-wrong-requires : tie.Need-mark-wrong-requires
+mark-wrong-requires : tie.Need-mark_wrong-requires
 mark-wrong-requires c κs = search rules
 
-returns-3 : tie.Need-returns-3
-returns-3 c = let f = c.before in simp (sym f.before.before.before.unit-wrong.ensures ∙ f.before.before.if1.false, le-ltb _ _ f.if2.false) c.mark_wrong_lem.ensures
+returns-3 : tie.Need-returns
+returns-3 c = let f = c.before in simp (sym f.before.before.before.unit_wrong.ensures ∙ f.before.before.if-unit_wrong.false, le-ltb _ _ f.if-h-gt-MOST_SAMPLES.false) c.mark_wrong.ensures
 
-pub heading-wrong-spec : {M : Type 1} → statement M
-heading-wrong-spec =
+pub heading_wrong_spec : {M : Type 1} → statement M
+heading_wrong_spec =
     tie.close (tie.spec unit-wrong-requires returns returns-2 mark-wrong-requires returns-3)

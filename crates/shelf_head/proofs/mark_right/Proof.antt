@@ -5,22 +5,22 @@ use Rattle.rules.proofs.Block.{zeros_are}
 use Rattle.shelf_head.proofs.mark_right.Statement.{statement}
 use Rattle.shelf_head.proofs.mark_right.Tie as tie
 
-shared-slice-read-if1 : tie.Need-shared-slice-read-if1
+shared-slice-read-if1 : tie.Need-bounds-file-13
 shared-slice-read-if1 c = search rules
 
-is-at-requires : tie.Need-is-at-requires
+is-at-requires : tie.Need-is_at-requires
 is-at-requires c κs = search rules
 
-returns : tie.Need-returns
-returns c = rw (eq-eqb _ _ c.before.if1.true, ← zeros_are 8) c.is_at.ensures
+returns : tie.Need-returns-then-file-eq0
+returns c = rw (eq-eqb _ _ c.before.if-file-eq0.true, ← zeros_are 8) c.is_at.ensures
 
-shared-slice-read-result : tie.Need-shared-slice-read-result
+shared-slice-read-result : tie.Need-bounds-file-13-2
 shared-slice-read-result c = search rules
 
-returns-2 : tie.Need-returns-2
-returns-2 c = rw (ne_eqb _ _ c.before.if1.false)
+returns-2 : tie.Need-returns
+returns-2 c = rw (ne_eqb _ _ c.before.if-file-eq0.false)
 
-pub mark-right-spec : {M : Type 1} → statement M
-mark-right-spec =
+pub mark_right_spec : {M : Type 1} → statement M
+mark_right_spec =
     tie.close
     (tie.spec shared-slice-read-if1 is-at-requires returns shared-slice-read-result returns-2)

@@ -5,41 +5,41 @@ use Rattle.shelf_head.proofs.Head.{Reading, reading_starts, product_fits, sum_fi
 use Rattle.shelf_head.proofs.number_in.Statement.{statement}
 use Rattle.shelf_head.proofs.number_in.Tie as tie
 
-abbrev invariant-loop : tie.invariant-loop
+abbrev invariant-loop : tie.invariant-loop-i
 invariant-loop part value₀ i₀ value i = Reading part value i
 
-abbrev decreases-loop : tie.decreases-loop
+abbrev decreases-loop : tie.decreases-loop-i
 decreases-loop part value₀ i₀ value i = i
 
-loop-holds : tie.Need-loop-init invariant-loop decreases-loop
+loop-holds : tie.Need-loop-i-init invariant-loop decreases-loop
 loop-holds c = reading_starts c.before.args.part.now
 
-sub-i : tie.Need-overflow-sub-i invariant-loop decreases-loop
+sub-i : tie.Need-overflow_sub-i invariant-loop decreases-loop
 sub-i c = search rules
 
-mul-value : tie.Need-overflow-mul-value invariant-loop decreases-loop
-mul-value c = record { fits = product_fits c.before.loop.invariant c.loop-test.true }
+mul-value : tie.Need-overflow_mul-value invariant-loop decreases-loop
+mul-value c = record { fits = product_fits c.before.loop-i.invariant c.loop-i-test.true }
 
-shared-slice-read-wide : tie.Need-shared-slice-read-wide invariant-loop decreases-loop
-shared-slice-read-wide c = omega (arith, c.before.before.loop.invariant.inside, c.before.loop-test.true, c.before.before.before.before.requires)
+shared-slice-read-wide : tie.Need-bounds-part-i invariant-loop decreases-loop
+shared-slice-read-wide c = omega (arith, c.before.before.loop-i.invariant.inside, c.before.loop-i-test.true, c.before.before.before.before.requires)
 
 wide-requires : tie.Need-wide-requires invariant-loop decreases-loop
 wide-requires c κs = search rules
 
-add-value : tie.Need-overflow-add-value invariant-loop decreases-loop
-add-value c = let p = c.before.before.before.loop in record { fits = sum_fits p.invariant c.before.before.loop-test.true c.wide.ensures }
+add-value : tie.Need-overflow_add-value invariant-loop decreases-loop
+add-value c = let p = c.before.before.before.loop-i in record { fits = sum_fits p.invariant c.before.before.loop-i-test.true c.wide.ensures }
 
-loop-less : tie.Need-loop-smaller invariant-loop decreases-loop
+loop-less : tie.Need-loop-i-smaller invariant-loop decreases-loop
 loop-less c = search rules
 
-loop-again : tie.Need-loop-preserved invariant-loop decreases-loop
-loop-again c = let p = c.before.before.before.loop in reading_on p.invariant c.before.before.loop-test.true c.wide.ensures
+loop-again : tie.Need-loop-i-preserved invariant-loop decreases-loop
+loop-again c = let p = c.before.before.before.loop-i in reading_on p.invariant c.before.before.loop-i-test.true c.wide.ensures
 
 returns : tie.Need-returns invariant-loop decreases-loop
-returns c = reading_ends c.before.loop.invariant c.loop-test.false
+returns c = reading_ends c.before.loop-i.invariant c.loop-i-test.false
 
-pub number-in-spec : {M : Type 1} → statement M
-number-in-spec =
+pub number_in_spec : {M : Type 1} → statement M
+number_in_spec =
     tie.close
     (tie.spec
     invariant-loop

@@ -12,31 +12,31 @@ use Rattle.capture.specs.Record.{mark_of}
 use Rattle.shelf_head.proofs.put_head.Statement.{statement}
 use Rattle.shelf_head.proofs.put_head.Tie as tie
 
-slice-aggregate-put-numbers : tie.Need-slice-aggregate-put-numbers
+slice-aggregate-put-numbers : tie.Need-slice_bounds-put_numbers-end
 slice-aggregate-put-numbers c = search rules
 
-cast-put-numbers : tie.Need-overflow-cast-put-numbers
+cast-put-numbers : tie.Need-overflow_cast-h
 cast-put-numbers c = search rules
 
-mark-flag-requires : tie.Need-mark-flag-requires
+mark-flag-requires : tie.Need-mark_flag-requires
 mark-flag-requires c κs = search rules
 
-cast-put-numbers-2 : tie.Need-overflow-cast-put-numbers-2
-cast-put-numbers-2 c = record { fits = omega (arith, c.mark-flag.ensures, flag_small (mark_of c.before.before.before.before.args.h.trigger)) }
+cast-put-numbers-2 : tie.Need-overflow_cast-mark_flag
+cast-put-numbers-2 c = record { fits = omega (arith, c.mark_flag.ensures, flag_small (mark_of c.before.before.before.before.args.h.trigger)) }
 
-mark-place-requires : tie.Need-mark-place-requires
+mark-place-requires : tie.Need-mark_place-requires
 mark-place-requires c κs = search rules
 
-put-numbers-requires : tie.Need-put-numbers-requires
+put-numbers-requires : tie.Need-put_numbers-requires
 put-numbers-requires c κs = search rules
 
-slice-aggregate-put-block : tie.Need-slice-aggregate-put-block
+slice-aggregate-put-block : tie.Need-slice_bounds-put_block-end
 slice-aggregate-put-block c = search rules
 
-put-block-requires : tie.Need-put-block-requires
+put-block-requires : tie.Need-put_block-requires
 put-block-requires c κs = search rules
 
-same_length : tie.Need-same-length
+same_length : tie.Need-shape_of-block
 same_length c = search rules
 
 returns : tie.Need-returns
@@ -47,13 +47,13 @@ returns c =
     let place = n.before in
     let flag = place.before in
     let a = flag.before.before.before.before.args in
-    put.put-block.ensures
+    put.put_block.ensures
     ∙ ap (block_of 0)
-    (n.put-numbers.ensures
-    ∙ ap₂ (λ (f p : ℕ). a.h.unitsize ∷ f ∷ (sample_bytes 8 a.h.len ++ sample_bytes 8 p)) flag.mark-flag.ensures place.mark-place.ensures)
+    (n.put_numbers.ensures
+    ∙ ap₂ (λ (f p : ℕ). a.h.unitsize ∷ f ∷ (sample_bytes 8 a.h.len ++ sample_bytes 8 p)) flag.mark_flag.ensures place.mark_place.ensures)
 
-pub put-head-spec : {M : Type 1} → statement M
-put-head-spec =
+pub put_head_spec : {M : Type 1} → statement M
+put_head_spec =
     tie.close
     (tie.spec
     slice-aggregate-put-numbers

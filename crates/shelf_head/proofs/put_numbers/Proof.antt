@@ -7,30 +7,30 @@ use Rattle.shelf_head.proofs.Head.{numbers_put}
 use Rattle.shelf_head.proofs.put_numbers.Statement.{statement}
 use Rattle.shelf_head.proofs.put_numbers.Tie as tie
 
-slice-write-head : tie.Need-slice-write-head
+slice-write-head : tie.Need-bounds-head-0
 slice-write-head c = search rules
 
-slice-write-head-2 : tie.Need-slice-write-head-2
+slice-write-head-2 : tie.Need-bounds-head-1
 slice-write-head-2 c = search rules
 
-put-at-requires : tie.Need-put-at-requires
+put-at-requires : tie.Need-put_at-requires
 put-at-requires c κs = (omega arith, simp length-set (omega (arith, c.before.before.requires)))
 
-put-at-requires-2 : tie.Need-put-at-requires-2
-put-at-requires-2 c κs = (omega arith, omega (arith, simp length-set at c.before.before.before.put-at.auto.0, c.before.before.before.before.before.before.requires))
+put-at-requires-2 : tie.Need-put_at-requires-2
+put-at-requires-2 c κs = (omega arith, omega (arith, simp length-set at c.before.before.before.put_at.auto.0, c.before.before.before.before.before.before.requires))
 
-same_length : tie.Need-same-length
-same_length c = c.before.before.put-at2.auto.0 ∙ simp length-set at c.before.before.before.before.before.before.put-at.auto.0
+same_length : tie.Need-shape_of-head
+same_length c = c.before.before.put_at-2.auto.0 ∙ simp length-set at c.before.before.before.before.before.before.put_at.auto.0
 
 returns : tie.Need-returns
 returns c =
     let second = c.before.before in
     let first = second.before.before.before.before in
     let s = first.before.before.before in
-    numbers_put s.args.head.now _ _ s.args.unit s.args.flag s.args.len s.args.place s.requires first.put-at.ensures second.put-at2.ensures
+    numbers_put s.args.head.now _ _ s.args.unit s.args.flag s.args.len s.args.place s.requires first.put_at.ensures second.put_at-2.ensures
 
-pub put-numbers-spec : {M : Type 1} → statement M
-put-numbers-spec =
+pub put_numbers_spec : {M : Type 1} → statement M
+put_numbers_spec =
     tie.close
     (tie.spec
     slice-write-head

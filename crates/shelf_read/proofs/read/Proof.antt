@@ -17,14 +17,14 @@ use Rattle.shelf_read.proofs.read.Statement.{statement}
 use Rattle.shelf_read.proofs.read.Tie as tie
 
 -- the call that takes the samples, from where all is lent back
-abbrev taken_at : tie.After-slice-known10 → tie.After-take-samples
+abbrev taken_at : tie.After-slice_known-10-1 → tie.After-take_samples
 taken_at p =
     let l2 = p.before.before.before.before.before in
     l2.before.before.before.before.before
 
 -- the start from the first test's call, and the memory then
-module _ (f : tie.After-file-refusal) where
-  abbrev tested : tie.After-file-good
+module _ (f : tie.After-file_refusal-wrong) where
+  abbrev tested : tie.After-file_good
   tested = f.before.before.before.before.before.before
 
   abbrev s : tie.Start
@@ -40,77 +40,77 @@ module _ (f : tie.After-file-refusal) where
   levels = level_of s.args.l1.now s.args.l2.now s.args.l3.now s.args.l4.now
 
   -- the rows are a reading's
-  refusal_is : f.file-refusal.result ≡ read_refusal s.args.capacity (lent_of samples levels) file
-  refusal_is = f.file-refusal.ensures ∙ ap (λ (good : Bool). file_rows 16 (capacity_wrong s.args.capacity) good (store_short s.args.capacity (lent_of samples levels) (heading_in file))) tested.file-good.ensures
+  refusal_is : f.file_refusal-wrong.result ≡ read_refusal s.args.capacity (lent_of samples levels) file
+  refusal_is = f.file_refusal-wrong.ensures ∙ ap (λ (good : Bool). file_rows 16 (capacity_wrong s.args.capacity) good (store_short s.args.capacity (lent_of samples levels) (heading_in file))) tested.file_good.ensures
 
 -- past the first test no row holds
-entered : (t : tie.Else1) → LetIn (s t.before).args.capacity (lent_of (samples t.before) (levels t.before)) (file t.before)
-entered t = let_in _ _ _ (sym (refusal_is t.before) ∙ t.if1.false)
+entered : (t : tie.Else-wrong-ne0) → LetIn (s t.before).args.capacity (lent_of (samples t.before) (levels t.before)) (file t.before)
+entered t = let_in _ _ _ (sym (refusal_is t.before) ∙ t.if-wrong-ne0.false)
 
-store_is : (n : tie.After-new-store) → let f = n.before.before.before in store_of n.new_store.result ≡ store_in (s f).args.capacity (heading_in (file f))
-store_is n = n.new_store.ensures ∙ ap (store_in (s n.before.before.before).args.capacity) n.before.heading-in.ensures
+store_is : (n : tie.After-new_store-c) → let f = n.before.before.before in store_of n.new_store-c.result ≡ store_in (s f).args.capacity (heading_in (file f))
+store_is n = n.new_store-c.ensures ∙ ap (store_in (s n.before.before.before).args.capacity) n.before.heading_in.ensures
 
-file-good-requires : tie.Need-file-good-requires
+file-good-requires : tie.Need-file_good-requires
 file-good-requires c κs = search rules
 
-file-refusal-requires : tie.Need-file-refusal-requires
-file-refusal-requires c κs = λ e. let t = c.before.before.before.before.before in (passed _ (sym t.file-good.ensures ∙ e)).0
+file-refusal-requires : tie.Need-file_refusal-wrong-requires
+file-refusal-requires c κs = λ e. let t = c.before.before.before.before.before in (passed _ (sym t.file_good.ensures ∙ e)).0
 
-same_length : tie.Need-same-length
+same_length : tie.Need-shape_of-samples-then-wrong-ne0
 same_length c = search rules
 
-same-length-2 : tie.Need-same-length-2
+same-length-2 : tie.Need-shape_of-l1-then-wrong-ne0
 same-length-2 c = search rules
 
-same-length-3 : tie.Need-same-length-3
+same-length-3 : tie.Need-shape_of-l2-then-wrong-ne0
 same-length-3 c = search rules
 
-same-length-4 : tie.Need-same-length-4
+same-length-4 : tie.Need-shape_of-l3-then-wrong-ne0
 same-length-4 c = search rules
 
-same-length-5 : tie.Need-same-length-5
+same-length-5 : tie.Need-shape_of-l4-then-wrong-ne0
 same-length-5 c = search rules
 
-returns : tie.Need-returns
+returns : tie.Need-returns-then-wrong-ne0
 returns c =
     let f = c.before in
-    reads_refused (s f).args.capacity (file f) (samples f) (levels f) (refusal_is f) c.if1.true
+    reads_refused (s f).args.capacity (file f) (samples f) (levels f) (refusal_is f) c.if-wrong-ne0.true
 
-heading-in-requires : tie.Need-heading-in-requires
+heading-in-requires : tie.Need-heading_in-requires
 heading-in-requires c κs = let f = c.before in head_room (file f) (passed (file f) (entered c).passed).0
 
-new-store-requires : tie.Need-new-store-requires
+new-store-requires : tie.Need-new_store-c-requires
 new-store-requires c κs = search rules
 
-take-samples-requires : tie.Need-take-samples-requires
+take-samples-requires : tie.Need-take_samples-requires
 take-samples-requires c κs =
     let n = c.before.before.before.before.before in
     let t = n.before.before in
     let f = t.before in
-    take_room (s f).args.capacity (file f) (samples f) (levels f) (entered t) (store_of n.new_store.result) (store_is n)
+    take_room (s f).args.capacity (file f) (samples f) (levels f) (entered t) (store_of n.new_store-c.result) (store_is n)
 
-same-length-6 : tie.Need-same-length-6
+same-length-6 : tie.Need-shape_of-samples
 same-length-6 c = search rules
 
-same-length-7 : tie.Need-same-length-7
+same-length-7 : tie.Need-shape_of-l1
 same-length-7 c = search rules
 
-same-length-8 : tie.Need-same-length-8
+same-length-8 : tie.Need-shape_of-l2
 same-length-8 c = search rules
 
-same-length-9 : tie.Need-same-length-9
+same-length-9 : tie.Need-shape_of-l3
 same-length-9 c = search rules
 
-same-length-10 : tie.Need-same-length-10
+same-length-10 : tie.Need-shape_of-l4
 same-length-10 c = search rules
 
-returns-2 : tie.Need-returns-2
+returns-2 : tie.Need-returns
 returns-2 c =
     let taken = taken_at c in
     let n = taken.before.before.before.before.before.before in
     let t = n.before.before in
     let f = t.before in
-    reads_done (s f).args.capacity (file f) (samples f) (levels f) (refusal_is f) t.if1.left n.new_store.result (store_is n) taken.take-samples.ensures
+    reads_done (s f).args.capacity (file f) (samples f) (levels f) (refusal_is f) t.if-wrong-ne0.left n.new_store-c.result (store_is n) taken.take_samples.ensures
 
 pub read_spec : {M : Type 1} → statement M
 read_spec =

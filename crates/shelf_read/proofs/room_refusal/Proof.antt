@@ -17,7 +17,7 @@ use Rattle.shelf_read.proofs.room_refusal.Statement.{statement}
 use Rattle.shelf_read.proofs.room_refusal.Tie as tie
 
 -- the new store, and what was lent for it
-module _ (n : tie.After-new-store) where
+module _ (n : tie.After-new_store-c) where
   abbrev s : tie.Start
   s = n.before.before.before.before.before.before.before.before
 
@@ -27,33 +27,33 @@ module _ (n : tie.After-new-store) where
   abbrev lent : Lent
   lent = lent_of s.args.samples.now (level_of s.args.l1.now s.args.l2.now s.args.l3.now s.args.l4.now)
 
-  store_is : store_of n.new_store.result ≡ store_in s.args.capacity (heading_in file)
-  store_is = n.new_store.ensures ∙ ap (store_in s.args.capacity) n.before.heading-in.ensures
+  store_is : store_of n.new_store-c.result ≡ store_in s.args.capacity (heading_in file)
+  store_is = n.new_store-c.ensures ∙ ap (store_in s.args.capacity) n.before.heading_in.ensures
 
 -- the row by a test of its room
 abbrev row : Bool → ℕ
 row b = cond b 15 0
 
-told : (t : tie.After-store-short) → let n = t.before in row t.store-short.result ≡ row (store_short (s n).args.capacity (lent n) (heading_in (file n)))
-told t = let n = t.before in ap row (short_is (s n).args.capacity (lent n) (heading_in (file n)) (store_is n) t.store-short.ensures)
+told : (t : tie.After-store_short) → let n = t.before in row t.store_short.result ≡ row (store_short (s n).args.capacity (lent n) (heading_in (file n)))
+told t = let n = t.before in ap row (short_is (s n).args.capacity (lent n) (heading_in (file n)) (store_is n) t.store_short.ensures)
 
-heading-in-requires : tie.Need-heading-in-requires
+heading-in-requires : tie.Need-heading_in-requires
 heading-in-requires c κs = let s = c.before.before.before.before.before.before in head_room s.args.file.now s.requires.1
 
-new-store-requires : tie.Need-new-store-requires
+new-store-requires : tie.Need-new_store-c-requires
 new-store-requires c κs = search rules
 
-store-short-requires : tie.Need-store-short-requires
+store-short-requires : tie.Need-store_short-requires
 store-short-requires c κs = record {
   unit_size = subst⁻¹ (λ (x : Store). UnitSize x.unit) (store_is c) (heading_headed (file c) (s c).requires.1).unit_size;
   capacity = subst⁻¹ (λ (x : Store). x.capacity ≤ most_samples) (store_is c) (s c).requires.0;
 }
 
-returns : tie.Need-returns
-returns c = sym (ap row c.if1.true) ∙ told c.before
+returns : tie.Need-returns-then-store_short
+returns c = sym (ap row c.if-store_short.true) ∙ told c.before
 
-returns-2 : tie.Need-returns-2
-returns-2 c = sym (ap row c.if1.false) ∙ told c.before
+returns-2 : tie.Need-returns
+returns-2 c = sym (ap row c.if-store_short.false) ∙ told c.before
 
-pub room-refusal-spec : {M : Type 1} → statement M
-room-refusal-spec = tie.close (tie.spec heading-in-requires new-store-requires store-short-requires returns returns-2)
+pub room_refusal_spec : {M : Type 1} → statement M
+room_refusal_spec = tie.close (tie.spec heading-in-requires new-store-requires store-short-requires returns returns-2)

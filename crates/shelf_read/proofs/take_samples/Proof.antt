@@ -6,42 +6,42 @@ use Rattle.shelf_read.proofs.take_samples.Statement.{statement}
 use Rattle.shelf_read.proofs.take_samples.Tie as tie
 
 -- the function's start, from where the first call's memory is lent
-abbrev start_at : tie.After-struct-known → tie.Start
+abbrev start_at : tie.After-struct_known-1 → tie.Start
 start_at k =
     let m = k.before.before.before.before.before in
     m.before.before.before.before
 
-sub-gather : tie.Need-overflow-sub-gather
+sub-gather : tie.Need-slice_bounds-gather-count
 sub-gather c = search rules
 
-part-gather-start : tie.Need-slice-bounds-gather-start
+part-gather-start : tie.Need-slice_bounds-gather-start
 part-gather-start c = search rules
 
-part-gather-end : tie.Need-slice-bounds-gather-end
+part-gather-end : tie.Need-slice_bounds-gather-end
 part-gather-end c = search rules
 
-mul-gather : tie.Need-overflow-mul-gather
+mul-gather : tie.Need-overflow_mul-c
 mul-gather c = search rules
 
 gather-requires : tie.Need-gather-requires
 gather-requires c κs = let s = start_at c in (blocks_room s.pre (behind_length s.args.file.now), samples_room s.pre)
 
-rebuild-levels-requires : tie.Need-rebuild-levels-requires
+rebuild-levels-requires : tie.Need-rebuild_levels-requires
 rebuild-levels-requires c κs = search rules
 
-same_length : tie.Need-same-length
+same_length : tie.Need-shape_of-samples
 same_length c = search rules
 
-same-length-2 : tie.Need-same-length-2
+same-length-2 : tie.Need-shape_of-l1
 same-length-2 c = search rules
 
-same-length-3 : tie.Need-same-length-3
+same-length-3 : tie.Need-shape_of-l2
 same-length-3 c = search rules
 
-same-length-4 : tie.Need-same-length-4
+same-length-4 : tie.Need-shape_of-l3
 same-length-4 c = search rules
 
-same-length-5 : tie.Need-same-length-5
+same-length-5 : tie.Need-shape_of-l4
 same-length-5 c = search rules
 
 returns : tie.Need-returns
@@ -51,10 +51,10 @@ returns c =
     let lent = built.before.before.before.before.before in
     let g = lent.before.before.before in
     let a = (start_at g.before).args in
-    stored_taken a.c.unitsize a.c.len a.file.now a.samples.now _ (level_of a.l1.now a.l2.now a.l3.now a.l4.now) _ g.gather.ensures built.rebuild-levels.ensures
+    stored_taken a.c.unitsize a.c.len a.file.now a.samples.now _ (level_of a.l1.now a.l2.now a.l3.now a.l4.now) _ g.gather.ensures built.rebuild_levels.ensures
 
-pub take-samples-spec : {M : Type 1} → statement M
-take-samples-spec =
+pub take_samples_spec : {M : Type 1} → statement M
+take_samples_spec =
     tie.close
     (tie.spec
     sub-gather

@@ -8,76 +8,76 @@ use Rattle.shelf_salvage.proofs.Blanking.{Blanks, blanks_start, this_inside, thi
 use Rattle.shelf_salvage.proofs.blank.Statement.{statement}
 use Rattle.shelf_salvage.proofs.blank.Tie as tie
 
-abbrev invariant-loop : tie.invariant-loop
+abbrev invariant-loop : tie.invariant-loop-i
 invariant-loop samples₀ list stretches len unit i₀ samples i = Blanks len unit stretches list samples₀ samples i
 
-abbrev decreases-loop : tie.decreases-loop
+abbrev decreases-loop : tie.decreases-loop-i
 decreases-loop samples₀ list stretches len unit i₀ samples i = stretches - i
 
 -- the function's start, from the loop
-abbrev start_at : tie.At-loop invariant-loop decreases-loop → tie.Start invariant-loop decreases-loop
+abbrev start_at : tie.At-loop-i invariant-loop decreases-loop → tie.Start invariant-loop decreases-loop
 start_at l = l.before.before.before
 
 -- the stretch of a turn lies in memory, and its numbers are small
-small_at : (t : tie.In-loop invariant-loop decreases-loop) → let a = (start_at t.before).args in let i = t.before.loop.i in get_or a.list.now (2 * i) 0 * a.unit + get_or a.list.now (2 * i + 1) 0 * a.unit ≤ most_samples * 2
-small_at t = this_small (start_at t.before).pre t.before.loop.invariant t.loop-test.true
+small_at : (t : tie.In-loop-i invariant-loop decreases-loop) → let a = (start_at t.before).args in let i = t.before.loop-i.i in get_or a.list.now (2 * i) 0 * a.unit + get_or a.list.now (2 * i + 1) 0 * a.unit ≤ most_samples * 2
+small_at t = this_small (start_at t.before).pre t.before.loop-i.invariant t.loop-i-test.true
 
-loop-holds : tie.Need-loop-init invariant-loop decreases-loop
+loop-holds : tie.Need-loop-i-init invariant-loop decreases-loop
 loop-holds c = let s = c.before.before in blanks_start s.requires s.args.samples.now
 
-mul-from : tie.Need-overflow-mul-from invariant-loop decreases-loop
+mul-from : tie.Need-overflow_mul-from invariant-loop decreases-loop
 mul-from c = search rules
 
-mul-from-2 : tie.Need-overflow-mul-from-2 invariant-loop decreases-loop
+mul-from-2 : tie.Need-offset_bounds-list-i invariant-loop decreases-loop
 mul-from-2 c = search rules
 
-shared-slice-read-from : tie.Need-shared-slice-read-from invariant-loop decreases-loop
+shared-slice-read-from : tie.Need-bounds-list-i invariant-loop decreases-loop
 shared-slice-read-from c = search rules
 
-mul-from-3 : tie.Need-overflow-mul-from-3 invariant-loop decreases-loop
+mul-from-3 : tie.Need-overflow_mul-from-in-loop-i invariant-loop decreases-loop
 mul-from-3 c = omega (arith, small_at c.before)
 
-mul-to : tie.Need-overflow-mul-to invariant-loop decreases-loop
+mul-to : tie.Need-overflow_mul-to invariant-loop decreases-loop
 mul-to c = search rules
 
-add-to : tie.Need-overflow-add-to invariant-loop decreases-loop
+add-to : tie.Need-overflow_add-to invariant-loop decreases-loop
 add-to c = search rules
 
-mul-to-2 : tie.Need-overflow-mul-to-2 invariant-loop decreases-loop
+mul-to-2 : tie.Need-offset_bounds-list-i-in-loop-i invariant-loop decreases-loop
 mul-to-2 c = search rules
 
-shared-slice-read-to : tie.Need-shared-slice-read-to invariant-loop decreases-loop
+shared-slice-read-to : tie.Need-bounds-list-i-in-loop-i invariant-loop decreases-loop
 shared-slice-read-to c = search rules
 
-mul-to-3 : tie.Need-overflow-mul-to-3 invariant-loop decreases-loop
+mul-to-3 : tie.Need-overflow_mul-to-in-loop-i invariant-loop decreases-loop
 mul-to-3 c = omega (arith, small_at c.before.before)
 
-add-to-2 : tie.Need-overflow-add-to-2 invariant-loop decreases-loop
+add-to-2 : tie.Need-overflow_add-to-in-loop-i invariant-loop decreases-loop
 add-to-2 c = omega (arith, small_at c.before.before)
 
-put-at-requires : tie.Need-put-at-requires invariant-loop decreases-loop
-put-at-requires c κs = let t = c.before.before.before in (omega arith, this_inside (start_at t.before).pre t.before.loop.invariant t.loop-test.true)
+put-at-requires : tie.Need-put_at-requires invariant-loop decreases-loop
+put-at-requires c κs = let t = c.before.before.before in (omega arith, this_inside (start_at t.before).pre t.before.loop-i.invariant t.loop-i-test.true)
 
-add-i : tie.Need-overflow-add-i invariant-loop decreases-loop
+add-i : tie.Need-overflow_add-i invariant-loop decreases-loop
 add-i c = search rules
 
-loop-less : tie.Need-loop-smaller invariant-loop decreases-loop
+loop-less : tie.Need-loop-i-smaller invariant-loop decreases-loop
 loop-less c = search rules
 
-loop-again : tie.Need-loop-preserved invariant-loop decreases-loop
+loop-again : tie.Need-loop-i-preserved invariant-loop decreases-loop
 loop-again c =
     let put = c.before.before in
     let t = put.before.before.before.before in
-    blanks_on (start_at t.before).pre t.before.loop.invariant t.loop-test.true put.put-at.ensures
+    blanks_on (start_at t.before).pre t.before.loop-i.invariant t.loop-i-test.true put.put_at.ensures
 
-same_length : tie.Need-same-length invariant-loop decreases-loop
+same_length : tie.Need-shape_of-samples invariant-loop decreases-loop
 same_length c = search rules
 
 returns : tie.Need-returns invariant-loop decreases-loop
-returns c = blanks_end (start_at c.before).pre c.before.loop.invariant (omega (arith, c.loop-test.false))
+returns c = blanks_end (start_at c.before).pre c.before.loop-i.invariant (omega (arith, c.loop-i-test.false))
 
-pub blank-spec : {M : Type 1} → statement M
-blank-spec =
+pub blank_spec : {M : Type 1} → statement M
+blank_spec =
     tie.close
     (tie.spec
     invariant-loop

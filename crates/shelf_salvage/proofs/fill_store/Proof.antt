@@ -6,25 +6,25 @@ use Rattle.shelf_read.proofs.Taken.{stored_front}
 use Rattle.shelf_salvage.proofs.fill_store.Statement.{statement}
 use Rattle.shelf_salvage.proofs.fill_store.Tie as tie
 
-fill-samples-requires : tie.Need-fill-samples-requires
+fill-samples-requires : tie.Need-fill_samples-requires
 fill-samples-requires c κs = let s = c.before.before.before.before.before.before.before.before in (s.requires.0, s.requires.1)
 
-rebuild-levels-requires : tie.Need-rebuild-levels-requires
+rebuild-levels-requires : tie.Need-rebuild_levels-requires
 rebuild-levels-requires c κs = search rules
 
-same_length : tie.Need-same-length
+same_length : tie.Need-shape_of-samples
 same_length c = search rules
 
-same-length-2 : tie.Need-same-length-2
+same-length-2 : tie.Need-shape_of-l1
 same-length-2 c = search rules
 
-same-length-3 : tie.Need-same-length-3
+same-length-3 : tie.Need-shape_of-l2
 same-length-3 c = search rules
 
-same-length-4 : tie.Need-same-length-4
+same-length-4 : tie.Need-shape_of-l3
 same-length-4 c = search rules
 
-same-length-5 : tie.Need-same-length-5
+same-length-5 : tie.Need-shape_of-l4
 same-length-5 c = search rules
 
 returns : tie.Need-returns
@@ -35,10 +35,10 @@ returns c =
     let filled = lent.before.before.before in
     let known = filled.before.before.before.before in
     let a = known.before.before.before.before.before.args in
-    stored_front a.c.unitsize a.c.len (salvaged_bytes a.file.now) a.samples.now _ (level_of a.l1.now a.l2.now a.l3.now a.l4.now) _ filled.fill-samples.ensures built.rebuild-levels.ensures
+    stored_front a.c.unitsize a.c.len (salvaged_bytes a.file.now) a.samples.now _ (level_of a.l1.now a.l2.now a.l3.now a.l4.now) _ filled.fill_samples.ensures built.rebuild_levels.ensures
 
-pub fill-store-spec : {M : Type 1} → statement M
-fill-store-spec =
+pub fill_store_spec : {M : Type 1} → statement M
+fill_store_spec =
     tie.close
     (tie.spec
     fill-samples-requires

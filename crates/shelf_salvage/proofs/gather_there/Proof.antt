@@ -5,45 +5,45 @@ use Rattle.shelf_salvage.proofs.Gathered.{there_small, blocks_there, end_inside,
 use Rattle.shelf_salvage.proofs.gather_there.Statement.{statement}
 use Rattle.shelf_salvage.proofs.gather_there.Tie as tie
 
-sub-lesser : tie.Need-overflow-sub-lesser
+sub-lesser : tie.Need-overflow_sub-file
 sub-lesser c = search rules
 
-mul-lesser : tie.Need-overflow-mul-lesser
+mul-lesser : tie.Need-overflow_mul-file
 mul-lesser c = search rules
 
-lesser-requires : tie.Need-lesser-requires
+lesser-requires : tie.Need-lesser-there-requires
 lesser-requires c κs = search rules
 
-blocks-for-requires : tie.Need-blocks-for-requires
-blocks-for-requires c κs = let s = c.before.before.before in there_small s.args.file.now s.args.samples.now s.requires.0 s.requires.1 s.requires.2 c.lesser.ensures
+blocks-for-requires : tie.Need-blocks_for-requires
+blocks-for-requires c κs = let s = c.before.before.before in there_small s.args.file.now s.args.samples.now s.requires.0 s.requires.1 s.requires.2 c.lesser-there.ensures
 
-mul-end : tie.Need-overflow-mul-end
-mul-end c = let l = c.before in let s = l.before.before.before in omega (arith, blocks_there s.args.file.now s.args.samples.now s.requires.0 s.requires.1 s.requires.2 l.lesser.ensures, c.blocks-for.ensures, l.lesser.ensures)
+mul-end : tie.Need-overflow_mul-end
+mul-end c = let l = c.before in let s = l.before.before.before in omega (arith, blocks_there s.args.file.now s.args.samples.now s.requires.0 s.requires.1 s.requires.2 l.lesser-there.ensures, c.blocks_for.ensures, l.lesser-there.ensures)
 
-add-end : tie.Need-overflow-add-end
-add-end c = let l = c.before in let s = l.before.before.before in omega (arith, blocks_there s.args.file.now s.args.samples.now s.requires.0 s.requires.1 s.requires.2 l.lesser.ensures, c.blocks-for.ensures, l.lesser.ensures)
+add-end : tie.Need-overflow_add-end
+add-end c = let l = c.before in let s = l.before.before.before in omega (arith, blocks_there s.args.file.now s.args.samples.now s.requires.0 s.requires.1 s.requires.2 l.lesser-there.ensures, c.blocks_for.ensures, l.lesser-there.ensures)
 
-sub-gather : tie.Need-overflow-sub-gather
+sub-gather : tie.Need-slice_bounds-gather-count
 sub-gather c = search rules
 
-part-gather-start : tie.Need-slice-bounds-gather-start
+part-gather-start : tie.Need-slice_bounds-gather-start
 part-gather-start c = search rules
 
-part-gather-end : tie.Need-slice-bounds-gather-end
+part-gather-end : tie.Need-slice_bounds-gather-end
 part-gather-end c =
     let b = c.before in
     let l = b.before in
     let s = l.before.before.before in
-    end_inside s.args.file.now s.args.samples.now s.requires.0 s.requires.1 s.requires.2 l.lesser.ensures b.blocks-for.ensures
+    end_inside s.args.file.now s.args.samples.now s.requires.0 s.requires.1 s.requires.2 l.lesser-there.ensures b.blocks_for.ensures
 
 gather-requires : tie.Need-gather-requires
 gather-requires c κs =
     let b = c.before.before in
     let l = b.before in
     let s = l.before.before.before in
-    (part_room s.args.file.now s.args.samples.now s.requires.0 s.requires.1 s.requires.2 l.lesser.ensures b.blocks-for.ensures, there_holds s.args.file.now s.args.samples.now s.requires.0 s.requires.1 s.requires.2 l.lesser.ensures)
+    (part_room s.args.file.now s.args.samples.now s.requires.0 s.requires.1 s.requires.2 l.lesser-there.ensures b.blocks_for.ensures, there_holds s.args.file.now s.args.samples.now s.requires.0 s.requires.1 s.requires.2 l.lesser-there.ensures)
 
-same_length : tie.Need-same-length
+same_length : tie.Need-shape_of-samples
 same_length c = search rules
 
 returns : tie.Need-returns
@@ -52,10 +52,10 @@ returns c =
     let b = g.before.before.before in
     let l = b.before in
     let s = l.before.before.before in
-    gathers s.args.file.now s.args.samples.now s.requires.0 s.requires.1 s.requires.2 l.lesser.ensures b.blocks-for.ensures g.gather.ensures
+    gathers s.args.file.now s.args.samples.now s.requires.0 s.requires.1 s.requires.2 l.lesser-there.ensures b.blocks_for.ensures g.gather.ensures
 
-pub gather-there-spec : {M : Type 1} → statement M
-gather-there-spec =
+pub gather_there_spec : {M : Type 1} → statement M
+gather_there_spec =
     tie.close
     (tie.spec
     sub-lesser

@@ -23,60 +23,60 @@ module _ (f : tie.After-find) where
   levels = level_of s.args.l1.now s.args.l2.now s.args.l3.now s.args.l4.now
 
   abbrev list : List ℕ
-  list = s.args.list.now
+  list = s.args.list-1.now
 
 -- the search, from where its find is told
-abbrev found_at : tie.After-found → tie.After-find
+abbrev found_at : tie.In-Found-2 → tie.After-find
 found_at d = d.before.before.before.before
 
 find-requires : tie.Need-find-requires
 find-requires c κs = let s = c.before.before.before.before.before.before.before.before in s.requires.0.head
 
-enum_told : tie.Need-enum-told
+enum_told : tie.Need-enum_told-1
 enum_told c = search rules
 
-enum-known-found : tie.Need-enum-known-found
+enum-known-found : tie.Need-enum_known-found
 enum-known-found c = search rules
 
-fill-store-requires : tie.Need-fill-store-requires
+fill-store-requires : tie.Need-fill_store-requires
 fill-store-requires c κs =
     let d = c.before.before.before.before.before.before.before in
     let f = found_at d in
-    ((s f).pre.0, listed (file f) (samples f) (levels f) (list f) f.find.ensures d.found.given.1, (s f).pre.1)
+    ((s f).pre.0, listed (file f) (samples f) (levels f) (list f) f.find.ensures d.found-1.given.1, (s f).pre.1)
 
-same_length : tie.Need-same-length
+same_length : tie.Need-shape_of-list-in-Short
 same_length c = search rules
 
-returns : tie.Need-returns
-returns c = let f = c.before.before.before.before in left_short (file f) (samples f) (levels f) (list f) f.find.ensures c.enum_told.given.1
+returns : tie.Need-returns-in-Short
+returns c = let f = c.before.before.before.before in left_short (file f) (samples f) (levels f) (list f) f.find.ensures c.enum_told-1.given.1
 
-same-length-2 : tie.Need-same-length-2
+same-length-2 : tie.Need-shape_of-samples
 same-length-2 c = search rules
 
-same-length-3 : tie.Need-same-length-3
+same-length-3 : tie.Need-shape_of-l1
 same-length-3 c = search rules
 
-same-length-4 : tie.Need-same-length-4
+same-length-4 : tie.Need-shape_of-l2
 same-length-4 c = search rules
 
-same-length-5 : tie.Need-same-length-5
+same-length-5 : tie.Need-shape_of-l3
 same-length-5 c = search rules
 
-same-length-6 : tie.Need-same-length-6
+same-length-6 : tie.Need-shape_of-l4
 same-length-6 c = search rules
 
-same-length-7 : tie.Need-same-length-7
+same-length-7 : tie.Need-shape_of-list-in-Found
 same-length-7 c = search rules
 
-returns-2 : tie.Need-returns-2
+returns-2 : tie.Need-returns-in-Found
 returns-2 c =
     let fills = c.before.before.before.before.before.before.before.before.before.before in
     let d = fills.before.before.before.before.before.before.before.before in
     let f = found_at d in
-    left_found (file f) (samples f) (levels f) (list f) f.find.ensures d.found.given.1 (s f).args.c refl (s f).pre.0.says fills.fill-store.ensures
+    left_found (file f) (samples f) (levels f) (list f) f.find.ensures d.found-1.given.1 (s f).args.c refl (s f).pre.0.says fills.fill_store.ensures
 
-pub salvage-into-spec : {M : Type 1} → statement M
-salvage-into-spec =
+pub salvage_into_spec : {M : Type 1} → statement M
+salvage_into_spec =
     tie.close
     (tie.spec
     find-requires

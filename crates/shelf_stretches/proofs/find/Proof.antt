@@ -5,19 +5,19 @@ use Rattle.shelf_stretches.proofs.Enough.{early_empty, early_room, whole_empty, 
 use Rattle.shelf_stretches.proofs.find.Statement.{statement}
 use Rattle.shelf_stretches.proofs.find.Tie as tie
 
-sub-survey : tie.Need-overflow-sub-survey
+sub-survey : tie.Need-slice_bounds-survey-count
 sub-survey c = search rules
 
-part-survey-start : tie.Need-slice-bounds-survey-start
+part-survey-start : tie.Need-slice_bounds-survey-start
 part-survey-start c = search rules
 
-part-survey-end : tie.Need-slice-bounds-survey-end
+part-survey-end : tie.Need-slice_bounds-survey-end
 part-survey-end c = search rules
 
 survey-requires : tie.Need-survey-requires
 survey-requires c κs = search rules
 
-enum_told : tie.Need-enum-told
+enum_told : tie.Need-enum_told-1
 enum_told c = search rules
 
 tell-requires : tie.Need-tell-requires
@@ -26,40 +26,40 @@ tell-requires c κs =
     let sv = e.before.before.before.before in
     let s = sv.before.before.before.before in
     let file = s.args.file.now in
-    let list = s.args.list.now in
-    (s.requires, room_again file list (early_room (length list) file _ sv.survey.ensures e.enum_told.given.1) (early_empty (length list) file _ sv.survey.ensures e.enum_told.given.1))
+    let list = s.args.list-1.now in
+    (s.requires, room_again file list (early_room (length list) file _ sv.survey.ensures e.enum_told-1.given.1) (early_empty (length list) file _ sv.survey.ensures e.enum_told-1.given.1))
 
-enum-known-found : tie.Need-enum-known-found
+enum-known-found : tie.Need-enum_known-found
 enum-known-found c = search rules
 
-tell-counted-requires : tie.Need-tell-counted-requires
+tell-counted-requires : tie.Need-tell_counted-requires
 tell-counted-requires c κs =
     let d = c.before.before in
     let sv = d.before.before.before.before in
     let s = sv.before.before.before.before in
-    (s.requires, whole_counted (length s.args.list.now) s.args.file.now _ sv.survey.ensures d.found.given.1)
+    (s.requires, whole_counted (length s.args.list-1.now) s.args.file.now _ sv.survey.ensures d.found-1.given.1)
 
-same_length : tie.Need-same-length
+same_length : tie.Need-shape_of-list-in-Enough
 same_length c = search rules
 
-returns : tie.Need-returns
+returns : tie.Need-returns-in-Enough
 returns c =
     let t = c.before.before in
     let e = t.before.before in
     let sv = e.before.before.before.before in
     let s = sv.before.before.before.before in
-    finds_same s.args.file.now s.args.list.now (early_empty (length s.args.list.now) s.args.file.now _ sv.survey.ensures e.enum_told.given.1) t.tell.result _ t.tell.ensures
+    finds_same s.args.file.now s.args.list-1.now (early_empty (length s.args.list-1.now) s.args.file.now _ sv.survey.ensures e.enum_told-1.given.1) t.tell.result _ t.tell.ensures
 
-same-length-2 : tie.Need-same-length-2
+same-length-2 : tie.Need-shape_of-list-in-Whole
 same-length-2 c = search rules
 
-returns-2 : tie.Need-returns-2
+returns-2 : tie.Need-returns-in-Whole
 returns-2 c =
     let t = c.before.before in
     let d = t.before.before.before in
     let sv = d.before.before.before.before in
     let s = sv.before.before.before.before in
-    finds_same s.args.file.now s.args.list.now (whole_empty (length s.args.list.now) s.args.file.now _ sv.survey.ensures d.found.given.1) t.tell-counted.result _ t.tell-counted.ensures
+    finds_same s.args.file.now s.args.list-1.now (whole_empty (length s.args.list-1.now) s.args.file.now _ sv.survey.ensures d.found-1.given.1) t.tell_counted.result _ t.tell_counted.ensures
 
 pub find_spec : {M : Type 1} → statement M
 find_spec =

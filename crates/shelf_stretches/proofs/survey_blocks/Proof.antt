@@ -10,97 +10,97 @@ use Rattle.shelf_stretches.proofs.Left.{enough}
 use Rattle.shelf_stretches.proofs.survey_blocks.Statement.{statement}
 use Rattle.shelf_stretches.proofs.survey_blocks.Tie as tie
 
-abbrev invariant-loop : tie.invariant-loop
+abbrev invariant-loop : tie.invariant-loop-i
 invariant-loop list₀ room file n len per k run₀ i₀ list run i = Loop file list₀ i run list
 
-abbrev decreases-loop : tie.decreases-loop
+abbrev decreases-loop : tie.decreases-loop-i
 decreases-loop list₀ room file n len per k run₀ i₀ list run i = k - i
 
 -- the function's start, from the loop
-abbrev start_at : tie.At-loop invariant-loop decreases-loop → tie.Start invariant-loop decreases-loop
+abbrev start_at : tie.At-loop-i invariant-loop decreases-loop → tie.Start invariant-loop decreases-loop
 start_at l = l.before.before.before.before
 
 -- there is a block in a turn, and none is left at the end
-inside_at : (t : tie.In-loop invariant-loop decreases-loop) → t.before.loop.i < blocks_for (start_at t.before).args.n
-inside_at t = omega (arith, t.loop-test.true, t.before.before.blocks-for.ensures)
+inside_at : (t : tie.In-loop-i invariant-loop decreases-loop) → t.before.loop-i.i < blocks_for (start_at t.before).args.n
+inside_at t = omega (arith, t.loop-i-test.true, t.before.before.blocks_for-k.ensures)
 
-ends_at : (t : tie.After-loop invariant-loop decreases-loop) → blocks_for (start_at t.before).args.n ≤ t.before.loop.i
-ends_at t = omega (arith, t.loop-test.false, t.before.before.blocks-for.ensures)
+ends_at : (t : tie.After-loop-i invariant-loop decreases-loop) → blocks_for (start_at t.before).args.n ≤ t.before.loop-i.i
+ends_at t = omega (arith, t.loop-i-test.false, t.before.before.blocks_for-k.ensures)
 
 -- a turn, from where it goes on
-abbrev turn_at : tie.Else1 invariant-loop decreases-loop → tie.In-loop invariant-loop decreases-loop
+abbrev turn_at : tie.Else-settled invariant-loop decreases-loop → tie.In-loop-i invariant-loop decreases-loop
 turn_at c = c.before.before
 
-blocks-for-requires : tie.Need-blocks-for-requires invariant-loop decreases-loop
+blocks-for-requires : tie.Need-blocks_for-k-requires invariant-loop decreases-loop
 blocks-for-requires c κs = bytes_few c.before.before.requires
 
-loop-holds : tie.Need-loop-init invariant-loop decreases-loop
-loop-holds c = let a = c.before.before.before.args in loop_starts a.file.now a.list.now
+loop-holds : tie.Need-loop-i-init invariant-loop decreases-loop
+loop-holds c = let a = c.before.before.before.args in loop_starts a.file.now a.list-1.now
 
-sub-settled : tie.Need-overflow-sub-settled invariant-loop decreases-loop
+sub-settled : tie.Need-overflow_sub-k invariant-loop decreases-loop
 sub-settled c = search rules
 
 settled-requires : tie.Need-settled-requires invariant-loop decreases-loop
 settled-requires c κs =
     let s = start_at c.before in
     let few = blocks_few s.pre in
-    (omega (arith, c.before.loop.invariant.few, inside_at c, few), omega (arith, c.before.loop.invariant.survey.sum, c.before.loop.invariant.survey.inside, s.pre.samples, s.pre.few), omega (arith, few, c.before.before.blocks-for.ensures))
+    (omega (arith, c.before.loop-i.invariant.few, inside_at c, few), omega (arith, c.before.loop-i.invariant.survey.sum, c.before.loop-i.invariant.survey.inside, s.pre.samples, s.pre.few), omega (arith, few, c.before.before.blocks_for-k.ensures))
 
-same_length : tie.Need-same-length invariant-loop decreases-loop
+same_length : tie.Need-shape_of-list-then-settled invariant-loop decreases-loop
 same_length c = search rules
 
-returns : tie.Need-returns invariant-loop decreases-loop
+returns : tie.Need-returns-then-settled invariant-loop decreases-loop
 returns c =
     let t = c.before.before in
-    enough (start_at t.before).pre t.before.loop.invariant (inside_at t)
-    (ap (λ (k : ℕ). most_numbers t.before.loop.run (k - t.before.loop.i)) t.before.before.blocks-for.ensures) (c.before.settled.ensures c.if1.true)
+    enough (start_at t.before).pre t.before.loop-i.invariant (inside_at t)
+    (ap (λ (k : ℕ). most_numbers t.before.loop-i.run (k - t.before.loop-i.i)) t.before.before.blocks_for-k.ensures) (c.before.settled.ensures c.if-settled.true)
 
-mul_at : tie.Need-overflow-mul-at invariant-loop decreases-loop
-mul_at c = let t = turn_at c in let s = start_at t.before in omega (arith, block_inside s.pre t.before.loop.inv (inside_at t), s.pre.few)
+mul_at : tie.Need-overflow_mul-at invariant-loop decreases-loop
+mul_at c = let t = turn_at c in let s = start_at t.before in omega (arith, block_inside s.pre t.before.loop-i.inv (inside_at t), s.pre.few)
 
-block-known-requires : tie.Need-block-known-requires invariant-loop decreases-loop
+block-known-requires : tie.Need-block_known-requires invariant-loop decreases-loop
 block-known-requires c κs = let t = turn_at c.before in (bytes_few (start_at t.before).pre, inside_at t)
 
-sub-lesser : tie.Need-overflow-sub-lesser invariant-loop decreases-loop
-sub-lesser c = let t = turn_at c.before.before in omega (arith, block_inside (start_at t.before).pre t.before.loop.inv (inside_at t))
+sub-lesser : tie.Need-overflow_sub-len invariant-loop decreases-loop
+sub-lesser c = let t = turn_at c.before.before in omega (arith, block_inside (start_at t.before).pre t.before.loop-i.inv (inside_at t))
 
 lesser-requires : tie.Need-lesser-requires invariant-loop decreases-loop
 lesser-requires c κs = search rules
 
-step-requires : tie.Need-step-requires invariant-loop decreases-loop
+step-requires : tie.Need-step-run-requires invariant-loop decreases-loop
 step-requires c κs =
     let t = turn_at c.before.before.before in
     let s = start_at t.before in
-    (on_room s.pre t.before.loop.inv (inside_at t), omega (arith, c.lesser.ensures, s.pre.few))
+    (on_room s.pre t.before.loop-i.inv (inside_at t), omega (arith, c.lesser.ensures, s.pre.few))
 
-add-i : tie.Need-overflow-add-i invariant-loop decreases-loop
+add-i : tie.Need-overflow_add-i invariant-loop decreases-loop
 add-i c = let t = turn_at c.before.before.before.before.before.before in omega (arith, inside_at t, blocks_few (start_at t.before).pre)
 
-loop-less : tie.Need-loop-smaller invariant-loop decreases-loop
+loop-less : tie.Need-loop-i-smaller invariant-loop decreases-loop
 loop-less c = search rules
 
-loop-again : tie.Need-loop-preserved invariant-loop decreases-loop
+loop-again : tie.Need-loop-i-preserved invariant-loop decreases-loop
 loop-again c =
     let done = c.before.before in
     let known = done.before.before in
     let t = turn_at known.before.before in
-    next_block (start_at t.before).pre t.before.loop.inv (inside_at t) known.block-known.ensures done.before.lesser.ensures done.step.ensures.0 done.step.ensures.1
+    next_block (start_at t.before).pre t.before.loop-i.inv (inside_at t) known.block_known.ensures done.before.lesser.ensures done.step-run.ensures.0 done.step-run.ensures.1
 
-close-requires : tie.Need-close-requires invariant-loop decreases-loop
-close-requires c κs = let t = c.before in last_room (start_at t.before).pre t.before.loop.invariant (ends_at t)
+close-requires : tie.Need-close-last-requires invariant-loop decreases-loop
+close-requires c κs = let t = c.before in last_room (start_at t.before).pre t.before.loop-i.invariant (ends_at t)
 
-same-length-2 : tie.Need-same-length-2 invariant-loop decreases-loop
+same-length-2 : tie.Need-shape_of-list invariant-loop decreases-loop
 same-length-2 c = search rules
 
-returns-2 : tie.Need-returns-2 invariant-loop decreases-loop
+returns-2 : tie.Need-returns invariant-loop decreases-loop
 returns-2 c =
     let closes = c.before.before in
     let t = closes.before.before in
     let s = start_at t.before in
-    surveyed s.pre t.before.loop.invariant (ends_at t) s.args.room closes.close.ensures.0 closes.close.ensures.1
+    surveyed s.pre t.before.loop-i.invariant (ends_at t) s.args.room closes.close-last.ensures.0 closes.close-last.ensures.1
 
-pub survey-blocks-spec : {M : Type 1} → statement M
-survey-blocks-spec =
+pub survey_blocks_spec : {M : Type 1} → statement M
+survey_blocks_spec =
     tie.close
     (tie.spec
     invariant-loop

@@ -8,85 +8,85 @@ use Rattle.shelf_write.proofs.Blocks.{Putting, putting_starts, putting_on, putti
 use Rattle.shelf_write.proofs.put_blocks.Statement.{statement}
 use Rattle.shelf_write.proofs.put_blocks.Tie as tie
 
-abbrev invariant-loop : tie.invariant-loop
+abbrev invariant-loop : tie.invariant-loop-i
 invariant-loop blocks₀ bytes n k i₀ blocks i = Putting bytes blocks i
 
-abbrev decreases-loop : tie.decreases-loop
+abbrev decreases-loop : tie.decreases-loop-i
 decreases-loop blocks₀ bytes n k i₀ blocks i = k - i
 
 -- the function's start, from a turn of the loop
-abbrev start_at : tie.After-lesser invariant-loop decreases-loop → tie.Start invariant-loop decreases-loop
+abbrev start_at : tie.After-lesser-e invariant-loop decreases-loop → tie.Start invariant-loop decreases-loop
 start_at l = l.before.before.before.before.before.before
 
 -- there is a block to put
-inside_at : (l : tie.After-lesser invariant-loop decreases-loop) → l.before.before.loop.i < blocks_for (length (start_at l).args.bytes.now)
-inside_at l = omega (arith, l.before.loop-test.true, l.before.before.before.blocks-for.ensures)
+inside_at : (l : tie.After-lesser-e invariant-loop decreases-loop) → l.before.before.loop-i.i < blocks_for (length (start_at l).args.bytes.now)
+inside_at l = omega (arith, l.before.loop-i-test.true, l.before.before.before.blocks_for-k.ensures)
 
-blocks-for-requires : tie.Need-blocks-for-requires invariant-loop decreases-loop
+blocks-for-requires : tie.Need-blocks_for-k-requires invariant-loop decreases-loop
 blocks-for-requires c κs = search rules
 
-loop-holds : tie.Need-loop-init invariant-loop decreases-loop
+loop-holds : tie.Need-loop-i-init invariant-loop decreases-loop
 loop-holds c = let s = c.before.before.before in putting_starts s.args.bytes.now s.args.blocks.now s.requires.size
 
-mul-a : tie.Need-overflow-mul-a invariant-loop decreases-loop
+mul-a : tie.Need-overflow_mul-a invariant-loop decreases-loop
 mul-a c = search rules
 
-add-lesser : tie.Need-overflow-add-lesser invariant-loop decreases-loop
+add-lesser : tie.Need-overflow_add-a invariant-loop decreases-loop
 add-lesser c = search rules
 
-lesser-requires : tie.Need-lesser-requires invariant-loop decreases-loop
+lesser-requires : tie.Need-lesser-e-requires invariant-loop decreases-loop
 lesser-requires c κs = search rules
 
-mul-to : tie.Need-overflow-mul-to invariant-loop decreases-loop
+mul-to : tie.Need-overflow_mul-to invariant-loop decreases-loop
 mul-to c = search rules
 
-add-put-block : tie.Need-overflow-add-put-block invariant-loop decreases-loop
+add-put-block : tie.Need-overflow_add-to invariant-loop decreases-loop
 add-put-block c = search rules
 
-sub-put-block : tie.Need-overflow-sub-put-block invariant-loop decreases-loop
+sub-put-block : tie.Need-slice_bounds-put_block-count invariant-loop decreases-loop
 sub-put-block c = search rules
 
-part-put-block-start : tie.Need-slice-bounds-put-block-start invariant-loop decreases-loop
+part-put-block-start : tie.Need-slice_bounds-put_block-start invariant-loop decreases-loop
 part-put-block-start c = search rules
 
-part-put-block-end : tie.Need-slice-bounds-put-block-end invariant-loop decreases-loop
-part-put-block-end c = omega (arith, inside_at c, c.before.before.loop.invariant.size)
+part-put-block-end : tie.Need-slice_bounds-put_block-end invariant-loop decreases-loop
+part-put-block-end c = omega (arith, inside_at c, c.before.before.loop-i.invariant.size)
 
-add-put-block-2 : tie.Need-overflow-add-put-block-2 invariant-loop decreases-loop
+add-put-block-2 : tie.Need-overflow_add-i invariant-loop decreases-loop
 add-put-block-2 c = search rules
 
-sub-put-block-2 : tie.Need-overflow-sub-put-block-2 invariant-loop decreases-loop
+sub-put-block-2 : tie.Need-slice_bounds-put_block-count-in-loop-i invariant-loop decreases-loop
 sub-put-block-2 c = search rules
 
-part-put-block-start-2 : tie.Need-slice-bounds-put-block-start-2 invariant-loop decreases-loop
+part-put-block-start-2 : tie.Need-slice_bounds-put_block-start-in-loop-i invariant-loop decreases-loop
 part-put-block-start-2 c = search rules
 
-part-put-block-end-2 : tie.Need-slice-bounds-put-block-end-2 invariant-loop decreases-loop
+part-put-block-end-2 : tie.Need-slice_bounds-put_block-end-in-loop-i invariant-loop decreases-loop
 part-put-block-end-2 c = search rules
 
-put-block-requires : tie.Need-put-block-requires invariant-loop decreases-loop
+put-block-requires : tie.Need-put_block-requires invariant-loop decreases-loop
 put-block-requires c κs = search rules
 
-add-i : tie.Need-overflow-add-i invariant-loop decreases-loop
+add-i : tie.Need-overflow_add-i-in-loop-i invariant-loop decreases-loop
 add-i c = search rules
 
-loop-less : tie.Need-loop-smaller invariant-loop decreases-loop
+loop-less : tie.Need-loop-i-smaller invariant-loop decreases-loop
 loop-less c = search rules
 
-loop-again : tie.Need-loop-preserved invariant-loop decreases-loop
+loop-again : tie.Need-loop-i-preserved invariant-loop decreases-loop
 loop-again c =
     let made = c.before.before in
     let l = made.before.before.before in
-    putting_on l.before.before.loop.invariant (inside_at l) _ l.lesser.result l.lesser.ensures made.put-block.ensures
+    putting_on l.before.before.loop-i.invariant (inside_at l) _ l.lesser-e.result l.lesser-e.ensures made.put_block.ensures
 
-same_length : tie.Need-same-length invariant-loop decreases-loop
+same_length : tie.Need-shape_of-blocks invariant-loop decreases-loop
 same_length c = search rules
 
 returns : tie.Need-returns invariant-loop decreases-loop
-returns c = putting_ends c.before.loop.invariant (omega (arith, c.loop-test.false, c.before.before.blocks-for.ensures))
+returns c = putting_ends c.before.loop-i.invariant (omega (arith, c.loop-i-test.false, c.before.before.blocks_for-k.ensures))
 
-pub put-blocks-spec : {M : Type 1} → statement M
-put-blocks-spec =
+pub put_blocks_spec : {M : Type 1} → statement M
+put_blocks_spec =
     tie.close
     (tie.spec
     invariant-loop

@@ -5,31 +5,31 @@ use Rattle.shelf_write.proofs.Written.{file_put}
 use Rattle.shelf_write.proofs.put_file.Statement.{statement}
 use Rattle.shelf_write.proofs.put_file.Tie as tie
 
-sub-put-head : tie.Need-overflow-sub-put-head
+sub-put-head : tie.Need-slice_bounds-put_head-count
 sub-put-head c = search rules
 
-part-put-head-start : tie.Need-slice-bounds-put-head-start
+part-put-head-start : tie.Need-slice_bounds-put_head-start
 part-put-head-start c = search rules
 
-part-put-head-end : tie.Need-slice-bounds-put-head-end
+part-put-head-end : tie.Need-slice_bounds-put_head-end
 part-put-head-end c = search rules
 
-put-head-requires : tie.Need-put-head-requires
+put-head-requires : tie.Need-put_head-requires
 put-head-requires c κs = search rules
 
-sub-put-blocks : tie.Need-overflow-sub-put-blocks
+sub-put-blocks : tie.Need-slice_bounds-put_blocks-count
 sub-put-blocks c = search rules
 
-part-put-blocks-start : tie.Need-slice-bounds-put-blocks-start
+part-put-blocks-start : tie.Need-slice_bounds-put_blocks-start
 part-put-blocks-start c = search rules
 
-part-put-blocks-end : tie.Need-slice-bounds-put-blocks-end
+part-put-blocks-end : tie.Need-slice_bounds-put_blocks-end
 part-put-blocks-end c = search rules
 
-put-blocks-requires : tie.Need-put-blocks-requires
+put-blocks-requires : tie.Need-put_blocks-requires
 put-blocks-requires c κs = search rules
 
-same_length : tie.Need-same-length
+same_length : tie.Need-shape_of-file
 same_length c = search rules
 
 returns : tie.Need-returns
@@ -37,10 +37,10 @@ returns c =
     let rest = c.before.before in
     let head = rest.before.before.before.before in
     let a = head.before.before.before.before.args in
-    file_put (filed_as a.h a.bytes.now) a.file.now _ _ head.put-head.ensures rest.put-blocks.ensures
+    file_put (filed_as a.h a.bytes.now) a.file.now _ _ head.put_head.ensures rest.put_blocks.ensures
 
-pub put-file-spec : {M : Type 1} → statement M
-put-file-spec =
+pub put_file_spec : {M : Type 1} → statement M
+put_file_spec =
     tie.close
     (tie.spec
     sub-put-head

@@ -18,7 +18,7 @@ use Rattle.shelf_write.proofs.Written.{in_range, output_room, file_size_is, writ
 use Rattle.shelf_write.proofs.write.Statement.{statement}
 use Rattle.shelf_write.proofs.write.Tie as tie
 
-module _ (f : tie.After-refusal) where
+module _ (f : tie.After-refusal-wrong) where
   abbrev s : tie.Start
   s = f.before.before.before.before.before.before.before
 
@@ -39,49 +39,49 @@ module _ (f : tie.After-refusal) where
   own = output_row st (length output) ∷ []
 
 -- the bytes of a record that was let in
-bytes_at : (k : tie.After-struct-known) → (st k.before.before).len * (st k.before.before).unit < 2 ^ 32
-bytes_at k = let f = k.before.before in bytes_few (ranged (st f) (in_range (st f) (samples f) (levels f) f.refusal.ensures k.before.if1.false))
+bytes_at : (k : tie.After-struct_known-1) → (st k.before.before).len * (st k.before.before).unit < 2 ^ 32
+bytes_at k = let f = k.before.before in bytes_few (ranged (st f) (in_range (st f) (samples f) (levels f) f.refusal-wrong.ensures k.before.if-wrong-ne0.false))
 
-refusal-requires : tie.Need-refusal-requires
+refusal-requires : tie.Need-refusal-wrong-requires
 refusal-requires c κs = search rules
 
-returns : tie.Need-returns
+returns : tie.Need-returns-then-wrong-ne0
 returns c =
     let f = c.before in
-    writes_refused (st f) (samples f) (levels f) (output f) (rows_refuse (st f) (lent_of (samples f) (levels f)) (own f) f.refusal.ensures c.if1.true) c.if1.true
+    writes_refused (st f) (samples f) (levels f) (output f) (rows_refuse (st f) (lent_of (samples f) (levels f)) (own f) f.refusal-wrong.ensures c.if-wrong-ne0.true) c.if-wrong-ne0.true
 
-mul-file-size : tie.Need-overflow-mul-file-size
+mul-file-size : tie.Need-overflow_mul-c
 mul-file-size c = record { fits = omega (arith, bytes_at c) }
 
-file-size-requires : tie.Need-file-size-requires
+file-size-requires : tie.Need-file_size-size-requires
 file-size-requires c κs = omega (arith, bytes_at c)
 
-returns-2 : tie.Need-returns-2
+returns-2 : tie.Need-returns-then-output-size
 returns-2 c =
     let k = c.before in
     let f = k.before.before.before in
-    let h : length (output f) < file_len (heading_of (st f)) = subst (λ (x : ℕ). length (output f) < x) k.file-size.ensures c.if2.true in
+    let h : length (output f) < file_len (heading_of (st f)) = subst (λ (x : ℕ). length (output f) < x) k.file_size-size.ensures c.if-output-size.true in
     writes_refused (st f) (samples f) (levels f) (output f)
-    (rows_decide (st f) (lent_of (samples f) (levels f)) (own f) f.refusal.ensures k.before.before.if1.false 15 (simp (lt-ltb _ _ h))) (λ z. omega arith)
+    (rows_decide (st f) (lent_of (samples f) (levels f)) (own f) f.refusal-wrong.ensures k.before.before.if-wrong-ne0.false 15 (simp (lt-ltb _ _ h))) (λ z. omega arith)
 
-put-in-requires : tie.Need-put-in-requires
+put-in-requires : tie.Need-put_in-requires
 put-in-requires c κs =
     let k = c.before.before in
     let f = k.before.before.before in
-    output_room (st f) (samples f) (levels f) f.refusal.ensures k.before.before.if1.false k.file-size.ensures c.before.if2.false
+    output_room (st f) (samples f) (levels f) f.refusal-wrong.ensures k.before.before.if-wrong-ne0.false k.file_size-size.ensures c.before.if-output-size.false
 
-same_length : tie.Need-same-length
+same_length : tie.Need-shape_of-output
 same_length c = search rules
 
-returns-3 : tie.Need-returns-3
+returns-3 : tie.Need-returns
 returns-3 c =
     let put = c.before.before in
     let k = put.before.before.before in
     let f = k.before.before.before in
-    let h : file_len (heading_of (st f)) ≤ length (output f) = subst (λ (x : ℕ). x ≤ length (output f)) k.file-size.ensures put.before.before.if2.false in
+    let h : file_len (heading_of (st f)) ≤ length (output f) = subst (λ (x : ℕ). x ≤ length (output f)) k.file_size-size.ensures put.before.before.if-output-size.false in
     writes_done (st f) (samples f) (levels f) (output f)
-    (rows_decide (st f) (lent_of (samples f) (levels f)) (own f) f.refusal.ensures k.before.before.if1.false 0 (simp (le-ltb _ _ h))) refl
-    k.file-size.result k.file-size.ensures (file_size_is (st f) (samples f) (levels f) f.refusal.ensures k.before.before.if1.false) _ put.put_in.ensures
+    (rows_decide (st f) (lent_of (samples f) (levels f)) (own f) f.refusal-wrong.ensures k.before.before.if-wrong-ne0.false 0 (simp (le-ltb _ _ h))) refl
+    k.file_size-size.result k.file_size-size.ensures (file_size_is (st f) (samples f) (levels f) f.refusal-wrong.ensures k.before.before.if-wrong-ne0.false) _ put.put_in.ensures
 
 pub write_spec : {M : Type 1} → statement M
 write_spec =

@@ -9,41 +9,41 @@ use Rattle.store.proofs.append_samples.Statement.{statement}
 use Rattle.store.proofs.append_samples.Tie as tie
 
 -- the function's start, from where its slices are known
-abbrev start_at : tie.After-shared-slice-known → tie.Start
+abbrev start_at : tie.After-shared_slice_known-1 → tie.Start
 start_at p = p.before.before.before.before.before.before
 
-mul-e : tie.Need-overflow-mul-e
+mul-e : tie.Need-overflow_mul-e
 mul-e c = search rules
 
-mul-copy-at : tie.Need-overflow-mul-copy-at
+mul-copy-at : tie.Need-overflow_mul-len
 mul-copy-at c = search rules
 
-slice-aggregate-copy-at : tie.Need-slice-aggregate-copy-at
+slice-aggregate-copy-at : tie.Need-slice_bounds-copy_at-end
 slice-aggregate-copy-at c =
     let s = start_at c.before.before in
     sym (length-take-le _ s.args.bytes.now s.pre.bytes)
 
-copy-at-requires : tie.Need-copy-at-requires
+copy-at-requires : tie.Need-copy_at-requires
 copy-at-requires c κs =
     let s = start_at c.before.before in
     omega (arith, length-take-le _ s.args.bytes.now s.pre.bytes, s.pre.room.samples)
 
-rebuild-levels-requires : tie.Need-rebuild-levels-requires
+rebuild-levels-requires : tie.Need-rebuild_levels-requires
 rebuild-levels-requires c κs = search rules
 
-same_length : tie.Need-same-length
+same_length : tie.Need-shape_of-samples
 same_length c = search rules
 
-same-length-2 : tie.Need-same-length-2
+same-length-2 : tie.Need-shape_of-l1
 same-length-2 c = search rules
 
-same-length-3 : tie.Need-same-length-3
+same-length-3 : tie.Need-shape_of-l2
 same-length-3 c = search rules
 
-same-length-4 : tie.Need-same-length-4
+same-length-4 : tie.Need-shape_of-l3
 same-length-4 c = search rules
 
-same-length-5 : tie.Need-same-length-5
+same-length-5 : tie.Need-shape_of-l4
 same-length-5 c = search rules
 
 returns : tie.Need-returns
@@ -54,10 +54,10 @@ returns c =
     let y = lent.before.before.before.before.before.before.before in
     let s = start_at y.before.before.before in
     let a = s.args in
-    stored_first a.unitsize a.len a.n a.bytes.now a.samples.now (level_of a.l1.now a.l2.now a.l3.now a.l4.now) s.pre _ _ y.copy_at.ensures r.rebuild-levels.ensures
+    stored_first a.unitsize a.len a.n a.bytes.now a.samples.now (level_of a.l1.now a.l2.now a.l3.now a.l4.now) s.pre _ _ y.copy_at.ensures r.rebuild_levels.ensures
 
-pub append-samples-spec : {M : Type 1} → statement M
-append-samples-spec =
+pub append_samples_spec : {M : Type 1} → statement M
+append_samples_spec =
     tie.close
     (tie.spec
     mul-e

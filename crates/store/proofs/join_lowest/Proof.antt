@@ -11,54 +11,54 @@ use Rattle.store.proofs.join_lowest.Statement.{statement}
 use Rattle.store.proofs.join_lowest.Tie as tie
 
 -- the function's start
-abbrev start : tie.After-lesser → tie.Start
+abbrev start : tie.After-lesser-stop → tie.Start
 start c = c.before.before.before
 
 -- the chunk's part
-turn_at : (c : tie.After-lesser) → Turn (start c).args.unitsize (start c).args.len (start c).args.top (length (start c).args.samples.now) ((start c).args.len - (start c).args.len % chunk) c.lesser.result
+turn_at : (c : tie.After-lesser-stop) → Turn (start c).args.unitsize (start c).args.len (start c).args.top (length (start c).args.samples.now) ((start c).args.len - (start c).args.len % chunk) c.lesser-stop.result
 turn_at c =
     let s = start c in
     let a = s.args in
-    turn a.unitsize a.len a.top a.samples.now a.l1.now s.pre a.len _ c.lesser.result (le_refl a.len) s.pre.some refl c.lesser.ensures
+    turn a.unitsize a.len a.top a.samples.now a.l1.now s.pre a.len _ c.lesser-stop.result (le_refl a.len) s.pre.some refl c.lesser-stop.ensures
 
-sub-base : tie.Need-overflow-sub-base
+sub-base : tie.Need-overflow_sub-base
 sub-base c = search rules
 
-add-lesser : tie.Need-overflow-add-lesser
+add-lesser : tie.Need-overflow_add-base
 add-lesser c = search rules
 
-add-lesser-2 : tie.Need-overflow-add-lesser-2
+add-lesser-2 : tie.Need-overflow_add-top
 add-lesser-2 c = search rules
 
-lesser-requires : tie.Need-lesser-requires
+lesser-requires : tie.Need-lesser-stop-requires
 lesser-requires c κs = search rules
 
-mul-a : tie.Need-overflow-mul-a
+mul-a : tie.Need-overflow_mul-a
 mul-a c = omega (arith, turn_at c)
 
-mul-e : tie.Need-overflow-mul-e
+mul-e : tie.Need-overflow_mul-e
 mul-e c = omega (arith, turn_at c)
 
-sub-join-first : tie.Need-overflow-sub-join-first
+sub-join-first : tie.Need-slice_bounds-join_first-count
 sub-join-first c = omega (arith, turn_at c)
 
-part-join-first-start : tie.Need-slice-bounds-join-first-start
+part-join-first-start : tie.Need-slice_bounds-join_first-start
 part-join-first-start c = omega (arith, turn_at c)
 
-part-join-first-end : tie.Need-slice-bounds-join-first-end
+part-join-first-end : tie.Need-slice_bounds-join_first-end
 part-join-first-end c = omega (arith, turn_at c)
 
-sub-join-first-2 : tie.Need-overflow-sub-join-first-2
+sub-join-first-2 : tie.Need-overflow_sub-stop
 sub-join-first-2 c = omega (arith, turn_at c.before.before)
 
-join-first-requires : tie.Need-join-first-requires
+join-first-requires : tie.Need-join_first-requires
 join-first-requires c κs =
     let e = c.before.before in
     let s = start e in
     let a = s.args in
-    join_room a.unitsize a.len a.top a.samples.now a.l1.now s.pre a.len _ e.lesser.result (le_refl a.len) s.pre.some refl e.lesser.ensures _ _ refl refl
+    join_room a.unitsize a.len a.top a.samples.now a.l1.now s.pre a.len _ e.lesser-stop.result (le_refl a.len) s.pre.some refl e.lesser-stop.ensures _ _ refl refl
 
-same_length : tie.Need-same-length
+same_length : tie.Need-shape_of-l1
 same_length c = search rules
 
 returns : tie.Need-returns
@@ -66,10 +66,10 @@ returns c =
     let j = c.before.before in
     let e = j.before.before.before in
     let a = (start e).args in
-    part_joins a.unitsize a.len a.top _ e.lesser.result a.samples.now (turn_at e) a.l1.now _ _ j.join_first.ensures
+    part_joins a.unitsize a.len a.top _ e.lesser-stop.result a.samples.now (turn_at e) a.l1.now _ _ j.join_first.ensures
 
-pub join-lowest-spec : {M : Type 1} → statement M
-join-lowest-spec =
+pub join_lowest_spec : {M : Type 1} → statement M
+join_lowest_spec =
     tie.close
     (tie.spec
     sub-base

@@ -15,77 +15,77 @@ use Rattle.store.proofs.rebuild_levels.Statement.{statement}
 use Rattle.store.proofs.rebuild_levels.Tie as tie
 
 -- ---- once it is known that there are samples: the start, and the room of each call
-abbrev start : tie.Else1 → tie.Start
+abbrev start : tie.Else-n-eq0 → tie.Start
 start c = c.before.before.before.before.before.before
 
-abbrev levels : tie.Else1 → ℕ → List ℕ
+abbrev levels : tie.Else-n-eq0 → ℕ → List ℕ
 levels c = let a = (start c).args in level_of a.l1.now a.l2.now a.l3.now a.l4.now
 
-abbrev top : tie.Else1 → ℕ
+abbrev top : tie.Else-n-eq0 → ℕ
 top c = (start c).args.len + (start c).args.n - 1
 
-chunks_at : (c : tie.Else1) (from x : ℕ) → from ≤ top c → x ≡ length (levels c 1) → ChunksRoom (start c).args.unitsize from (top c) (length (start c).args.samples.now) x
-chunks_at c = let a = (start c).args in chunks_room a.unitsize a.len a.n (length a.samples.now) (levels c) (start c).requires c.if1.false
+chunks_at : (c : tie.Else-n-eq0) (from x : ℕ) → from ≤ top c → x ≡ length (levels c 1) → ChunksRoom (start c).args.unitsize from (top c) (length (start c).args.samples.now) x
+chunks_at c = let a = (start c).args in chunks_room a.unitsize a.len a.n (length a.samples.now) (levels c) (start c).requires c.if-n-eq0.false
 
-node_at : (c : tie.Else1) (l : ℕ) → 1 ≤ l → l ≤ top_level → (x : ℕ) → x ≡ length (levels c l) → NodeRoom l (start c).args.len x
-node_at c = let a = (start c).args in node_room a.unitsize a.len a.n (length a.samples.now) (levels c) (start c).requires c.if1.false
+node_at : (c : tie.Else-n-eq0) (l : ℕ) → 1 ≤ l → l ≤ top_level → (x : ℕ) → x ≡ length (levels c l) → NodeRoom l (start c).args.len x
+node_at c = let a = (start c).args in node_room a.unitsize a.len a.n (length a.samples.now) (levels c) (start c).requires c.if-n-eq0.false
 
-up_at : (c : tie.Else1) (l : ℕ) → 1 ≤ l → l < top_level → (x y : ℕ) → x ≡ length (levels c l) → y ≡ length (levels c (suc l)) → RaiseRoom l (start c).args.len (top c) x y
-up_at c = let a = (start c).args in up_room a.unitsize a.len a.n (length a.samples.now) (levels c) (start c).requires c.if1.false
+up_at : (c : tie.Else-n-eq0) (l : ℕ) → 1 ≤ l → l < top_level → (x y : ℕ) → x ≡ length (levels c l) → y ≡ length (levels c (suc l)) → RaiseRoom l (start c).args.len (top c) x y
+up_at c = let a = (start c).args in up_room a.unitsize a.len a.n (length a.samples.now) (levels c) (start c).requires c.if-n-eq0.false
 
 -- the same place, from the two sides of the second test
-abbrev one : tie.Then2 → tie.Else1
+abbrev one : tie.Then-len-top → tie.Else-n-eq0
 one c = c.before.before.before.before.before
 
-abbrev more : tie.Else2 → tie.Else1
+abbrev more : tie.Else-len-top → tie.Else-n-eq0
 more c = c.before.before.before.before.before
 
 -- and from the first call above level 1
-abbrev above : tie.After-rebuild-above → tie.Else1
+abbrev above : tie.After-rebuild_above-second → tie.Else-n-eq0
 above r = more r.before.before.before.before.before.before.before
 
 -- ---- no samples
-returns : tie.Need-returns
+returns : tie.Need-returns-then-n-eq0
 returns c =
     let a = c.before.before.before.before.before.before.args in
-    levels_none a.unitsize a.len a.n a.samples.now (level_of a.l1.now a.l2.now a.l3.now a.l4.now) c.if1.true
+    levels_none a.unitsize a.len a.n a.samples.now (level_of a.l1.now a.l2.now a.l3.now a.l4.now) c.if-n-eq0.true
 
-add-top : tie.Need-overflow-add-top
+add-top : tie.Need-overflow_add-top
 add-top c = search rules
 
-sub-top : tie.Need-overflow-sub-top
+sub-top : tie.Need-overflow_sub-top
 sub-top c = search rules
 
-join-lowest-requires : tie.Need-join-lowest-requires
+join-lowest-requires : tie.Need-join_lowest-first-requires
 unfolding level_of
-join-lowest-requires c κs = let i = c.before in chunks_at i (start i).args.len _ (omega (arith, i.if1.false)) (omega arith)
+join-lowest-requires c κs = let i = c.before in chunks_at i (start i).args.len _ (omega (arith, i.if-n-eq0.false)) (omega arith)
 
 -- ---- all in one node of level 1
-put-running-requires : tie.Need-put-running-requires
+put-running-requires : tie.Need-put_running-requires
 unfolding level_of
 put-running-requires c κs = node_at (one c.before) 2 (lit≤ tt) (lit≤ tt) _ (omega arith)
 
-put-running-requires-2 : tie.Need-put-running-requires-2
+put-running-requires-2 : tie.Need-put_running-requires-then-len-top
 unfolding level_of
 put-running-requires-2 c κs = node_at (one c.before.before.before.before.before) 3 (lit≤ tt) (lit≤ tt) _ (omega arith)
 
-put-running-requires-3 : tie.Need-put-running-requires-3
+put-running-requires-3 : tie.Need-put_running-requires-then-len-top-2
 unfolding level_of
 put-running-requires-3 c κs = let p2 = c.before.before.before.before.before.before.before in node_at (one p2.before.before) 4 (lit≤ tt) (lit≤ tt) _ (omega arith)
 
-same_length : tie.Need-same-length
+same_length : tie.Need-shape_of-l1-then-len-top
 same_length c = search rules
 
-same-length-2 : tie.Need-same-length-2
+same-length-2 : tie.Need-shape_of-l2-then-len-top
 same-length-2 c = search rules
 
-same-length-3 : tie.Need-same-length-3
+same-length-3 : tie.Need-shape_of-l3-then-len-top
 same-length-3 c = search rules
 
-same-length-4 : tie.Need-same-length-4
+same-length-4 : tie.Need-shape_of-l4-then-len-top
 same-length-4 c = search rules
 
-returns-2 : tie.Need-returns-2
+returns-2 : tie.Need-returns-then-len-top
 returns-2 c =
     let p4 = c.before.before in
     let p3 = p4.before.before.before.before in
@@ -93,54 +93,54 @@ returns-2 c =
     let i = p2.before.before in
     let j = i.before.before.before in
     let a = (start (one i)).args in
-    levels_one a.unitsize a.len a.n a.samples.now (one i).if1.false a.l1.now a.l2.now a.l3.now a.l4.now _ _ _ _ _ i.if2.true
-    j.join-lowest.ensures p2.put_running_lem.ensures p3.put-running2.ensures p4.put-running3.ensures
+    levels_one a.unitsize a.len a.n a.samples.now (one i).if-n-eq0.false a.l1.now a.l2.now a.l3.now a.l4.now _ _ _ _ _ i.if-len-top.true
+    j.join_lowest-first.ensures p2.put_running.ensures p3.put_running-then-len-top.ensures p4.put_running-then-len-top-2.ensures
 
 -- ---- in more than one
-mul-rebuild-chunks : tie.Need-overflow-mul-rebuild-chunks
+mul-rebuild-chunks : tie.Need-overflow_mul-len
 mul-rebuild-chunks c = search rules
 
-add-rebuild-chunks : tie.Need-overflow-add-rebuild-chunks
+add-rebuild-chunks : tie.Need-overflow_add-len
 add-rebuild-chunks c = search rules
 
-rebuild-chunks-requires : tie.Need-rebuild-chunks-requires
+rebuild-chunks-requires : tie.Need-rebuild_chunks-requires
 unfolding level_of
 rebuild-chunks-requires c κs =
     let i = c.before in
     let e = more i in
-    (omega arith, chunks_at e _ _ (omega (arith, i.if2.false, e.if1.left)) (omega arith))
+    (omega arith, chunks_at e _ _ (omega (arith, i.if-len-top.false, e.if-n-eq0.left)) (omega arith))
 
-rebuild-above-requires : tie.Need-rebuild-above-requires
+rebuild-above-requires : tie.Need-rebuild_above-second-requires
 unfolding level_of
 rebuild-above-requires c κs = up_at (more c.before.before.before.before.before.before) 1 (lit≤ tt) (lit≤ tt) _ _ (omega arith) (omega arith)
 
-rebuild-above-requires-2 : tie.Need-rebuild-above-requires-2
+rebuild-above-requires-2 : tie.Need-rebuild_above-third-requires
 unfolding level_of
 rebuild-above-requires-2 c κs = up_at (above c.before.before.before.before) 2 (lit≤ tt) (lit≤ tt) _ _ (omega arith) (omega arith)
 
-rebuild-above-requires-3 : tie.Need-rebuild-above-requires-3
+rebuild-above-requires-3 : tie.Need-rebuild_above-requires
 unfolding level_of
 rebuild-above-requires-3 c κs =
     let r3 = c.before.before.before.before in
     up_at (above r3.before.before.before.before.before) 3 (lit≤ tt) (lit≤ tt) _ _ (omega arith) (omega arith)
 
-same-length-5 : tie.Need-same-length-5
+same-length-5 : tie.Need-shape_of-l1
 same-length-5 c =
     let r3 = c.before.before.before.before.before.before.before in
     let r2 = r3.before.before.before.before.before in
     let m = r2.before.before.before.before in
-    m.l12.given ∙ m.before.before.before.before.before.l1.given
+    m.l1-2-1.given ∙ m.before.before.before.before.before.l1-1.given
 
-same-length-6 : tie.Need-same-length-6
+same-length-6 : tie.Need-shape_of-l2
 same-length-6 c = search rules
 
-same-length-7 : tie.Need-same-length-7
+same-length-7 : tie.Need-shape_of-l3
 same-length-7 c = search rules
 
-same-length-8 : tie.Need-same-length-8
+same-length-8 : tie.Need-shape_of-l4
 same-length-8 c = search rules
 
-returns-3 : tie.Need-returns-3
+returns-3 : tie.Need-returns
 returns-3 c =
     let r4 = c.before.before in
     let r3 = r4.before.before.before.before.before in
@@ -149,11 +149,11 @@ returns-3 c =
     let i = k.before.before in
     let j = i.before.before.before in
     let a = (start (more i)).args in
-    levels_more a.unitsize a.len a.n a.samples.now (more i).if1.false a.l1.now a.l2.now a.l3.now a.l4.now _ _ _ _ _ _ _ _ _
-    j.join-lowest.ensures k.rebuild-chunks.ensures r2.rebuild-above.ensures r3.rebuild-above2.ensures r4.rebuild-above3.ensures
+    levels_more a.unitsize a.len a.n a.samples.now (more i).if-n-eq0.false a.l1.now a.l2.now a.l3.now a.l4.now _ _ _ _ _ _ _ _ _
+    j.join_lowest-first.ensures k.rebuild_chunks.ensures r2.rebuild_above-second.ensures r3.rebuild_above-third.ensures r4.rebuild_above.ensures
 
-pub rebuild-levels-spec : {M : Type 1} → statement M
-rebuild-levels-spec =
+pub rebuild_levels_spec : {M : Type 1} → statement M
+rebuild_levels_spec =
     tie.close
     (tie.spec
     returns

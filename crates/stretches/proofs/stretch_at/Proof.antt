@@ -6,33 +6,33 @@ use Rattle.stretches.proofs.Listed.{passed_lies}
 use Rattle.stretches.proofs.stretch_at.Statement.{statement}
 use Rattle.stretches.proofs.stretch_at.Tie as tie
 
-mul-first : tie.Need-overflow-mul-first
+mul-first : tie.Need-overflow_mul-first
 mul-first c = search rules
 
-mul-first-2 : tie.Need-overflow-mul-first-2
+mul-first-2 : tie.Need-offset_bounds-list-j
 mul-first-2 c = search rules
 
-shared-slice-read-first : tie.Need-shared-slice-read-first
+shared-slice-read-first : tie.Need-bounds-list-j
 shared-slice-read-first c = search rules
 
-mul-count : tie.Need-overflow-mul-count
+mul-count : tie.Need-overflow_mul-count
 mul-count c = search rules
 
-add-count : tie.Need-overflow-add-count
+add-count : tie.Need-overflow_add-count
 add-count c = search rules
 
-mul-count-2 : tie.Need-overflow-mul-count-2
+mul-count-2 : tie.Need-offset_bounds-list-j-2
 mul-count-2 c = search rules
 
-shared-slice-read-count : tie.Need-shared-slice-read-count
+shared-slice-read-count : tie.Need-bounds-list-j-2
 shared-slice-read-count c = search rules
 
-add-t6 : tie.Need-overflow-add-t6
+add-t6 : tie.Need-overflow_add-result
 add-t6 c = let s = c.before.before in omega (arith, (passed_lies s.args.len s.args.list.now s.args.j s.requires.0 s.requires.2).inside, s.requires.1)
 
 returns : tie.Need-returns
 returns c = (refl, refl)
 
-pub stretch-at-spec : {M : Type 1} → statement M
-stretch-at-spec =
+pub stretch_at_spec : {M : Type 1} → statement M
+stretch_at_spec =
     tie.close (tie.spec mul-first mul-first-2 shared-slice-read-first mul-count add-count mul-count-2 shared-slice-read-count add-t6 returns)

@@ -10,76 +10,76 @@ use Rattle.stretches.proofs.Listed.{Going, going_starts, going_stops, going_on, 
 use Rattle.stretches.proofs.wrong.Statement.{statement}
 use Rattle.stretches.proofs.wrong.Tie as tie
 
-abbrev invariant-loop : tie.invariant-loop
+abbrev invariant-loop : tie.invariant-loop-i
 invariant-loop list len n least₀ i₀ least i = Going len list least i
 
-abbrev decreases-loop : tie.decreases-loop
+abbrev decreases-loop : tie.decreases-loop-i
 decreases-loop list len n least₀ i₀ least i = n - i
 
 -- a turn's stretch is in the list, whose count is even
-inside : (t : tie.In-loop invariant-loop decreases-loop) → 2 * t.before.loop.i + 1 < length t.before.before.before.before.args.list.now
-inside t = let n = length t.before.before.before.before.args.list.now in omega (arith, t.loop-test.true, div-add-mod' n 2)
+inside : (t : tie.In-loop-i invariant-loop decreases-loop) → 2 * t.before.loop-i.i + 1 < length t.before.before.before.before.args.list.now
+inside t = let n = length t.before.before.before.before.args.list.now in omega (arith, t.loop-i-test.true, div-add-mod' n 2)
 
 -- the others follow it
-on : (c : tie.Else2 invariant-loop decreases-loop) → let t = c.before.before.before.before in let a = t.before.before.before.before.args in let s = stretch_at a.list.now t.before.loop.i in Going a.len a.list.now (s.first + s.count + 1) (t.before.loop.i + 1)
-on c = let t = c.before.before.before.before in going_on _ _ t.before.loop.invariant (inside t) (sym c.before.outside.ensures ∙ c.if2.false)
+on : (c : tie.Else-outside invariant-loop decreases-loop) → let t = c.before.before.before.before in let a = t.before.before.before.before.args in let s = stretch_at a.list.now t.before.loop-i.i in Going a.len a.list.now (s.first + s.count + 1) (t.before.loop-i.i + 1)
+on c = let t = c.before.before.before.before in going_on _ _ t.before.loop-i.invariant (inside t) (sym c.before.outside.ensures ∙ c.if-outside.false)
 
-returns : tie.Need-returns invariant-loop decreases-loop
-returns c = let a = c.before.before.args in odd_wrong a.len a.list.now c.if1.true
+returns : tie.Need-returns-then-list-eq1 invariant-loop decreases-loop
+returns c = let a = c.before.before.args in odd_wrong a.len a.list.now c.if-list-eq1.true
 
-loop-holds : tie.Need-loop-init invariant-loop decreases-loop
+loop-holds : tie.Need-loop-i-init invariant-loop decreases-loop
 loop-holds c = let a = c.before.before.args in going_starts a.len a.list.now
 
-mul-first : tie.Need-overflow-mul-first invariant-loop decreases-loop
+mul-first : tie.Need-overflow_mul-first invariant-loop decreases-loop
 mul-first c = search rules
 
-mul-first-2 : tie.Need-overflow-mul-first-2 invariant-loop decreases-loop
+mul-first-2 : tie.Need-offset_bounds-list-i invariant-loop decreases-loop
 mul-first-2 c = search rules
 
-shared-slice-read-first : tie.Need-shared-slice-read-first invariant-loop decreases-loop
+shared-slice-read-first : tie.Need-bounds-list-i invariant-loop decreases-loop
 shared-slice-read-first c = search rules
 
-mul-count : tie.Need-overflow-mul-count invariant-loop decreases-loop
+mul-count : tie.Need-overflow_mul-count invariant-loop decreases-loop
 mul-count c = search rules
 
-add-count : tie.Need-overflow-add-count invariant-loop decreases-loop
+add-count : tie.Need-overflow_add-count invariant-loop decreases-loop
 add-count c = search rules
 
-mul-count-2 : tie.Need-overflow-mul-count-2 invariant-loop decreases-loop
+mul-count-2 : tie.Need-offset_bounds-list-i-in-loop-i invariant-loop decreases-loop
 mul-count-2 c = search rules
 
-shared-slice-read-count : tie.Need-shared-slice-read-count invariant-loop decreases-loop
+shared-slice-read-count : tie.Need-bounds-list-i-in-loop-i invariant-loop decreases-loop
 shared-slice-read-count c = search rules
 
 outside-requires : tie.Need-outside-requires invariant-loop decreases-loop
 outside-requires c κs = search rules
 
-returns-2 : tie.Need-returns-2 invariant-loop decreases-loop
-returns-2 c = let t = c.before.before.before.before in going_stops _ _ t.before.loop.invariant (inside t) (sym c.before.outside.ensures ∙ c.if2.true)
+returns-2 : tie.Need-returns-then-outside invariant-loop decreases-loop
+returns-2 c = let t = c.before.before.before.before in going_stops _ _ t.before.loop-i.invariant (inside t) (sym c.before.outside.ensures ∙ c.if-outside.true)
 
-add-least : tie.Need-overflow-add-least invariant-loop decreases-loop
+add-least : tie.Need-overflow_add-least invariant-loop decreases-loop
 add-least c = omega (arith, (on c).small, c.before.before.before.before.before.before.before.before.requires)
 
-add-least-2 : tie.Need-overflow-add-least-2 invariant-loop decreases-loop
+add-least-2 : tie.Need-overflow_add-least-in-loop-i invariant-loop decreases-loop
 add-least-2 c = omega (arith, (on c).small, c.before.before.before.before.before.before.before.before.requires)
 
-add-i : tie.Need-overflow-add-i invariant-loop decreases-loop
+add-i : tie.Need-overflow_add-i invariant-loop decreases-loop
 add-i c = search rules
 
-loop-less : tie.Need-loop-smaller invariant-loop decreases-loop
+loop-less : tie.Need-loop-i-smaller invariant-loop decreases-loop
 loop-less c = search rules
 
-loop-again : tie.Need-loop-preserved invariant-loop decreases-loop
+loop-again : tie.Need-loop-i-preserved invariant-loop decreases-loop
 loop-again c = on c
 
-returns-3 : tie.Need-returns-3 invariant-loop decreases-loop
+returns-3 : tie.Need-returns invariant-loop decreases-loop
 returns-3 c =
     let s = c.before.before.before.before in
     let n = length s.args.list.now in
-    going_ends s.args.len s.args.list.now c.before.loop.invariant (omega (arith, c.loop-test.false, div-add-mod' n 2)) c.before.before.if1.false
+    going_ends s.args.len s.args.list.now c.before.loop-i.invariant (omega (arith, c.loop-i-test.false, div-add-mod' n 2)) c.before.before.if-list-eq1.false
 
-pub wrong-spec : {M : Type 1} → statement M
-wrong-spec =
+pub wrong_spec : {M : Type 1} → statement M
+wrong_spec =
     tie.close
     (tie.spec
     invariant-loop

@@ -9,50 +9,50 @@ use Rattle.summary.proofs.Gather.{Gathered, gathered_none, gathered_on, gathered
 use Rattle.summary.proofs.chunk_summary.Statement.{statement}
 use Rattle.summary.proofs.chunk_summary.Tie as tie
 
-abbrev invariant-loop : tie.invariant-loop
+abbrev invariant-loop : tie.invariant-loop-pos
 invariant-loop part l1 l2 l3 l4 unitsize base a b counted acc₀ pos₀ acc pos = Gathered (step_node (level_of l1 l2 l3 l4) (part_sample unitsize part base)) step_end counted a b (as_node acc) pos
 
-abbrev decreases-loop : tie.decreases-loop
+abbrev decreases-loop : tie.decreases-loop-pos
 decreases-loop part l1 l2 l3 l4 unitsize base a b counted acc₀ pos₀ acc pos = b - pos
 
 -- the function's start, from the loop's head
-abbrev start_at : tie.At-loop invariant-loop decreases-loop → tie.Start invariant-loop decreases-loop
+abbrev start_at : tie.At-loop-pos invariant-loop decreases-loop → tie.Start invariant-loop decreases-loop
 start_at p =
     let known = p.before.before in
     known.before.before.before.before.before
 
-leaf-requires : tie.Need-leaf-requires invariant-loop decreases-loop
+leaf-requires : tie.Need-leaf-acc-requires invariant-loop decreases-loop
 leaf-requires c κs = search rules
 
-loop-holds : tie.Need-loop-init invariant-loop decreases-loop
+loop-holds : tie.Need-loop-pos-init invariant-loop decreases-loop
 loop-holds c = gathered_none _ _ _ _ _ _
 
-first-piece-requires : tie.Need-first-piece-requires invariant-loop decreases-loop
+first-piece-requires : tie.Need-first_piece-q-requires invariant-loop decreases-loop
 first-piece-requires c κs =
     let s = start_at c.before in
-    (s.pre.0, omega (arith, s.pre, c.before.loop.invariant.from), c.loop-test.true)
+    (s.pre.0, omega (arith, s.pre, c.before.loop-pos.invariant.from), c.loop-pos-test.true)
 
-gathered-requires : tie.Need-gathered-requires invariant-loop decreases-loop
+gathered-requires : tie.Need-gathered-acc-requires invariant-loop decreases-loop
 gathered-requires c κs = search rules
 
-loop-less : tie.Need-loop-smaller invariant-loop decreases-loop
-loop-less c = omega (arith, c.before.first_piece.ensures.more, c.before.before.loop-test.true)
+loop-less : tie.Need-loop-pos-smaller invariant-loop decreases-loop
+loop-less c = omega (arith, c.before.first_piece-q.ensures.more, c.before.before.loop-pos-test.true)
 
-loop-again : tie.Need-loop-preserved invariant-loop decreases-loop
+loop-again : tie.Need-loop-pos-preserved invariant-loop decreases-loop
 loop-again c =
     let a = (start_at c.before.before.before).args in
-    let l = c.before.before.before.loop in
-    let f = c.before.first_piece in
-    gathered_on (step_node (level_of a.l1.now a.l2.now a.l3.now a.l4.now) (part_sample a.unitsize a.part.now a.base)) step_end a.counted a.a a.b (as_node l.acc) l.pos (as_node f.result.node) (as_node c.gathered.result) f.result.end
-    l.invariant c.before.before.loop-test.true f.ensures.node_is f.ensures.end_is f.ensures.more f.ensures.upto c.gathered.ensures
+    let l = c.before.before.before.loop-pos in
+    let f = c.before.first_piece-q in
+    gathered_on (step_node (level_of a.l1.now a.l2.now a.l3.now a.l4.now) (part_sample a.unitsize a.part.now a.base)) step_end a.counted a.a a.b (as_node l.acc) l.pos (as_node f.result.node) (as_node c.gathered-acc.result) f.result.end
+    l.invariant c.before.before.loop-pos-test.true f.ensures.node_is f.ensures.end_is f.ensures.more f.ensures.upto c.gathered-acc.ensures
 
 returns : tie.Need-returns invariant-loop decreases-loop
 unfolding chunk_node
 returns c =
     let s = start_at c.before in
     let a = s.args in
-    let l = c.before.loop in
-    gathered_ends (step_node (level_of a.l1.now a.l2.now a.l3.now a.l4.now) (part_sample a.unitsize a.part.now a.base)) step_end a.counted a.a a.b (as_node l.acc) l.pos s.pre.2 l.invariant c.loop-test.false
+    let l = c.before.loop-pos in
+    gathered_ends (step_node (level_of a.l1.now a.l2.now a.l3.now a.l4.now) (part_sample a.unitsize a.part.now a.base)) step_end a.counted a.a a.b (as_node l.acc) l.pos s.pre.2 l.invariant c.loop-pos-test.false
 
-pub chunk-summary-spec : {M : Type 1} → statement M
-chunk-summary-spec = tie.close (tie.spec invariant-loop decreases-loop leaf-requires loop-holds first-piece-requires gathered-requires loop-less loop-again returns)
+pub chunk_summary_spec : {M : Type 1} → statement M
+chunk_summary_spec = tie.close (tie.spec invariant-loop decreases-loop leaf-requires loop-holds first-piece-requires gathered-requires loop-less loop-again returns)

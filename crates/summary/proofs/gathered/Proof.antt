@@ -10,15 +10,15 @@ use Rattle.summary.proofs.gathered.Tie as tie
 join-requires : tie.Need-join-requires
 join-requires c κs = search rules
 
-returns : tie.Need-returns
+returns : tie.Need-returns-then-started
 returns c =
     let a = c.before.before.args in
-    c.join.ensures ∙ sym (ap (λ (b : Bool). gathered b (as_node a.acc) (as_node a.n)) c.before.if1.true)
+    c.join.ensures ∙ sym (ap (λ (b : Bool). gathered b (as_node a.acc) (as_node a.n)) c.before.if-started.true)
 
-returns-2 : tie.Need-returns-2
+returns-2 : tie.Need-returns
 returns-2 c =
     let a = c.before.args in
-    sym (ap (λ (b : Bool). gathered b (as_node a.acc) (as_node a.n)) c.if1.false)
+    sym (ap (λ (b : Bool). gathered b (as_node a.acc) (as_node a.n)) c.if-started.false)
 
-pub gathered-spec : {M : Type 1} → statement M
-gathered-spec = tie.close (tie.spec join-requires returns returns-2)
+pub gathered_spec : {M : Type 1} → statement M
+gathered_spec = tie.close (tie.spec join-requires returns returns-2)

@@ -5,17 +5,17 @@ use Rattle.capture.proofs.Answer.{let_in, refused_is, given_is}
 use Rattle.summary.proofs.summary.Statement.{statement}
 use Rattle.summary.proofs.summary.Tie as tie
 
-refusal-requires : tie.Need-refusal-requires
+refusal-requires : tie.Need-refusal-n-requires
 refusal-requires c κs = search rules
 
-returns : tie.Need-returns
-returns c = refused_is _ c.before.refusal.ensures c.if1.true
+returns : tie.Need-returns-then-n-ne0
+returns c = refused_is _ c.before.refusal-n.ensures c.if-n-ne0.true
 
-summed-in-requires : tie.Need-summed-in-requires
-summed-in-requires c κs = let_in c.before.refusal.ensures c.if1.false
+summed-in-requires : tie.Need-summed_in-requires
+summed-in-requires c κs = let_in c.before.refusal-n.ensures c.if-n-ne0.false
 
-returns-2 : tie.Need-returns-2
-returns-2 c = c.summed-in.ensures ∙ given_is _ c.before.before.refusal.ensures c.before.if1.false refl
+returns-2 : tie.Need-returns
+returns-2 c = c.summed_in.ensures ∙ given_is _ c.before.before.refusal-n.ensures c.before.if-n-ne0.false refl
 
-pub summary-spec : {M : Type 1} → statement M
-summary-spec = tie.close (tie.spec refusal-requires returns summed-in-requires returns-2)
+pub summary_spec : {M : Type 1} → statement M
+summary_spec = tie.close (tie.spec refusal-requires returns summed-in-requires returns-2)

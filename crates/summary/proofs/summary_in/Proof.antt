@@ -25,10 +25,10 @@ module _ (levels : ℕ → List ℕ) (s : ℕ → ℕ) (a b : ℕ) (c : Bool) (n
   unfolding summed
   long h e = told_on c n (by_levels levels s a b) (summed levels s a b) e (sym (ap (λ (t : Bool). cond t (node_of s a b) (by_levels levels s a b)) (lt-leb (b - a) 64 h)))
 
-sub-if1 : tie.Need-overflow-sub-if1
+sub-if1 : tie.Need-overflow_sub-b
 sub-if1 c = search rules
 
-raw-node-requires : tie.Need-raw-node-requires
+raw-node-requires : tie.Need-raw_node-requires
 raw-node-requires c κs =
     let s = c.before.before.before.before.before.before in
     let p = s.requires in
@@ -39,18 +39,18 @@ raw-node-requires c κs =
       room = omega (arith, p.sound.samples, mul-le-mul_right {m = a.b} {n = a.c.capacity} a.c.unitsize (omega (arith, p.stored, p.sound.len_most)));
     }
 
-returns : tie.Need-returns
+returns : tie.Need-returns-then-b-a-le-SHORT
 returns c =
     let a = c.before.before.before.before.before.before.before.args in
-    short (level_of a.l1.now a.l2.now a.l3.now a.l4.now) (sample_of a.c.unitsize a.samples.now) a.a a.b a.counted _ c.before.if1.true c.raw-node.ensures
+    short (level_of a.l1.now a.l2.now a.l3.now a.l4.now) (sample_of a.c.unitsize a.samples.now) a.a a.b a.counted _ c.before.if-b-a-le-SHORT.true c.raw_node.ensures
 
-by-levels-requires : tie.Need-by-levels-requires
+by-levels-requires : tie.Need-by_levels-requires
 by-levels-requires c κs = search rules
 
-returns-2 : tie.Need-returns-2
+returns-2 : tie.Need-returns
 returns-2 c =
     let a = c.before.before.before.before.before.before.before.args in
-    long (level_of a.l1.now a.l2.now a.l3.now a.l4.now) (sample_of a.c.unitsize a.samples.now) a.a a.b a.counted _ c.before.if1.false c.by-levels.ensures
+    long (level_of a.l1.now a.l2.now a.l3.now a.l4.now) (sample_of a.c.unitsize a.samples.now) a.a a.b a.counted _ c.before.if-b-a-le-SHORT.false c.by_levels.ensures
 
-pub summary-in-spec : {M : Type 1} → statement M
-summary-in-spec = tie.close (tie.spec sub-if1 raw-node-requires returns by-levels-requires returns-2)
+pub summary_in_spec : {M : Type 1} → statement M
+summary_in_spec = tie.close (tie.spec sub-if1 raw-node-requires returns by-levels-requires returns-2)

@@ -12,45 +12,45 @@ use Rattle.summary.proofs.Laws.{chunk_room, chunk_part}
 use Rattle.summary.proofs.summary_of_chunk.Statement.{statement}
 use Rattle.summary.proofs.summary_of_chunk.Tie as tie
 
-mul-base : tie.Need-overflow-mul-base
+mul-base : tie.Need-overflow_mul-base
 mul-base c = omega arith
 
-mul-from : tie.Need-overflow-mul-from
+mul-from : tie.Need-overflow_mul-from
 mul-from c =
     let s = c.before.before.before.before.before in
     let a = s.args in
     let p = s.requires in
     omega (arith, s.well-formed, stored (store_of a.c) a.samples.now (level_of a.l1.now a.l2.now a.l3.now a.l4.now) p.sound (a.pos / chunk * chunk) (omega (arith, p.order, p.stored)))
 
-mul-to : tie.Need-overflow-mul-to
+mul-to : tie.Need-overflow_mul-to
 mul-to c =
     let s = c.before.before.before.before.before in
     let a = s.args in
     let p = s.requires in
     omega (arith, s.well-formed, stored (store_of a.c) a.samples.now (level_of a.l1.now a.l2.now a.l3.now a.l4.now) p.sound a.end p.stored)
 
-sub-chunk-summary : tie.Need-overflow-sub-chunk-summary
+sub-chunk-summary : tie.Need-slice_bounds-chunk_summary-count
 sub-chunk-summary c =
     let s = c.before.before.before.before.before in
     let a = s.args in
     let p = s.requires in
     mul-le-mul_right {m = a.pos / chunk * chunk} {n = a.end} a.c.unitsize (omega (arith, p.order))
 
-part-chunk-summary-start : tie.Need-slice-bounds-chunk-summary-start
+part-chunk-summary-start : tie.Need-slice_bounds-chunk_summary-start
 part-chunk-summary-start c =
     let s = c.before.before.before.before.before in
     let a = s.args in
     let p = s.requires in
     mul-le-mul_right {m = a.pos / chunk * chunk} {n = a.end} a.c.unitsize (omega (arith, p.order))
 
-part-chunk-summary-end : tie.Need-slice-bounds-chunk-summary-end
+part-chunk-summary-end : tie.Need-slice_bounds-chunk_summary-end
 part-chunk-summary-end c =
     let s = c.before.before.before.before.before in
     let a = s.args in
     let p = s.requires in
     stored (store_of a.c) a.samples.now (level_of a.l1.now a.l2.now a.l3.now a.l4.now) p.sound a.end p.stored
 
-chunk-summary-requires : tie.Need-chunk-summary-requires
+chunk-summary-requires : tie.Need-chunk_summary-requires
 unfolding part_of
 chunk-summary-requires c κs =
     let s = c.before.before.before.before.before.before in
@@ -64,8 +64,8 @@ returns c =
     let s = c.before.before.before.before.before.before.before in
     let a = s.args in
     let p = s.requires in
-    told_on a.counted _ _ _ c.chunk-summary.ensures
+    told_on a.counted _ _ _ c.chunk_summary.ensures
     (chunk_part (store_of a.c) a.samples.now (level_of a.l1.now a.l2.now a.l3.now a.l4.now) p.sound (a.pos / chunk * chunk) a.pos a.end (omega arith) p.order p.stored)
 
-pub summary-of-chunk-spec : {M : Type 1} → statement M
-summary-of-chunk-spec = tie.close (tie.spec mul-base mul-from mul-to sub-chunk-summary part-chunk-summary-start part-chunk-summary-end chunk-summary-requires returns)
+pub summary_of_chunk_spec : {M : Type 1} → statement M
+summary_of_chunk_spec = tie.close (tie.spec mul-base mul-from mul-to sub-chunk-summary part-chunk-summary-start part-chunk-summary-end chunk-summary-requires returns)

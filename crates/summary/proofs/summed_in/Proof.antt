@@ -15,25 +15,25 @@ use Rattle.summary.specs.Summary.{summed}
 use Rattle.summary.proofs.summed_in.Statement.{statement}
 use Rattle.summary.proofs.summed_in.Tie as tie
 
-lesser-requires : tie.Need-lesser-requires
+lesser-requires : tie.Need-lesser-end-requires
 lesser-requires c κs = search rules
 
-returns : tie.Need-returns
+returns : tie.Need-returns-then-end-a
 returns c =
     let a = c.before.before.before.before.before.before.before.args in
-    let h : min a.b a.c.len ≤ a.a = omega (arith, c.before.lesser.ensures, c.if1.true) in
+    let h : min a.b a.c.len ≤ a.a = omega (arith, c.before.lesser-end.ensures, c.if-end-a.true) in
     sym (ap (λ (t : Bool). given (cond t (some (summed (level_of a.l1.now a.l2.now a.l3.now a.l4.now) (sample_of a.c.unitsize a.samples.now) a.a (min a.b a.c.len))) none)) (le-ltb _ _ h))
 
-summary-in-requires : tie.Need-summary-in-requires
-summary-in-requires c κs = record { sound = c.before.before.before.before.before.before.before.requires; order = c.if1.false; stored = omega (arith, c.before.lesser.ensures) }
+summary-in-requires : tie.Need-summary_in-requires
+summary-in-requires c κs = record { sound = c.before.before.before.before.before.before.before.requires; order = c.if-end-a.false; stored = omega (arith, c.before.lesser-end.ensures) }
 
-returns-2 : tie.Need-returns-2
+returns-2 : tie.Need-returns
 returns-2 c =
     let known = c.before.before.before in
     let a = known.before.before.before.before.before.args in
-    let e = c.before.before.lesser.ensures in
-    let h : a.a < min a.b a.c.len = omega (arith, e, c.before.if1.false) in
-    ap (λ (n : Node). given (some n)) (is_told _ _ c.summary-in.ensures ∙ ap (summed (level_of a.l1.now a.l2.now a.l3.now a.l4.now) (sample_of a.c.unitsize a.samples.now) a.a) e) ∙ sym (ap (λ (t : Bool). given (cond t (some (summed (level_of a.l1.now a.l2.now a.l3.now a.l4.now) (sample_of a.c.unitsize a.samples.now) a.a (min a.b a.c.len))) none)) (lt-ltb _ _ h))
+    let e = c.before.before.lesser-end.ensures in
+    let h : a.a < min a.b a.c.len = omega (arith, e, c.before.if-end-a.false) in
+    ap (λ (n : Node). given (some n)) (is_told _ _ c.summary_in.ensures ∙ ap (summed (level_of a.l1.now a.l2.now a.l3.now a.l4.now) (sample_of a.c.unitsize a.samples.now) a.a) e) ∙ sym (ap (λ (t : Bool). given (cond t (some (summed (level_of a.l1.now a.l2.now a.l3.now a.l4.now) (sample_of a.c.unitsize a.samples.now) a.a (min a.b a.c.len))) none)) (lt-ltb _ _ h))
 
-pub summed-in-spec : {M : Type 1} → statement M
-summed-in-spec = tie.close (tie.spec lesser-requires returns summary-in-requires returns-2)
+pub summed_in_spec : {M : Type 1} → statement M
+summed_in_spec = tie.close (tie.spec lesser-requires returns summary-in-requires returns-2)

@@ -12,73 +12,73 @@ use Rattle.term_bytes.proofs.Fold.{more, more_none, more_last, more_two}
 use Rattle.term_bytes.proofs.terms_in.Statement.{statement}
 use Rattle.term_bytes.proofs.terms_in.Tie as tie
 
-abbrev invariant-loop : tie.invariant-loop
+abbrev invariant-loop : tie.invariant-loop-i
 invariant-loop bytes sum₀ i₀ sum i = (i ≤ length bytes) × (more sum bytes i ≡ terms_of (terms_in bytes))
 
-abbrev decreases-loop : tie.decreases-loop
+abbrev decreases-loop : tie.decreases-loop-i
 decreases-loop bytes sum₀ i₀ sum i = length bytes - i
 
-none-requires : tie.Need-none-requires invariant-loop decreases-loop
+none-requires : tie.Need-none-sum-requires invariant-loop decreases-loop
 none-requires c κs = search rules
 
-loop-holds : tie.Need-loop-init invariant-loop decreases-loop
-loop-holds c = (omega arith, ap (λ (t : Terms). more t c.before.before.args.bytes.now 0) c.none.ensures)
+loop-holds : tie.Need-loop-i-init invariant-loop decreases-loop
+loop-holds c = (omega arith, ap (λ (t : Terms). more t c.before.before.args.bytes.now 0) c.none-sum.ensures)
 
-sub-loop : tie.Need-overflow-sub-loop invariant-loop decreases-loop
+sub-loop : tie.Need-overflow_sub-bytes invariant-loop decreases-loop
 sub-loop c = search rules
 
-shared-slice-read-term-in : tie.Need-shared-slice-read-term-in invariant-loop decreases-loop
+shared-slice-read-term-in : tie.Need-bounds-bytes-i invariant-loop decreases-loop
 shared-slice-read-term-in c = search rules
 
-add-term-in : tie.Need-overflow-add-term-in invariant-loop decreases-loop
+add-term-in : tie.Need-overflow_add-i invariant-loop decreases-loop
 add-term-in c = search rules
 
-shared-slice-read-term-in-2 : tie.Need-shared-slice-read-term-in-2 invariant-loop decreases-loop
+shared-slice-read-term-in-2 : tie.Need-bounds-bytes-i-in-loop-i invariant-loop decreases-loop
 shared-slice-read-term-in-2 c = search rules
 
-term-in-requires : tie.Need-term-in-requires invariant-loop decreases-loop
+term-in-requires : tie.Need-term_in-requires invariant-loop decreases-loop
 term-in-requires c κs = search rules
 
-with-requires : tie.Need-with-requires invariant-loop decreases-loop
+with-requires : tie.Need-with-sum-requires invariant-loop decreases-loop
 with-requires c κs = search rules
 
-add-i : tie.Need-overflow-add-i invariant-loop decreases-loop
+add-i : tie.Need-overflow_add-i-in-loop-i invariant-loop decreases-loop
 add-i c = search rules
 
-loop-less : tie.Need-loop-smaller invariant-loop decreases-loop
+loop-less : tie.Need-loop-i-smaller invariant-loop decreases-loop
 loop-less c = search rules
 
-loop-again : tie.Need-loop-preserved invariant-loop decreases-loop
+loop-again : tie.Need-loop-i-preserved invariant-loop decreases-loop
 loop-again c =
     let h = c.before.before.before.before.before in
     let b = h.before.before.before.args.bytes.now in
-    let l = h.loop in
-    (omega arith, ap (λ (t : Terms). more t b (l.i + 2)) (c.with.ensures ∙ ap (with_term l.sum) c.before.term_in.ensures) ∙ sym (more_two l.sum b l.i (omega arith)) ∙ l.invariant.1)
+    let l = h.loop-i in
+    (omega arith, ap (λ (t : Terms). more t b (l.i + 2)) (c.with-sum.ensures ∙ ap (with_term l.sum) c.before.term_in.ensures) ∙ sym (more_two l.sum b l.i (omega arith)) ∙ l.invariant.1)
 
-shared-slice-read-term-in-3 : tie.Need-shared-slice-read-term-in-3 invariant-loop decreases-loop
+shared-slice-read-term-in-3 : tie.Need-bounds-bytes-i-then-i-bytes invariant-loop decreases-loop
 shared-slice-read-term-in-3 c = search rules
 
-term-in-requires-2 : tie.Need-term-in-requires-2 invariant-loop decreases-loop
+term-in-requires-2 : tie.Need-term_in-requires-then-i-bytes invariant-loop decreases-loop
 term-in-requires-2 c κs = search rules
 
-with-requires-2 : tie.Need-with-requires-2 invariant-loop decreases-loop
+with-requires-2 : tie.Need-with-requires invariant-loop decreases-loop
 with-requires-2 c κs = search rules
 
-returns : tie.Need-returns invariant-loop decreases-loop
+returns : tie.Need-returns-then-i-bytes invariant-loop decreases-loop
 returns c =
     let h = c.before.before.before.before.before in
     let b = h.before.before.before.args.bytes.now in
-    let l = h.loop in
-    c.with2.ensures ∙ ap (with_term l.sum) c.before.term-in2.ensures ∙ sym (more_last l.sum b l.i (omega arith) (omega arith)) ∙ l.invariant.1
+    let l = h.loop-i in
+    c.with.ensures ∙ ap (with_term l.sum) c.before.term_in-then-i-bytes.ensures ∙ sym (more_last l.sum b l.i (omega arith) (omega arith)) ∙ l.invariant.1
 
-returns-2 : tie.Need-returns-2 invariant-loop decreases-loop
+returns-2 : tie.Need-returns invariant-loop decreases-loop
 returns-2 c =
     let b = c.before.before.before.before.before.args.bytes.now in
-    let l = c.before.before.loop in
+    let l = c.before.before.loop-i in
     sym (more_none l.sum b l.i (omega arith)) ∙ l.invariant.1
 
-pub terms-in-spec : {M : Type 1} → statement M
-terms-in-spec =
+pub terms_in_spec : {M : Type 1} → statement M
+terms_in_spec =
     tie.close
     (tie.spec
     invariant-loop

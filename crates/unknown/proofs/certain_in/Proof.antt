@@ -10,77 +10,77 @@ use Rattle.unknown.proofs.Crossing.{nth_inside, none_left, none_found, Crosses, 
 use Rattle.unknown.proofs.certain_in.Statement.{statement}
 use Rattle.unknown.proofs.certain_in.Tie as tie
 
-abbrev invariant-loop : tie.invariant-loop
+abbrev invariant-loop : tie.invariant-loop-k
 invariant-loop samples l1 l2 l3 l4 unitsize len list back mask from n place i₀ k₀ i k =
     Crosses (walked back (reader_of unitsize samples (level_of l1 l2 l3 l4)) mask len) back (nth_stretch back list) (walked back (reader_of unitsize samples (level_of l1 l2 l3 l4)) mask len from) (stretch_count list) k i
 
-abbrev decreases-loop : tie.decreases-loop
+abbrev decreases-loop : tie.decreases-loop-k
 decreases-loop samples l1 l2 l3 l4 unitsize len list back mask from n place i₀ k₀ i k = stretch_count list - k
 
-change-requires : tie.Need-change-requires invariant-loop decreases-loop
+change-requires : tie.Need-change-found-requires invariant-loop decreases-loop
 change-requires c κs = search rules
 
-enum-known-found : tie.Need-enum-known-found invariant-loop decreases-loop
+enum-known-found : tie.Need-enum_known-found invariant-loop decreases-loop
 enum-known-found c = search rules
 
-enum_told : tie.Need-enum-told invariant-loop decreases-loop
+enum_told : tie.Need-enum_told-1 invariant-loop decreases-loop
 enum_told c = search rules
 
-returns : tie.Need-returns invariant-loop decreases-loop
+returns : tie.Need-returns-in_default invariant-loop decreases-loop
 returns c =
     let a = c.before.before.before.before.before.before.before.before.before.args in
-    none_found (walked a.back (reader_of a.unitsize a.samples.now (level_of a.l1.now a.l2.now a.l3.now a.l4.now)) a.mask a.len) a.back (nth_stretch a.back a.list.now) (walked a.back (reader_of a.unitsize a.samples.now (level_of a.l1.now a.l2.now a.l3.now a.l4.now)) a.mask a.len a.from) (stretch_count a.list.now) (sym c.before.before.change.ensures ∙ ap spot_of c.enum_told.given.1)
+    none_found (walked a.back (reader_of a.unitsize a.samples.now (level_of a.l1.now a.l2.now a.l3.now a.l4.now)) a.mask a.len) a.back (nth_stretch a.back a.list.now) (walked a.back (reader_of a.unitsize a.samples.now (level_of a.l1.now a.l2.now a.l3.now a.l4.now)) a.mask a.len a.from) (stretch_count a.list.now) (sym c.before.before.change-found.ensures ∙ ap spot_of c.enum_told-1.given.1)
 
-loop-holds : tie.Need-loop-init invariant-loop decreases-loop
+loop-holds : tie.Need-loop-k-init invariant-loop decreases-loop
 loop-holds c =
     let a = c.before.before.before.before.before.before.before.before.before.before.args in
-    crosses_start (walked a.back (reader_of a.unitsize a.samples.now (level_of a.l1.now a.l2.now a.l3.now a.l4.now)) a.mask a.len) a.back (nth_stretch a.back a.list.now) (walked a.back (reader_of a.unitsize a.samples.now (level_of a.l1.now a.l2.now a.l3.now a.l4.now)) a.mask a.len a.from) (sym c.before.before.before.change.ensures ∙ ap spot_of c.before.found.given.1)
+    crosses_start (walked a.back (reader_of a.unitsize a.samples.now (level_of a.l1.now a.l2.now a.l3.now a.l4.now)) a.mask a.len) a.back (nth_stretch a.back a.list.now) (walked a.back (reader_of a.unitsize a.samples.now (level_of a.l1.now a.l2.now a.l3.now a.l4.now)) a.mask a.len a.from) (sym c.before.before.before.change-found.ensures ∙ ap spot_of c.before.found-1.given.1)
 
 nth-requires : tie.Need-nth-requires invariant-loop decreases-loop
 nth-requires c κs = search rules
 
-stretch-at-requires : tie.Need-stretch-at-requires invariant-loop decreases-loop
+stretch-at-requires : tie.Need-stretch_at-s-requires invariant-loop decreases-loop
 stretch-at-requires c κs =
     let s = c.before.before.before.before.before.before.before.before.before.before.before.before.before in
-    (s.requires.1, s.requires.0.most, omega (arith, c.nth.ensures, nth_inside s.args.back s.args.list.now c.before.before.loop.k c.before.loop-test.true))
+    (s.requires.1, s.requires.0.most, omega (arith, c.nth.ensures, nth_inside s.args.back s.args.list.now c.before.before.loop-k.k c.before.loop-k-test.true))
 
-cross-requires : tie.Need-cross-requires invariant-loop decreases-loop
+cross-requires : tie.Need-cross-kept-requires invariant-loop decreases-loop
 cross-requires c κs = search rules
 
-enum-known-kept : tie.Need-enum-known-kept invariant-loop decreases-loop
+enum-known-kept : tie.Need-enum_known-kept invariant-loop decreases-loop
 enum-known-kept c = search rules
 
-enum-told-2 : tie.Need-enum-told-2 invariant-loop decreases-loop
+enum-told-2 : tie.Need-enum_told-in_default-kept invariant-loop decreases-loop
 enum-told-2 c = search rules
 
-returns-2 : tie.Need-returns-2 invariant-loop decreases-loop
+returns-2 : tie.Need-returns-in_default-kept invariant-loop decreases-loop
 returns-2 c =
     let a = c.before.before.before.before.before.before.before.before.before.before.before.before.before.before.before.before.before.args in
-    let k = c.before.before.before.before.before.before.loop.k in
-    none_left (walked a.back (reader_of a.unitsize a.samples.now (level_of a.l1.now a.l2.now a.l3.now a.l4.now)) a.mask a.len) a.back (nth_stretch a.back a.list.now) (walked a.back (reader_of a.unitsize a.samples.now (level_of a.l1.now a.l2.now a.l3.now a.l4.now)) a.mask a.len a.from) (k + 1) (stretch_count a.list.now) (omega (arith, c.before.before.before.before.before.loop-test.true))
-    (crosses_on (walked a.back (reader_of a.unitsize a.samples.now (level_of a.l1.now a.l2.now a.l3.now a.l4.now)) a.mask a.len) a.back a.list.now (walked a.back (reader_of a.unitsize a.samples.now (level_of a.l1.now a.l2.now a.l3.now a.l4.now)) a.mask a.len a.from) c.before.before.before.before.before.before.loop.invariant c.before.before.before.before.nth.ensures c.before.before.before.stretch-at.ensures c.before.before.cross.ensures ∙ ap spot_of c.enum-told2.given.1)
+    let k = c.before.before.before.before.before.before.loop-k.k in
+    none_left (walked a.back (reader_of a.unitsize a.samples.now (level_of a.l1.now a.l2.now a.l3.now a.l4.now)) a.mask a.len) a.back (nth_stretch a.back a.list.now) (walked a.back (reader_of a.unitsize a.samples.now (level_of a.l1.now a.l2.now a.l3.now a.l4.now)) a.mask a.len a.from) (k + 1) (stretch_count a.list.now) (omega (arith, c.before.before.before.before.before.loop-k-test.true))
+    (crosses_on (walked a.back (reader_of a.unitsize a.samples.now (level_of a.l1.now a.l2.now a.l3.now a.l4.now)) a.mask a.len) a.back a.list.now (walked a.back (reader_of a.unitsize a.samples.now (level_of a.l1.now a.l2.now a.l3.now a.l4.now)) a.mask a.len a.from) c.before.before.before.before.before.before.loop-k.invariant c.before.before.before.before.nth.ensures c.before.before.before.stretch_at-s.ensures c.before.before.cross-kept.ensures ∙ ap spot_of c.enum_told-in_default-kept-1.given.1)
 
-add-k : tie.Need-overflow-add-k invariant-loop decreases-loop
-add-k c = omega (arith, c.before.before.before.before.before.before.loop-test.true, c.before.before.before.before.before.before.before.before.before.before.before.before.before.before.before.before.before.before.well-formed)
+add-k : tie.Need-overflow_add-k invariant-loop decreases-loop
+add-k c = omega (arith, c.before.before.before.before.before.before.loop-k-test.true, c.before.before.before.before.before.before.before.before.before.before.before.before.before.before.before.before.before.before.well-formed)
 
-loop-less : tie.Need-loop-smaller invariant-loop decreases-loop
+loop-less : tie.Need-loop-k-smaller invariant-loop decreases-loop
 loop-less c = search rules
 
-loop-again : tie.Need-loop-preserved invariant-loop decreases-loop
+loop-again : tie.Need-loop-k-preserved invariant-loop decreases-loop
 loop-again c =
     let a = c.before.before.before.before.before.before.before.before.before.before.before.before.before.before.before.before.before.before.args in
     record {
-      most = omega (arith, c.before.before.before.before.before.before.loop-test.true);
-      same = crosses_on (walked a.back (reader_of a.unitsize a.samples.now (level_of a.l1.now a.l2.now a.l3.now a.l4.now)) a.mask a.len) a.back a.list.now (walked a.back (reader_of a.unitsize a.samples.now (level_of a.l1.now a.l2.now a.l3.now a.l4.now)) a.mask a.len a.from) c.before.before.before.before.before.before.before.loop.invariant c.before.before.before.before.before.nth.ensures c.before.before.before.before.stretch-at.ensures c.before.before.before.cross.ensures ∙ ap spot_of c.before.kept.given.1;
+      most = omega (arith, c.before.before.before.before.before.before.loop-k-test.true);
+      same = crosses_on (walked a.back (reader_of a.unitsize a.samples.now (level_of a.l1.now a.l2.now a.l3.now a.l4.now)) a.mask a.len) a.back a.list.now (walked a.back (reader_of a.unitsize a.samples.now (level_of a.l1.now a.l2.now a.l3.now a.l4.now)) a.mask a.len a.from) c.before.before.before.before.before.before.before.loop-k.invariant c.before.before.before.before.before.nth.ensures c.before.before.before.before.stretch_at-s.ensures c.before.before.before.cross-kept.ensures ∙ ap spot_of c.before.kept-1.given.1;
     }
 
-returns-3 : tie.Need-returns-3 invariant-loop decreases-loop
+returns-3 : tie.Need-returns invariant-loop decreases-loop
 returns-3 c =
     let a = c.before.before.before.before.before.before.before.before.before.before.before.before.args in
-    sym c.before.loop.invariant.same ∙ ap (λ (k : _). crossed (walked a.back (reader_of a.unitsize a.samples.now (level_of a.l1.now a.l2.now a.l3.now a.l4.now)) a.mask a.len) a.back (nth_stretch a.back a.list.now) k (walked a.back (reader_of a.unitsize a.samples.now (level_of a.l1.now a.l2.now a.l3.now a.l4.now)) a.mask a.len a.from)) (omega (arith, c.before.loop.invariant.most, c.loop-test.false))
+    sym c.before.loop-k.invariant.same ∙ ap (λ (k : _). crossed (walked a.back (reader_of a.unitsize a.samples.now (level_of a.l1.now a.l2.now a.l3.now a.l4.now)) a.mask a.len) a.back (nth_stretch a.back a.list.now) k (walked a.back (reader_of a.unitsize a.samples.now (level_of a.l1.now a.l2.now a.l3.now a.l4.now)) a.mask a.len a.from)) (omega (arith, c.before.loop-k.invariant.most, c.loop-k-test.false))
 
-pub certain-in-spec : {M : Type 1} → statement M
-certain-in-spec =
+pub certain_in_spec : {M : Type 1} → statement M
+certain_in_spec =
     tie.close
     (tie.spec
     invariant-loop

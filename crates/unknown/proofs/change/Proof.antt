@@ -8,29 +8,29 @@ use Rattle.unknown.specs.Crossing.{walked}
 use Rattle.unknown.proofs.change.Statement.{statement}
 use Rattle.unknown.proofs.change.Tie as tie
 
-prev-in-requires : tie.Need-prev-in-requires
+prev-in-requires : tie.Need-prev_in-requires
 prev-in-requires c κs = search rules
 
 uncounted-requires : tie.Need-uncounted-requires
 uncounted-requires c κs = search rules
 
-returns : tie.Need-returns
+returns : tie.Need-returns-then-back
 returns c =
     let a = c.before.before.before.before.before.before.before.before.args in
-    c.uncounted.ensures ∙ ap (λ (w : Walked). w.found) c.before.prev-in.ensures
-    ∙ ap (λ (b : Bool). walked b (reader_of a.unitsize a.samples.now (level_of a.l1.now a.l2.now a.l3.now a.l4.now)) a.mask a.len a.from) (sym c.before.before.if1.true)
+    c.uncounted.ensures ∙ ap (λ (w : Walked). w.found) c.before.prev_in.ensures
+    ∙ ap (λ (b : Bool). walked b (reader_of a.unitsize a.samples.now (level_of a.l1.now a.l2.now a.l3.now a.l4.now)) a.mask a.len a.from) (sym c.before.before.if-back.true)
 
-next-in-requires : tie.Need-next-in-requires
+next-in-requires : tie.Need-next_in-requires
 next-in-requires c κs = search rules
 
 uncounted-requires-2 : tie.Need-uncounted-requires-2
 uncounted-requires-2 c κs = search rules
 
-returns-2 : tie.Need-returns-2
+returns-2 : tie.Need-returns
 returns-2 c =
     let a = c.before.before.before.before.before.before.before.before.args in
-    c.uncounted2.ensures ∙ ap (λ (w : Walked). w.found) c.before.next_in_lem.ensures
-    ∙ ap (λ (b : Bool). walked b (reader_of a.unitsize a.samples.now (level_of a.l1.now a.l2.now a.l3.now a.l4.now)) a.mask a.len a.from) (sym c.before.before.if1.false)
+    c.uncounted-2.ensures ∙ ap (λ (w : Walked). w.found) c.before.next_in.ensures
+    ∙ ap (λ (b : Bool). walked b (reader_of a.unitsize a.samples.now (level_of a.l1.now a.l2.now a.l3.now a.l4.now)) a.mask a.len a.from) (sym c.before.before.if-back.false)
 
-pub change-spec : {M : Type 1} → statement M
-change-spec = tie.close (tie.spec prev-in-requires uncounted-requires returns next-in-requires uncounted-requires-2 returns-2)
+pub change_spec : {M : Type 1} → statement M
+change_spec = tie.close (tie.spec prev-in-requires uncounted-requires returns next-in-requires uncounted-requires-2 returns-2)

@@ -10,28 +10,28 @@ use Rattle.unknown.specs.Meeting.{earlier}
 use Rattle.unknown.proofs.earlier.Statement.{statement}
 use Rattle.unknown.proofs.earlier.Tie as tie
 
-enum-known-found : tie.Need-enum-known-found
+enum-known-found : tie.Need-enum_known-found
 enum-known-found c = search rules
 
-enum_told : tie.Need-enum-told
+enum_told : tie.Need-enum_told-1
 enum_told c = search rules
 
-returns : tie.Need-returns
-returns c = let a = c.before.before.args in ap (λ (s : Spot). earlier a.back (spot_of s) a.c) (sym c.enum_told.given.1)
+returns : tie.Need-returns-in_default
+returns c = let a = c.before.before.args in ap (λ (s : Spot). earlier a.back (spot_of s) a.c) (sym c.enum_told-1.given.1)
 
 greater-requires : tie.Need-greater-requires
 greater-requires c κs = search rules
 
-returns-2 : tie.Need-returns-2
+returns-2 : tie.Need-returns-then-back
 returns-2 c =
     let a = c.before.before.before.before.before.args in
     ap (λ (x : ℕ). some x) c.greater.ensures
-    ∙ ap₂ (λ (b : Bool) (s : Spot). earlier b (spot_of s) a.c) (sym c.before.if1.true) (sym c.before.before.before.found.given.1)
+    ∙ ap₂ (λ (b : Bool) (s : Spot). earlier b (spot_of s) a.c) (sym c.before.if-back.true) (sym c.before.before.before.found-1.given.1)
 
-returns-3 : tie.Need-returns-3
+returns-3 : tie.Need-returns
 returns-3 c =
     let a = c.before.before.before.before.args in
-    ap₂ (λ (b : Bool) (s : Spot). earlier b (spot_of s) a.c) (sym c.if1.false) (sym c.before.before.found.given.1)
+    ap₂ (λ (b : Bool) (s : Spot). earlier b (spot_of s) a.c) (sym c.if-back.false) (sym c.before.before.found-1.given.1)
 
-pub earlier-spec : {M : Type 1} → statement M
-earlier-spec = tie.close (tie.spec enum-known-found enum_told returns greater-requires returns-2 returns-3)
+pub earlier_spec : {M : Type 1} → statement M
+earlier_spec = tie.close (tie.spec enum-known-found enum_told returns greater-requires returns-2 returns-3)

@@ -10,40 +10,40 @@ use Rattle.unknown.proofs.Meeting.{entry_few, entry_back, entry_on}
 use Rattle.unknown.proofs.entry.Statement.{statement}
 use Rattle.unknown.proofs.entry.Tie as tie
 
-returns : tie.Need-returns
-returns c = let a = c.before.args in entry_few a.back a.len a.from c.if1.true
+returns : tie.Need-returns-then-len-le1
+returns c = let a = c.before.args in entry_few a.back a.len a.from c.if-len-le1.true
 
-sub-lesser : tie.Need-overflow-sub-lesser
+sub-lesser : tie.Need-overflow_sub-len
 sub-lesser c = search rules
 
-lesser-requires : tie.Need-lesser-requires
+lesser-requires : tie.Need-lesser-p-requires
 lesser-requires c κs = search rules
 
-returns-2 : tie.Need-returns-2
+returns-2 : tie.Need-returns-then-p-eq0
 returns-2 c =
     let a = c.before.before.before.before.args in
-    sym (ap (λ (b : Bool). cond b none (some c.before.lesser.result)) (eq-eqb c.before.lesser.result 0 c.if3.true)) ∙ entry_back a.back a.len a.from c.before.lesser.result c.before.before.if2.true c.before.lesser.ensures
+    sym (ap (λ (b : Bool). cond b none (some c.before.lesser-p.result)) (eq-eqb c.before.lesser-p.result 0 c.if-p-eq0.true)) ∙ entry_back a.back a.len a.from c.before.lesser-p.result c.before.before.if-back.true c.before.lesser-p.ensures
 
-returns-3 : tie.Need-returns-3
+returns-3 : tie.Need-returns-then-back
 returns-3 c =
     let a = c.before.before.before.before.args in
-    sym (ap (λ (b : Bool). cond b none (some c.before.lesser.result)) (ne_eqb c.before.lesser.result 0 c.if3.false)) ∙ entry_back a.back a.len a.from c.before.lesser.result c.before.before.if2.true c.before.lesser.ensures
+    sym (ap (λ (b : Bool). cond b none (some c.before.lesser-p.result)) (ne_eqb c.before.lesser-p.result 0 c.if-p-eq0.false)) ∙ entry_back a.back a.len a.from c.before.lesser-p.result c.before.before.if-back.true c.before.lesser-p.ensures
 
-sub-if4 : tie.Need-overflow-sub-if4
+sub-if4 : tie.Need-overflow_sub-len-2
 sub-if4 c = search rules
 
-returns-4 : tie.Need-returns-4
+returns-4 : tie.Need-returns-then-len-from
 returns-4 c =
     let a = c.before.before.before.args in
-    sym (ap (λ (b : Bool). cond b (some (a.from + 1)) none) (le-ltb (a.from + 1) a.len (omega (arith, c.if4.true, c.before.before.if1.false)))) ∙ entry_on a.back a.len a.from c.before.if2.false
+    sym (ap (λ (b : Bool). cond b (some (a.from + 1)) none) (le-ltb (a.from + 1) a.len (omega (arith, c.if-len-from.true, c.before.before.if-len-le1.false)))) ∙ entry_on a.back a.len a.from c.before.if-back.false
 
-add-t8 : tie.Need-overflow-add-t8
+add-t8 : tie.Need-overflow_add-result
 add-t8 c = search rules
 
-returns-5 : tie.Need-returns-5
+returns-5 : tie.Need-returns
 returns-5 c =
     let a = c.before.before.before.args in
-    sym (ap (λ (b : Bool). cond b (some (a.from + 1)) none) (lt-ltb (a.from + 1) a.len (omega (arith, c.if4.false, c.before.before.if1.false)))) ∙ entry_on a.back a.len a.from c.before.if2.false
+    sym (ap (λ (b : Bool). cond b (some (a.from + 1)) none) (lt-ltb (a.from + 1) a.len (omega (arith, c.if-len-from.false, c.before.before.if-len-le1.false)))) ∙ entry_on a.back a.len a.from c.before.if-back.false
 
 pub entry_spec : {M : Type 1} → statement M
 entry_spec = tie.close (tie.spec returns sub-lesser lesser-requires returns-2 returns-3 sub-if4 returns-4 add-t8 returns-5)

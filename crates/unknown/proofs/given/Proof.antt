@@ -7,17 +7,17 @@ use Rattle.unknown.specs.Answer.{spot_of}
 use Rattle.unknown.proofs.given.Statement.{statement}
 use Rattle.unknown.proofs.given.Tie as tie
 
-enum-known-found : tie.Need-enum-known-found
+enum-known-found : tie.Need-enum_known-found
 enum-known-found c = search rules
 
-enum_told : tie.Need-enum-told
+enum_told : tie.Need-enum_told-1
 enum_told c = search rules
 
-returns : tie.Need-returns
-returns c = ap (λ (s : Spot). given (spot_of s)) (sym c.before.found.given.1)
+returns : tie.Need-returns-in-At
+returns c = ap (λ (s : Spot). given (spot_of s)) (sym c.before.found-1.given.1)
 
-returns-2 : tie.Need-returns-2
-returns-2 c = ap (λ (s : Spot). given (spot_of s)) (sym c.enum_told.given.1)
+returns-2 : tie.Need-returns-in-Nothing
+returns-2 c = ap (λ (s : Spot). given (spot_of s)) (sym c.enum_told-1.given.1)
 
-pub given-spec : {M : Type 1} → statement M
-given-spec = tie.close (tie.spec enum-known-found enum_told returns returns-2)
+pub given_spec : {M : Type 1} → statement M
+given_spec = tie.close (tie.spec enum-known-found enum_told returns returns-2)

@@ -11,60 +11,60 @@ use Rattle.unknown.proofs.Meeting.{Passed, passed_start, passed_on, met_stays}
 use Rattle.unknown.proofs.met.Statement.{statement}
 use Rattle.unknown.proofs.met.Tie as tie
 
-abbrev invariant-loop : tie.invariant-loop
+abbrev invariant-loop : tie.invariant-loop-k
 invariant-loop list len back p n k₀ k = Passed back p list (stretch_count list) k
 
-abbrev decreases-loop : tie.decreases-loop
+abbrev decreases-loop : tie.decreases-loop-k
 decreases-loop list len back p n k₀ k = stretch_count list - k
 
-loop-holds : tie.Need-loop-init invariant-loop decreases-loop
+loop-holds : tie.Need-loop-k-init invariant-loop decreases-loop
 loop-holds c = let a = c.before.args in passed_start a.back a.p a.list.now
 
 nth-requires : tie.Need-nth-requires invariant-loop decreases-loop
 nth-requires c κs = search rules
 
-stretch-at-requires : tie.Need-stretch-at-requires invariant-loop decreases-loop
+stretch-at-requires : tie.Need-stretch_at-s-requires invariant-loop decreases-loop
 stretch-at-requires c κs =
     let s = c.before.before.before.before in
-    (s.requires.0, s.requires.1, omega (arith, c.nth.ensures, nth_inside s.args.back s.args.list.now c.before.before.loop.k c.before.loop-test.true))
+    (s.requires.0, s.requires.1, omega (arith, c.nth.ensures, nth_inside s.args.back s.args.list.now c.before.before.loop-k.k c.before.loop-k-test.true))
 
-meets-requires : tie.Need-meets-requires invariant-loop decreases-loop
+meets-requires : tie.Need-meets-place-requires invariant-loop decreases-loop
 meets-requires c κs = search rules
 
-enum-known-place : tie.Need-enum-known-place invariant-loop decreases-loop
+enum-known-place : tie.Need-enum_known-place invariant-loop decreases-loop
 enum-known-place c = search rules
 
-returns : tie.Need-returns invariant-loop decreases-loop
+returns : tie.Need-returns-in-At invariant-loop decreases-loop
 returns c =
     let a = c.before.before.before.before.before.before.before.before.before.args in
-    let k = c.before.before.before.before.before.before.before.loop.k in
-    met_stays a.back a.p (nth_stretch a.back a.list.now) (k + 1) (stretch_count a.list.now) _ (omega (arith, c.before.before.before.before.before.before.loop-test.true))
-    (passed_on a.back a.p a.list.now c.before.before.before.before.before.before.before.loop.invariant c.before.before.before.before.before.nth.ensures c.before.before.before.before.stretch-at.ensures c.before.before.before.meets.ensures ∙ ap spot_of c.before.place.given.1)
+    let k = c.before.before.before.before.before.before.before.loop-k.k in
+    met_stays a.back a.p (nth_stretch a.back a.list.now) (k + 1) (stretch_count a.list.now) _ (omega (arith, c.before.before.before.before.before.before.loop-k-test.true))
+    (passed_on a.back a.p a.list.now c.before.before.before.before.before.before.before.loop-k.invariant c.before.before.before.before.before.nth.ensures c.before.before.before.before.stretch_at-s.ensures c.before.before.before.meets-place.ensures ∙ ap spot_of c.before.place-1.given.1)
 
-enum_told : tie.Need-enum-told invariant-loop decreases-loop
+enum_told : tie.Need-enum_told-1 invariant-loop decreases-loop
 enum_told c = search rules
 
-add-k : tie.Need-overflow-add-k invariant-loop decreases-loop
+add-k : tie.Need-overflow_add-k invariant-loop decreases-loop
 add-k c = search rules
 
-loop-less : tie.Need-loop-smaller invariant-loop decreases-loop
+loop-less : tie.Need-loop-k-smaller invariant-loop decreases-loop
 loop-less c = search rules
 
-loop-again : tie.Need-loop-preserved invariant-loop decreases-loop
+loop-again : tie.Need-loop-k-preserved invariant-loop decreases-loop
 loop-again c =
     let a = c.before.before.before.before.before.before.before.before.args in
     record {
-      most = omega (arith, c.before.before.before.before.before.loop-test.true);
-      none_met = passed_on a.back a.p a.list.now c.before.before.before.before.before.before.loop.invariant c.before.before.before.before.nth.ensures c.before.before.before.stretch-at.ensures c.before.before.meets.ensures ∙ ap spot_of c.enum_told.given.1;
+      most = omega (arith, c.before.before.before.before.before.loop-k-test.true);
+      none_met = passed_on a.back a.p a.list.now c.before.before.before.before.before.before.loop-k.invariant c.before.before.before.before.nth.ensures c.before.before.before.stretch_at-s.ensures c.before.before.meets-place.ensures ∙ ap spot_of c.enum_told-1.given.1;
     }
 
-returns-2 : tie.Need-returns-2 invariant-loop decreases-loop
+returns-2 : tie.Need-returns invariant-loop decreases-loop
 returns-2 c =
     let a = c.before.before.before.args in
-    sym c.before.loop.invariant.none_met ∙ ap (met a.back a.p (nth_stretch a.back a.list.now)) (omega (arith, c.before.loop.invariant.most, c.loop-test.false))
+    sym c.before.loop-k.invariant.none_met ∙ ap (met a.back a.p (nth_stretch a.back a.list.now)) (omega (arith, c.before.loop-k.invariant.most, c.loop-k-test.false))
 
-pub met-spec : {M : Type 1} → statement M
-met-spec =
+pub met_spec : {M : Type 1} → statement M
+met_spec =
     tie.close
     (tie.spec
     invariant-loop

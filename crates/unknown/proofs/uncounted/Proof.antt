@@ -6,17 +6,17 @@ use Rattle.find.specs.Way.{place_of}
 use Rattle.unknown.proofs.uncounted.Statement.{statement}
 use Rattle.unknown.proofs.uncounted.Tie as tie
 
-enum-known-p : tie.Need-enum-known-p
+enum-known-p : tie.Need-enum_known-p
 enum-known-p c = search rules
 
-enum_told : tie.Need-enum-told
+enum_told : tie.Need-enum_told-1
 enum_told c = search rules
 
-returns : tie.Need-returns
-returns c = ap (λ (p : Place). (place_of p).found) (sym c.before.p.given.1)
+returns : tie.Need-returns-in-At
+returns c = ap (λ (p : Place). (place_of p).found) (sym c.before.p-1.given.1)
 
-returns-2 : tie.Need-returns-2
-returns-2 c = ap (λ (p : Place). (place_of p).found) (sym c.enum_told.given.1)
+returns-2 : tie.Need-returns-in-Nothing
+returns-2 c = ap (λ (p : Place). (place_of p).found) (sym c.enum_told-1.given.1)
 
-pub uncounted-spec : {M : Type 1} → statement M
-uncounted-spec = tie.close (tie.spec enum-known-p enum_told returns returns-2)
+pub uncounted_spec : {M : Type 1} → statement M
+uncounted_spec = tie.close (tie.spec enum-known-p enum_told returns returns-2)

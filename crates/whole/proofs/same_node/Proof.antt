@@ -4,17 +4,17 @@ use Rattle.whole.proofs.Laws.{three_same}
 use Rattle.whole.proofs.same_node.Statement.{statement}
 use Rattle.whole.proofs.same_node.Tie as tie
 
-returns : tie.Need-returns
-returns c = simp (ne_eqb _ _ c.if1.true)
+returns : tie.Need-returns-then-a-b
+returns c = simp (ne_eqb _ _ c.if-a-b.true)
 
-returns-2 : tie.Need-returns-2
-returns-2 c = simp (eq-eqb _ _ c.before.before.before.if1.false, ne_eqb _ _ c.if2.true)
+returns-2 : tie.Need-returns-then-a-b-2
+returns-2 c = simp (eq-eqb _ _ c.before.before.before.if-a-b.false, ne_eqb _ _ c.if-a-b-2.true)
 
-returns-3 : tie.Need-returns-3
-returns-3 c = simp (eq-eqb _ _ c.before.before.before.before.before.before.if1.false, eq-eqb _ _ c.before.before.before.if2.false, ne_eqb _ _ c.if3.true)
+returns-3 : tie.Need-returns-then-a-b-3
+returns-3 c = simp (eq-eqb _ _ c.before.before.before.before.before.before.if-a-b.false, eq-eqb _ _ c.before.before.before.if-a-b-2.false, ne_eqb _ _ c.if-a-b-3.true)
 
-returns-4 : tie.Need-returns-4
-returns-4 c = three_same _ _ _ _ (eq-eqb _ _ c.before.before.before.before.before.before.before.before.if1.false) (eq-eqb _ _ c.before.before.before.before.before.if2.false) (eq-eqb _ _ c.before.before.if3.false)
+returns-4 : tie.Need-returns
+returns-4 c = three_same _ _ _ _ (eq-eqb _ _ c.before.before.before.before.before.before.before.before.if-a-b.false) (eq-eqb _ _ c.before.before.before.before.before.if-a-b-2.false) (eq-eqb _ _ c.before.before.if-a-b-3.false)
 
-pub same-node-spec : {M : Type 1} → statement M
-same-node-spec = tie.close (tie.spec returns returns-2 returns-3 returns-4)
+pub same_node_spec : {M : Type 1} → statement M
+same_node_spec = tie.close (tie.spec returns returns-2 returns-3 returns-4)

@@ -5,17 +5,17 @@ use Rattle.capture.proofs.Answer.{let_in, refused_is, given_is}
 use Rattle.whole.proofs.whole.Statement.{statement}
 use Rattle.whole.proofs.whole.Tie as tie
 
-refusal-requires : tie.Need-refusal-requires
+refusal-requires : tie.Need-refusal-n-requires
 refusal-requires c κs = search rules
 
-returns : tie.Need-returns
-returns c = refused_is _ c.before.refusal.ensures c.if1.true
+returns : tie.Need-returns-then-n-ne0
+returns c = refused_is _ c.before.refusal-n.ensures c.if-n-ne0.true
 
-first-wrong-requires : tie.Need-first-wrong-requires
-first-wrong-requires c κs = let_in c.before.refusal.ensures c.if1.false
+first-wrong-requires : tie.Need-first_wrong-requires
+first-wrong-requires c κs = let_in c.before.refusal-n.ensures c.if-n-ne0.false
 
-returns-2 : tie.Need-returns-2
-returns-2 c = c.first-wrong.ensures ∙ given_is _ c.before.before.refusal.ensures c.before.if1.false refl
+returns-2 : tie.Need-returns
+returns-2 c = c.first_wrong.ensures ∙ given_is _ c.before.before.refusal-n.ensures c.before.if-n-ne0.false refl
 
-pub whole-spec : {M : Type 1} → statement M
-whole-spec = tie.close (tie.spec refusal-requires returns first-wrong-requires returns-2)
+pub whole_spec : {M : Type 1} → statement M
+whole_spec = tie.close (tie.spec refusal-requires returns first-wrong-requires returns-2)

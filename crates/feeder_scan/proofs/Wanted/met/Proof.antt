@@ -6,5 +6,5 @@ use Rattle.feeder_scan.proofs.Wanted.met.Tie as tie
 returns : tie.Need-returns
 returns c = met_is _ _ _
 
-pub met-spec : {M : Type 1} → statement M
-met-spec = tie.close (tie.spec returns)
+pub met_spec : {M : Type 1} → statement M
+met_spec = tie.close (tie.spec returns)

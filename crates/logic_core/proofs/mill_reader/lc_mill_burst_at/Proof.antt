@@ -10,13 +10,13 @@ use Rattle.logic_core.proofs.MillTold.{burst_by_lem}
 use Rattle.logic_core.proofs.mill_reader.lc_mill_burst_at.Statement.{statement}
 use Rattle.logic_core.proofs.mill_reader.lc_mill_burst_at.Tie as tie
 
-capture-in-requires : tie.Need-capture-in-requires
+capture-in-requires : tie.Need-capture_in-requires
 capture-in-requires c κs = search rules
 
-burst-at-requires : tie.Need-burst-at-requires
+burst-at-requires : tie.Need-burst_at-answer-requires
 burst-at-requires c κs = search rules
 
-burst-code-requires : tie.Need-burst-code-requires
+burst-code-requires : tie.Need-burst_code-requires
 burst-code-requires c κs = search rules
 
 returns : tie.Need-returns
@@ -24,9 +24,9 @@ returns c =
     let k = c.before.before.before.before.before in
     let a = k.before.before.before.before.before.before.before.args in
     let f = k.before.before.before.before.before.before.before.ranges in
-    burst_by_lem (λ (x : Capture) (z : ℤ). burst_of x a.samples.now (level_of a.l1.now a.l2.now a.l3.now a.l4.now) a.grant a.mask z a.max-gap a.tolerance a.budget)
-    k.burst-at.result k.before.capture-in.ensures (to_z-of_z w64 a.sample f.sample) k.burst-at.ensures c.burst-code.ensures
+    burst_by_lem (λ (x : Capture) (z : ℤ). burst_of x a.samples.now (level_of a.l1.now a.l2.now a.l3.now a.l4.now) a.grant a.mask z a.max_gap a.tolerance a.budget)
+    k.burst_at-answer.result k.before.capture_in.ensures (to_z-of_z w64 a.sample f.sample) k.burst_at-answer.ensures c.burst_code.ensures
 
-pub lc-mill-burst-at-spec : {M : Type 1} → statement M
-lc-mill-burst-at-spec =
+pub lc_mill_burst_at_spec : {M : Type 1} → statement M
+lc_mill_burst_at_spec =
     tie.close (tie.spec capture-in-requires burst-at-requires burst-code-requires returns)

@@ -10,24 +10,24 @@ use Rattle.logic_core.proofs.Codes.{told_by}
 use Rattle.logic_core.proofs.mill_reader.lc_mill_extent.Statement.{statement}
 use Rattle.logic_core.proofs.mill_reader.lc_mill_extent.Tie as tie
 
-capture-in-requires : tie.Need-capture-in-requires
+capture-in-requires : tie.Need-capture_in-requires
 capture-in-requires c κs = search rules
 
-extent-requires : tie.Need-extent-requires
+extent-requires : tie.Need-extent-answer-requires
 extent-requires c κs = search rules
 
-bounded-code-requires : tie.Need-bounded-code-requires
+bounded-code-requires : tie.Need-bounded_code-requires
 bounded-code-requires c κs = search rules
 
 returns : tie.Need-returns
 returns c =
     let read = c.before.before.before.before.before in
     let a = read.before.before.before.before.before.before.args in (
-      told_by first_place plain bounded_of (λ (x : Capture). bounded_for x a.samples.now (level_of a.l1.now a.l2.now a.l3.now a.l4.now)) c.before.before.before.before.extent.result _ _ _ read.capture-in.ensures c.before.before.before.before.extent.ensures c.bounded-code.ensures.0,
-      told_by end_place plain bounded_of (λ (x : Capture). bounded_for x a.samples.now (level_of a.l1.now a.l2.now a.l3.now a.l4.now)) c.before.before.before.before.extent.result _ _ _ read.capture-in.ensures c.before.before.before.before.extent.ensures c.bounded-code.ensures.1,
-      told_by marked_number plain bounded_of (λ (x : Capture). bounded_for x a.samples.now (level_of a.l1.now a.l2.now a.l3.now a.l4.now)) c.before.before.before.before.extent.result _ _ _ read.capture-in.ensures c.before.before.before.before.extent.ensures c.bounded-code.ensures.2,
+      told_by first_place plain bounded_of (λ (x : Capture). bounded_for x a.samples.now (level_of a.l1.now a.l2.now a.l3.now a.l4.now)) c.before.before.before.before.extent-answer.result _ _ _ read.capture_in.ensures c.before.before.before.before.extent-answer.ensures c.bounded_code.ensures.0,
+      told_by end_place plain bounded_of (λ (x : Capture). bounded_for x a.samples.now (level_of a.l1.now a.l2.now a.l3.now a.l4.now)) c.before.before.before.before.extent-answer.result _ _ _ read.capture_in.ensures c.before.before.before.before.extent-answer.ensures c.bounded_code.ensures.1,
+      told_by marked_number plain bounded_of (λ (x : Capture). bounded_for x a.samples.now (level_of a.l1.now a.l2.now a.l3.now a.l4.now)) c.before.before.before.before.extent-answer.result _ _ _ read.capture_in.ensures c.before.before.before.before.extent-answer.ensures c.bounded_code.ensures.2,
     )
 
-pub lc-mill-extent-spec : {M : Type 1} → statement M
-lc-mill-extent-spec =
+pub lc_mill_extent_spec : {M : Type 1} → statement M
+lc_mill_extent_spec =
     tie.close (tie.spec capture-in-requires extent-requires bounded-code-requires returns)

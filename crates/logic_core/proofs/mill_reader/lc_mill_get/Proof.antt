@@ -15,13 +15,13 @@ use Rattle.logic_core.proofs.Codes.{told_by}
 use Rattle.logic_core.proofs.mill_reader.lc_mill_get.Statement.{statement}
 use Rattle.logic_core.proofs.mill_reader.lc_mill_get.Tie as tie
 
-capture-in-requires : tie.Need-capture-in-requires
+capture-in-requires : tie.Need-capture_in-requires
 capture-in-requires c κs = search rules
 
-get-requires : tie.Need-get-requires
+get-requires : tie.Need-get-answer-requires
 get-requires c κs = search rules
 
-got-code-requires : tie.Need-got-code-requires
+got-code-requires : tie.Need-got_code-requires
 got-code-requires c κs = search rules
 
 returns : tie.Need-returns
@@ -30,7 +30,7 @@ returns c =
     let s = read.before.before.before.before.before.before in
     let a = s.args in
     let f = s.ranges in
-    told_by number plain got_of (λ (x : Capture). got_for x a.samples.now (level_of a.l1.now a.l2.now a.l3.now a.l4.now) a.grant a.at) c.before.before.get.result _ _ _ read.capture-in.ensures (c.before.before.get.ensures ∙ ap (λ (z : ℤ). got_for read.capture-in.result a.samples.now (level_of a.l1.now a.l2.now a.l3.now a.l4.now) a.grant z) (to_z-of_z w64 a.at f.at)) c.got-code.ensures
+    told_by number plain got_of (λ (x : Capture). got_for x a.samples.now (level_of a.l1.now a.l2.now a.l3.now a.l4.now) a.grant a.at) c.before.before.get-answer.result _ _ _ read.capture_in.ensures (c.before.before.get-answer.ensures ∙ ap (λ (z : ℤ). got_for read.capture_in.result a.samples.now (level_of a.l1.now a.l2.now a.l3.now a.l4.now) a.grant z) (to_z-of_z w64 a.at f.at)) c.got_code.ensures
 
-pub lc-mill-get-spec : {M : Type 1} → statement M
-lc-mill-get-spec = tie.close (tie.spec capture-in-requires get-requires got-code-requires returns)
+pub lc_mill_get_spec : {M : Type 1} → statement M
+lc_mill_get_spec = tie.close (tie.spec capture-in-requires get-requires got-code-requires returns)

@@ -13,13 +13,13 @@ use Rattle.logic_core.proofs.Codes.{sought_by}
 use Rattle.logic_core.proofs.mill_reader.lc_mill_prev_change.Statement.{statement}
 use Rattle.logic_core.proofs.mill_reader.lc_mill_prev_change.Tie as tie
 
-capture-in-requires : tie.Need-capture-in-requires
+capture-in-requires : tie.Need-capture_in-requires
 capture-in-requires c κs = search rules
 
-prev-change-requires : tie.Need-prev-change-requires
+prev-change-requires : tie.Need-prev_change-answer-requires
 prev-change-requires c κs = search rules
 
-found-code-requires : tie.Need-found-code-requires
+found-code-requires : tie.Need-found_code-requires
 found-code-requires c κs = search rules
 
 returns : tie.Need-returns
@@ -28,8 +28,8 @@ returns c =
     let s = read.before.before.before.before.before.before in
     let a = s.args in
     let f = s.ranges in
-    sought_by place found_of (λ (x : Capture). previous_of x a.samples.now (level_of a.l1.now a.l2.now a.l3.now a.l4.now) a.grant a.mask a.from) c.before.before.before.prev-change.result read.capture-in.ensures (c.before.before.before.prev-change.ensures ∙ ap (λ (z : ℤ). previous_of read.capture-in.result a.samples.now (level_of a.l1.now a.l2.now a.l3.now a.l4.now) a.grant a.mask z) (to_z-of_z w64 a.from f.from)) c.found-code.ensures
+    sought_by place found_of (λ (x : Capture). previous_of x a.samples.now (level_of a.l1.now a.l2.now a.l3.now a.l4.now) a.grant a.mask a.from) c.before.before.before.prev_change-answer.result read.capture_in.ensures (c.before.before.before.prev_change-answer.ensures ∙ ap (λ (z : ℤ). previous_of read.capture_in.result a.samples.now (level_of a.l1.now a.l2.now a.l3.now a.l4.now) a.grant a.mask z) (to_z-of_z w64 a.from f.from)) c.found_code.ensures
 
-pub lc-mill-prev-change-spec : {M : Type 1} → statement M
-lc-mill-prev-change-spec =
+pub lc_mill_prev_change_spec : {M : Type 1} → statement M
+lc_mill_prev_change_spec =
     tie.close (tie.spec capture-in-requires prev-change-requires found-code-requires returns)

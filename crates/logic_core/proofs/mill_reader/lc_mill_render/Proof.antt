@@ -5,25 +5,25 @@ use Rattle.logic_core.proofs.MillTold.{draws_told}
 use Rattle.logic_core.proofs.mill_reader.lc_mill_render.Statement.{statement}
 use Rattle.logic_core.proofs.mill_reader.lc_mill_render.Tie as tie
 
-capture-in-requires : tie.Need-capture-in-requires
+capture-in-requires : tie.Need-capture_in-requires
 capture-in-requires c κs = search rules
 
-render-requires : tie.Need-render-requires
+render-requires : tie.Need-render-answer-requires
 render-requires c κs = search rules
 
-drawn-code-requires : tie.Need-drawn-code-requires
+drawn-code-requires : tie.Need-drawn_code-requires
 drawn-code-requires c κs = search rules
 
-same_length : tie.Need-same-length
+same_length : tie.Need-shape_of-output
 same_length c = search rules
 
 returns : tie.Need-returns
 returns c =
     let read = c.before.before.before.before.before in
     let a = read.before.before.before.before.before.before.before.args in
-    draws_told a.samples.now (level_of a.l1.now a.l2.now a.l3.now a.l4.now) a.grant _ _ a.start a.spp a.width c.before.before.before.render.result _ read.capture-in.ensures c.before.before.before.render.ensures c.drawn-code.ensures
+    draws_told a.samples.now (level_of a.l1.now a.l2.now a.l3.now a.l4.now) a.grant _ _ a.start a.spp a.width c.before.before.before.render-answer.result _ read.capture_in.ensures c.before.before.before.render-answer.ensures c.drawn_code.ensures
 
-pub lc-mill-render-spec : {M : Type 1} → statement M
-lc-mill-render-spec =
+pub lc_mill_render_spec : {M : Type 1} → statement M
+lc_mill_render_spec =
     tie.close
     (tie.spec capture-in-requires render-requires drawn-code-requires same_length returns)

@@ -15,13 +15,13 @@ use Rattle.logic_core.proofs.Codes.{told_by}
 use Rattle.logic_core.proofs.mill_reader.lc_mill_summary.Statement.{statement}
 use Rattle.logic_core.proofs.mill_reader.lc_mill_summary.Tie as tie
 
-capture-in-requires : tie.Need-capture-in-requires
+capture-in-requires : tie.Need-capture_in-requires
 capture-in-requires c κs = search rules
 
-summary-requires : tie.Need-summary-requires
+summary-requires : tie.Need-summary-answer-requires
 summary-requires c κs = search rules
 
-shown-code-requires : tie.Need-shown-code-requires
+shown-code-requires : tie.Need-shown_code-requires
 shown-code-requires c κs = search rules
 
 returns : tie.Need-returns
@@ -30,8 +30,8 @@ returns c =
     let s = read.before.before.before.before.before.before in
     let a = s.args in
     let f = s.ranges in
-    told_by lines_numbers perhaps shown_of (λ (x : Capture). shown_for x a.samples.now (level_of a.l1.now a.l2.now a.l3.now a.l4.now) a.grant a.a a.b) c.before.before.summary.result _ _ _ read.capture-in.ensures (c.before.before.summary.ensures ∙ ap (λ (z : ℤ). shown_for read.capture-in.result a.samples.now (level_of a.l1.now a.l2.now a.l3.now a.l4.now) a.grant z (to_z w64 (of_z w64 a.b))) (to_z-of_z w64 a.a f.a) ∙ ap (λ (z : ℤ). shown_for read.capture-in.result a.samples.now (level_of a.l1.now a.l2.now a.l3.now a.l4.now) a.grant a.a z) (to_z-of_z w64 a.b f.b)) c.shown-code.ensures
+    told_by lines_numbers perhaps shown_of (λ (x : Capture). shown_for x a.samples.now (level_of a.l1.now a.l2.now a.l3.now a.l4.now) a.grant a.a a.b) c.before.before.summary-answer.result _ _ _ read.capture_in.ensures (c.before.before.summary-answer.ensures ∙ ap (λ (z : ℤ). shown_for read.capture_in.result a.samples.now (level_of a.l1.now a.l2.now a.l3.now a.l4.now) a.grant z (to_z w64 (of_z w64 a.b))) (to_z-of_z w64 a.a f.a) ∙ ap (λ (z : ℤ). shown_for read.capture_in.result a.samples.now (level_of a.l1.now a.l2.now a.l3.now a.l4.now) a.grant a.a z) (to_z-of_z w64 a.b f.b)) c.shown_code.ensures
 
-pub lc-mill-summary-spec : {M : Type 1} → statement M
-lc-mill-summary-spec =
+pub lc_mill_summary_spec : {M : Type 1} → statement M
+lc_mill_summary_spec =
     tie.close (tie.spec capture-in-requires summary-requires shown-code-requires returns)

@@ -5,26 +5,26 @@ use Rattle.logic_core.proofs.Starts.{starts_told}
 use Rattle.logic_core.proofs.recorder.lc_feeder_start.Statement.{statement}
 use Rattle.logic_core.proofs.recorder.lc_feeder_start.Tie as tie
 
-terms-in-requires : tie.Need-terms-in-requires
+terms-in-requires : tie.Need-terms_in-requires
 terms-in-requires c κs = search rules
 
-wish-in-requires : tie.Need-wish-in-requires
+wish-in-requires : tie.Need-wish_in-requires
 wish-in-requires c κs = search rules
 
-start-requires : tie.Need-start-requires
+start-requires : tie.Need-start-answer-requires
 start-requires c κs = search rules
 
-begun-code-requires : tie.Need-begun-code-requires
+begun-code-requires : tie.Need-begun_code-requires
 begun-code-requires c κs = search rules
 
 returns : tie.Need-returns
 returns c =
     let known = c.before.before.before.before.before.before in
     let a = known.before.before.before.before.before.before.before.args in
-    starts_told a.channels a.capacity a.limit a.terms.now a.seconds a.wish a.rate a.samples.now (level_of a.l1.now a.l2.now a.l3.now a.l4.now) a.ring.now c.before.before.before.start.result _ _ _ _ _ c.before.before.before.before.before.terms-in.ensures c.before.before.before.before.wish-in.ensures c.before.before.before.start.ensures c.begun-code.ensures
+    starts_told a.channels a.capacity a.limit a.terms.now a.seconds a.wish a.rate a.samples.now (level_of a.l1.now a.l2.now a.l3.now a.l4.now) a.ring.now c.before.before.before.start-answer.result _ _ _ _ _ c.before.before.before.before.before.terms_in.ensures c.before.before.before.before.wish_in.ensures c.before.before.before.start-answer.ensures c.begun_code.ensures
 
-pub lc-feeder-start-spec : {M : Type 1} → statement M
-lc-feeder-start-spec =
+pub lc_feeder_start_spec : {M : Type 1} → statement M
+lc_feeder_start_spec =
     tie.close
     (tie.spec
     terms-in-requires

@@ -8,7 +8,7 @@ use Rattle.logic_core.proofs.Told.{pushes_told, waited_told, passed_told}
 use Rattle.logic_core.proofs.recorder.lc_push.Statement.{statement}
 use Rattle.logic_core.proofs.recorder.lc_push.Tie as tie
 
-module _ (w : tie.After-wait-short) where
+module _ (w : tie.After-wait_short-waited) where
   abbrev s : tie.Start
   s =
       let lent = w.before.before.before.before.before.before.before in
@@ -20,84 +20,84 @@ module _ (w : tie.After-wait-short) where
 
   -- the numbers and the ring after a short push
   abbrev numbers_after : List ℕ
-  numbers_after = w.wait-short.last.0
+  numbers_after = w.wait_short-waited.last.0
 
   abbrev ring_after : List ℕ
-  ring_after = w.wait-short.last.1.1.1.1.1.1.0
+  ring_after = w.wait_short-waited.last.1.1.1.1.1.1.0
 
 -- the push, from its code
-abbrev pushed_at : tie.After-pushed-code → tie.After-push
+abbrev pushed_at : tie.After-pushed_code → tie.After-push-answer
 pushed_at p =
     let l3 = p.before.before.before.before.before.before.before in
     l3.before.before.before.before.before.before.before
 
-wait-short-requires : tie.Need-wait-short-requires
+wait-short-requires : tie.Need-wait_short-waited-requires
 wait-short-requires c κs = search rules
 
-same_length : tie.Need-same-length
+same_length : tie.Need-shape_of-samples-then-waited
 same_length c = search rules
 
-same-length-2 : tie.Need-same-length-2
+same-length-2 : tie.Need-shape_of-l1-then-waited
 same-length-2 c = search rules
 
-same-length-3 : tie.Need-same-length-3
+same-length-3 : tie.Need-shape_of-l2-then-waited
 same-length-3 c = search rules
 
-same-length-4 : tie.Need-same-length-4
+same-length-4 : tie.Need-shape_of-l3-then-waited
 same-length-4 c = search rules
 
-same-length-5 : tie.Need-same-length-5
+same-length-5 : tie.Need-shape_of-l4-then-waited
 same-length-5 c = search rules
 
-same-length-6 : tie.Need-same-length-6
+same-length-6 : tie.Need-shape_of-ring-then-waited
 same-length-6 c = search rules
 
-returns : tie.Need-returns
+returns : tie.Need-returns-then-waited
 returns c =
     let w = c.before.before.before in
     let a = (s w).args in
-    waited_told a.bytes.now a.samples.now (levels w) a.numbers.now a.ring.now (numbers_after w) (ring_after w) w.wait-short.result w.wait-short.ensures c.if1.true
+    waited_told a.bytes.now a.samples.now (levels w) a.numbers.now a.ring.now (numbers_after w) (ring_after w) w.wait_short-waited.result w.wait_short-waited.ensures c.if-waited.true
 
-feeder-in-requires : tie.Need-feeder-in-requires
+feeder-in-requires : tie.Need-feeder_in-f-requires
 feeder-in-requires c κs = search rules
 
-push-requires : tie.Need-push-requires
+push-requires : tie.Need-push-answer-requires
 push-requires c κs = search rules
 
-pushed-code-requires : tie.Need-pushed-code-requires
+pushed-code-requires : tie.Need-pushed_code-requires
 pushed-code-requires c κs = search rules
 
-same-length-7 : tie.Need-same-length-7
+same-length-7 : tie.Need-shape_of-samples
 same-length-7 c = search rules
 
-same-length-8 : tie.Need-same-length-8
+same-length-8 : tie.Need-shape_of-l1
 same-length-8 c = search rules
 
-same-length-9 : tie.Need-same-length-9
+same-length-9 : tie.Need-shape_of-l2
 same-length-9 c = search rules
 
-same-length-10 : tie.Need-same-length-10
+same-length-10 : tie.Need-shape_of-l3
 same-length-10 c = search rules
 
-same-length-11 : tie.Need-same-length-11
+same-length-11 : tie.Need-shape_of-l4
 same-length-11 c = search rules
 
-same-length-12 : tie.Need-same-length-12
+same-length-12 : tie.Need-shape_of-ring
 same-length-12 c =
     let n = (pushed_at c).before.before.before.before.before.before.before in
-    c.before.before.before.ring2.given ∙ n.before.before.before.before.ring.given
+    c.before.before.before.ring-2-1.given ∙ n.before.before.before.before.ring-1.given
 
-returns-2 : tie.Need-returns-2
+returns-2 : tie.Need-returns
 returns-2 c =
     let p = pushed_at c in
     let n = p.before.before.before.before.before.before.before in
     let w = n.before.before.before.before.before in
     let a = (s w).args in
-    passed_told a.bytes.now a.samples.now (levels w) a.numbers.now a.ring.now (numbers_after w) (ring_after w) w.wait-short.result w.wait-short.ensures n.before.before.if1.left
-    (pushes_told a.bytes.now a.samples.now (levels w) (ring_after w) _ _ _ p.push.result _ (numbers_after w) _ n.feeder-in.ensures p.push.ensures c.pushed-code.ensures)
+    passed_told a.bytes.now a.samples.now (levels w) a.numbers.now a.ring.now (numbers_after w) (ring_after w) w.wait_short-waited.result w.wait_short-waited.ensures n.before.before.if-waited.left
+    (pushes_told a.bytes.now a.samples.now (levels w) (ring_after w) _ _ _ p.push-answer.result _ (numbers_after w) _ n.feeder_in-f.ensures p.push-answer.ensures c.pushed_code.ensures)
 
-pub lc-push-spec : {M : Type 1} → statement M
-lc-push-spec =
+pub lc_push_spec : {M : Type 1} → statement M
+lc_push_spec =
     tie.close
     (tie.spec
     wait-short-requires

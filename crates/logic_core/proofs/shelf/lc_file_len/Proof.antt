@@ -9,18 +9,18 @@ use Rattle.logic_core.proofs.FilesTold.{out_same}
 use Rattle.logic_core.proofs.shelf.lc_file_len.Statement.{statement}
 use Rattle.logic_core.proofs.shelf.lc_file_len.Tie as tie
 
-capture-in-requires : tie.Need-capture-in-requires
+capture-in-requires : tie.Need-capture_in-requires
 capture-in-requires c κs = search rules
 
-file-len-requires : tie.Need-file-len-requires
+file-len-requires : tie.Need-file_len-answer-requires
 file-len-requires c κs = search rules
 
-length-code-requires : tie.Need-length-code-requires
+length-code-requires : tie.Need-length_code-requires
 length-code-requires c κs = search rules
 
 returns : tie.Need-returns
-returns c = out_same number (c.before.before.file-len.ensures ∙ ap (λ (x : Capture). length_answer (store_of x)) c.before.before.before.capture-in.ensures) c.length-code.ensures
+returns c = out_same number (c.before.before.file_len-answer.ensures ∙ ap (λ (x : Capture). length_answer (store_of x)) c.before.before.before.capture_in.ensures) c.length_code.ensures
 
-pub lc-file-len-spec : {M : Type 1} → statement M
-lc-file-len-spec =
+pub lc_file_len_spec : {M : Type 1} → statement M
+lc_file_len_spec =
     tie.close (tie.spec capture-in-requires file-len-requires length-code-requires returns)

@@ -4,24 +4,24 @@ use Rattle.logic_core.proofs.FilesTold.{writes_told}
 use Rattle.logic_core.proofs.shelf.lc_write.Statement.{statement}
 use Rattle.logic_core.proofs.shelf.lc_write.Tie as tie
 
-capture-in-requires : tie.Need-capture-in-requires
+capture-in-requires : tie.Need-capture_in-requires
 capture-in-requires c κs = search rules
 
-write-requires : tie.Need-write-requires
+write-requires : tie.Need-write-answer-requires
 write-requires c κs = search rules
 
-length-code-requires : tie.Need-length-code-requires
+length-code-requires : tie.Need-length_code-requires
 length-code-requires c κs = search rules
 
-same_length : tie.Need-same-length
+same_length : tie.Need-shape_of-output
 same_length c = search rules
 
 returns : tie.Need-returns
 returns c =
     let w = c.before.before.before.before in
-    writes_told w.write.result w.before.before.capture-in.ensures w.write.ensures c.length-code.ensures
+    writes_told w.write-answer.result w.before.before.capture_in.ensures w.write-answer.ensures c.length_code.ensures
 
-pub lc-write-spec : {M : Type 1} → statement M
-lc-write-spec =
+pub lc_write_spec : {M : Type 1} → statement M
+lc_write_spec =
     tie.close
     (tie.spec capture-in-requires write-requires length-code-requires same_length returns)

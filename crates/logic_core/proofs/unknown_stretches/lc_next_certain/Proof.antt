@@ -10,20 +10,20 @@ use Rattle.logic_core.proofs.Codes.{told_by}
 use Rattle.logic_core.proofs.unknown_stretches.lc_next_certain.Statement.{statement}
 use Rattle.logic_core.proofs.unknown_stretches.lc_next_certain.Tie as tie
 
-capture-in-requires : tie.Need-capture-in-requires
+capture-in-requires : tie.Need-capture_in-requires
 capture-in-requires c κs = search rules
 
-next-certain-requires : tie.Need-next-certain-requires
+next-certain-requires : tie.Need-next_certain-answer-requires
 next-certain-requires c κs = search rules
 
-located-code-requires : tie.Need-located-code-requires
+located-code-requires : tie.Need-located_code-requires
 located-code-requires c κs = search rules
 
 returns : tie.Need-returns
 returns c =
     let read = c.before.before.before in
     let a = read.before.before.before.before.before.before.before.args in
-    told_by number perhaps located_of (λ (x : Capture). certain_of false x a.samples.now (level_of a.l1.now a.l2.now a.l3.now a.l4.now) a.stretches.now a.mask a.from) c.before.before.next-certain.result _ _ _ read.capture-in.ensures c.before.before.next-certain.ensures c.located-code.ensures
+    told_by number perhaps located_of (λ (x : Capture). certain_of false x a.samples.now (level_of a.l1.now a.l2.now a.l3.now a.l4.now) a.stretches.now a.mask a.from) c.before.before.next_certain-answer.result _ _ _ read.capture_in.ensures c.before.before.next_certain-answer.ensures c.located_code.ensures
 
-pub lc-next-certain-spec : {M : Type 1} → statement M
-lc-next-certain-spec = tie.close (tie.spec capture-in-requires next-certain-requires located-code-requires returns)
+pub lc_next_certain_spec : {M : Type 1} → statement M
+lc_next_certain_spec = tie.close (tie.spec capture-in-requires next-certain-requires located-code-requires returns)

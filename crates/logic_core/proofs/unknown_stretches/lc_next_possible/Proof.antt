@@ -10,20 +10,20 @@ use Rattle.logic_core.proofs.Codes.{told_by}
 use Rattle.logic_core.proofs.unknown_stretches.lc_next_possible.Statement.{statement}
 use Rattle.logic_core.proofs.unknown_stretches.lc_next_possible.Tie as tie
 
-capture-in-requires : tie.Need-capture-in-requires
+capture-in-requires : tie.Need-capture_in-requires
 capture-in-requires c κs = search rules
 
-next-possible-requires : tie.Need-next-possible-requires
+next-possible-requires : tie.Need-next_possible-answer-requires
 next-possible-requires c κs = search rules
 
-located-code-requires : tie.Need-located-code-requires
+located-code-requires : tie.Need-located_code-requires
 located-code-requires c κs = search rules
 
 returns : tie.Need-returns
 returns c =
     let read = c.before.before.before in
     let a = read.before.before.before.before.before.before.before.args in
-    told_by number perhaps located_of (λ (x : Capture). possible_of false x a.samples.now (level_of a.l1.now a.l2.now a.l3.now a.l4.now) a.stretches.now a.mask a.from) c.before.before.next-possible.result _ _ _ read.capture-in.ensures c.before.before.next-possible.ensures c.located-code.ensures
+    told_by number perhaps located_of (λ (x : Capture). possible_of false x a.samples.now (level_of a.l1.now a.l2.now a.l3.now a.l4.now) a.stretches.now a.mask a.from) c.before.before.next_possible-answer.result _ _ _ read.capture_in.ensures c.before.before.next_possible-answer.ensures c.located_code.ensures
 
-pub lc-next-possible-spec : {M : Type 1} → statement M
-lc-next-possible-spec = tie.close (tie.spec capture-in-requires next-possible-requires located-code-requires returns)
+pub lc_next_possible_spec : {M : Type 1} → statement M
+lc_next_possible_spec = tie.close (tie.spec capture-in-requires next-possible-requires located-code-requires returns)

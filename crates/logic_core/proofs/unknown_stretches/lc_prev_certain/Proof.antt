@@ -10,20 +10,20 @@ use Rattle.logic_core.proofs.Codes.{told_by}
 use Rattle.logic_core.proofs.unknown_stretches.lc_prev_certain.Statement.{statement}
 use Rattle.logic_core.proofs.unknown_stretches.lc_prev_certain.Tie as tie
 
-capture-in-requires : tie.Need-capture-in-requires
+capture-in-requires : tie.Need-capture_in-requires
 capture-in-requires c κs = search rules
 
-prev-certain-requires : tie.Need-prev-certain-requires
+prev-certain-requires : tie.Need-prev_certain-answer-requires
 prev-certain-requires c κs = search rules
 
-located-code-requires : tie.Need-located-code-requires
+located-code-requires : tie.Need-located_code-requires
 located-code-requires c κs = search rules
 
 returns : tie.Need-returns
 returns c =
     let read = c.before.before.before in
     let a = read.before.before.before.before.before.before.before.args in
-    told_by number perhaps located_of (λ (x : Capture). certain_of true x a.samples.now (level_of a.l1.now a.l2.now a.l3.now a.l4.now) a.stretches.now a.mask a.from) c.before.before.prev-certain.result _ _ _ read.capture-in.ensures c.before.before.prev-certain.ensures c.located-code.ensures
+    told_by number perhaps located_of (λ (x : Capture). certain_of true x a.samples.now (level_of a.l1.now a.l2.now a.l3.now a.l4.now) a.stretches.now a.mask a.from) c.before.before.prev_certain-answer.result _ _ _ read.capture_in.ensures c.before.before.prev_certain-answer.ensures c.located_code.ensures
 
-pub lc-prev-certain-spec : {M : Type 1} → statement M
-lc-prev-certain-spec = tie.close (tie.spec capture-in-requires prev-certain-requires located-code-requires returns)
+pub lc_prev_certain_spec : {M : Type 1} → statement M
+lc_prev_certain_spec = tie.close (tie.spec capture-in-requires prev-certain-requires located-code-requires returns)

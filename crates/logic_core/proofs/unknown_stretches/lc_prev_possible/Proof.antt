@@ -10,20 +10,20 @@ use Rattle.logic_core.proofs.Codes.{told_by}
 use Rattle.logic_core.proofs.unknown_stretches.lc_prev_possible.Statement.{statement}
 use Rattle.logic_core.proofs.unknown_stretches.lc_prev_possible.Tie as tie
 
-capture-in-requires : tie.Need-capture-in-requires
+capture-in-requires : tie.Need-capture_in-requires
 capture-in-requires c κs = search rules
 
-prev-possible-requires : tie.Need-prev-possible-requires
+prev-possible-requires : tie.Need-prev_possible-answer-requires
 prev-possible-requires c κs = search rules
 
-located-code-requires : tie.Need-located-code-requires
+located-code-requires : tie.Need-located_code-requires
 located-code-requires c κs = search rules
 
 returns : tie.Need-returns
 returns c =
     let read = c.before.before.before in
     let a = read.before.before.before.before.before.before.before.args in
-    told_by number perhaps located_of (λ (x : Capture). possible_of true x a.samples.now (level_of a.l1.now a.l2.now a.l3.now a.l4.now) a.stretches.now a.mask a.from) c.before.before.prev-possible.result _ _ _ read.capture-in.ensures c.before.before.prev-possible.ensures c.located-code.ensures
+    told_by number perhaps located_of (λ (x : Capture). possible_of true x a.samples.now (level_of a.l1.now a.l2.now a.l3.now a.l4.now) a.stretches.now a.mask a.from) c.before.before.prev_possible-answer.result _ _ _ read.capture_in.ensures c.before.before.prev_possible-answer.ensures c.located_code.ensures
 
-pub lc-prev-possible-spec : {M : Type 1} → statement M
-lc-prev-possible-spec = tie.close (tie.spec capture-in-requires prev-possible-requires located-code-requires returns)
+pub lc_prev_possible_spec : {M : Type 1} → statement M
+lc_prev_possible_spec = tie.close (tie.spec capture-in-requires prev-possible-requires located-code-requires returns)

@@ -19,5 +19,5 @@ returns c =
     ap (λ (n : ℕ). record { first = a.self.first; last = a.b.last; toggles = bit_or (bit_or a.self.mask a.b.mask) (bit_xor a.self.last a.b.first); count = n })
     (c.added.ensures ∙ ap (λ (x : ℕ). cap_count (a.self.count + a.b.count + x)) c.before.border.ensures.0)
 
-pub join-spec : {M : Type 1} → statement M
-join-spec = tie.close (tie.spec border-requires added-requires returns)
+pub join_spec : {M : Type 1} → statement M
+join_spec = tie.close (tie.spec border-requires added-requires returns)

@@ -7,5 +7,5 @@ use Rattle.node.proofs.Node.join_lines.Tie as tie
 returns : tie.Need-returns
 returns c = record { lines = refl; count = λ z. absurd (false≢true z) }
 
-pub join-lines-spec : {M : Type 1} → statement M
-join-lines-spec = tie.close (tie.spec returns)
+pub join_lines_spec : {M : Type 1} → statement M
+join_lines_spec = tie.close (tie.spec returns)

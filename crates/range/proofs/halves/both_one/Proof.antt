@@ -9,87 +9,87 @@ use Rattle.range.proofs.Raw.{both_starts, both_on, both_ends}
 use Rattle.range.proofs.halves.both_one.Statement.{statement}
 use Rattle.range.proofs.halves.both_one.Tie as tie
 
-abbrev invariant-loop : tie.invariant-loop
+abbrev invariant-loop : tie.invariant-loop-k
 invariant-loop part a n mask₀ count₀ k₀ mask count k = (k ≤ n) × (count ≤ k + k) × Both (sample_of 1 part) a k mask count
 
-abbrev decreases-loop : tie.decreases-loop
+abbrev decreases-loop : tie.decreases-loop-k
 decreases-loop part a n mask₀ count₀ k₀ mask count k = n - k
 
-loop-holds : tie.Need-loop-init invariant-loop decreases-loop
+loop-holds : tie.Need-loop-k-init invariant-loop decreases-loop
 loop-holds c = (search rules, search rules, both_starts _ _)
 
-add-x : tie.Need-overflow-add-x invariant-loop decreases-loop
+add-x : tie.Need-overflow_add-x invariant-loop decreases-loop
 add-x c = search rules
 
-shared-slice-read-x : tie.Need-shared-slice-read-x invariant-loop decreases-loop
+shared-slice-read-x : tie.Need-bounds-part-a invariant-loop decreases-loop
 shared-slice-read-x c = search rules
 
-add-y : tie.Need-overflow-add-y invariant-loop decreases-loop
+add-y : tie.Need-overflow_add-y invariant-loop decreases-loop
 add-y c = search rules
 
-add-y-2 : tie.Need-overflow-add-y-2 invariant-loop decreases-loop
+add-y-2 : tie.Need-overflow_add-y-in-loop-k invariant-loop decreases-loop
 add-y-2 c = search rules
 
-shared-slice-read-y : tie.Need-shared-slice-read-y invariant-loop decreases-loop
+shared-slice-read-y : tie.Need-bounds-part-a-in-loop-k invariant-loop decreases-loop
 shared-slice-read-y c = search rules
 
-add-z : tie.Need-overflow-add-z invariant-loop decreases-loop
+add-z : tie.Need-overflow_add-z invariant-loop decreases-loop
 add-z c = search rules
 
-add-z-2 : tie.Need-overflow-add-z-2 invariant-loop decreases-loop
+add-z-2 : tie.Need-overflow_add-z-in-loop-k invariant-loop decreases-loop
 add-z-2 c = search rules
 
-shared-slice-read-z : tie.Need-shared-slice-read-z invariant-loop decreases-loop
+shared-slice-read-z : tie.Need-bounds-part-a-in-loop-k-2 invariant-loop decreases-loop
 shared-slice-read-z c = search rules
 
-add-w : tie.Need-overflow-add-w invariant-loop decreases-loop
+add-w : tie.Need-overflow_add-w invariant-loop decreases-loop
 add-w c = search rules
 
-add-w-2 : tie.Need-overflow-add-w-2 invariant-loop decreases-loop
+add-w-2 : tie.Need-overflow_add-w-in-loop-k invariant-loop decreases-loop
 add-w-2 c = search rules
 
-shared-slice-read-w : tie.Need-shared-slice-read-w invariant-loop decreases-loop
+shared-slice-read-w : tie.Need-bounds-part-a-in-loop-k-3 invariant-loop decreases-loop
 shared-slice-read-w c = search rules
 
-differ-one-requires : tie.Need-differ-one-requires invariant-loop decreases-loop
+differ-one-requires : tie.Need-differ_one-requires invariant-loop decreases-loop
 differ-one-requires c κs = search rules
 
-add-count : tie.Need-overflow-add-count invariant-loop decreases-loop
+add-count : tie.Need-overflow_add-count invariant-loop decreases-loop
 add-count c = search rules
 
-differ-one-requires-2 : tie.Need-differ-one-requires-2 invariant-loop decreases-loop
+differ-one-requires-2 : tie.Need-differ_one-requires-in-loop-k invariant-loop decreases-loop
 differ-one-requires-2 c κs = search rules
 
-add-count-2 : tie.Need-overflow-add-count-2 invariant-loop decreases-loop
+add-count-2 : tie.Need-overflow_add-count-in-loop-k invariant-loop decreases-loop
 add-count-2 c = search rules
 
-add-k : tie.Need-overflow-add-k invariant-loop decreases-loop
+add-k : tie.Need-overflow_add-k invariant-loop decreases-loop
 add-k c = search rules
 
-loop-less : tie.Need-loop-smaller invariant-loop decreases-loop
+loop-less : tie.Need-loop-k-smaller invariant-loop decreases-loop
 loop-less c = search rules
 
-loop-again : tie.Need-loop-preserved invariant-loop decreases-loop
+loop-again : tie.Need-loop-k-preserved invariant-loop decreases-loop
 loop-again c =
-    let p = c.before.before.before.before.before.before.before.loop in
+    let p = c.before.before.before.before.before.before.before.loop-k in
     let a = c.before.before.before.before.before.before.before.before.before.args in
     let part = a.part.now in
     let at = a.a + p.k in
-    (search rules, search rules, both_on (sample_of 1 part) a.a p.k p.mask p.count _ _ _ _ _ _ p.invariant.2 (byte_sample part at) (byte_sample part (at + 1)) (byte_sample part (at + 15)) (byte_sample part (at + 16)) c.before.differ_one.ensures.0 c.differ-one2.ensures.0)
+    (search rules, search rules, both_on (sample_of 1 part) a.a p.k p.mask p.count _ _ _ _ _ _ p.invariant.2 (byte_sample part at) (byte_sample part (at + 1)) (byte_sample part (at + 15)) (byte_sample part (at + 16)) c.before.differ_one.ensures.0 c.differ_one-in-loop-k.ensures.0)
 
 wide-requires : tie.Need-wide-requires invariant-loop decreases-loop
 wide-requires c κs = search rules
 
-cast-t22 : tie.Need-overflow-cast-t22 invariant-loop decreases-loop
+cast-t22 : tie.Need-overflow_cast-result invariant-loop decreases-loop
 cast-t22 c = search rules
 
 returns : tie.Need-returns invariant-loop decreases-loop
 returns c =
-    let p = c.before.before.loop in
-    both_ends _ _ _ _ _ _ _ p.invariant.2 (le_antisymm p.invariant.0 c.before.loop-test.false) c.wide.ensures.0
+    let p = c.before.before.loop-k in
+    both_ends _ _ _ _ _ _ _ p.invariant.2 (le_antisymm p.invariant.0 c.before.loop-k-test.false) c.wide.ensures.0
 
-pub both-one-spec : {M : Type 1} → statement M
-both-one-spec =
+pub both_one_spec : {M : Type 1} → statement M
+both_one_spec =
     tie.close
     (tie.spec
     invariant-loop

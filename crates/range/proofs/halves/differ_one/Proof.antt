@@ -5,11 +5,11 @@ use borrow.Author.Tests.{eq-eqb, ne_eqb}
 use Rattle.range.proofs.halves.differ_one.Statement.{statement}
 use Rattle.range.proofs.halves.differ_one.Tie as tie
 
-returns : tie.Need-returns
-returns c = let a = c.before.args in rw (eq-eqb a.x a.y c.if1.true) (refl, omega arith)
+returns : tie.Need-returns-then-x-y
+returns c = let a = c.before.args in rw (eq-eqb a.x a.y c.if-x-y.true) (refl, omega arith)
 
-returns-2 : tie.Need-returns-2
-returns-2 c = let a = c.before.args in rw (ne_eqb a.x a.y c.if1.false) (refl, omega arith)
+returns-2 : tie.Need-returns-else-x-y
+returns-2 c = let a = c.before.args in rw (ne_eqb a.x a.y c.if-x-y.false) (refl, omega arith)
 
-pub differ-one-spec : {M : Type 1} → statement M
-differ-one-spec = tie.close (tie.spec returns returns-2)
+pub differ_one_spec : {M : Type 1} → statement M
+differ_one_spec = tie.close (tie.spec returns returns-2)

@@ -7,40 +7,40 @@ use Rattle.replay_text.proofs.Digesting.{Digesting, starts, goes_on, ends}
 use Rattle.replay_text.proofs.digests.digest_of_bytes.Statement.{statement}
 use Rattle.replay_text.proofs.digests.digest_of_bytes.Tie as tie
 
-abbrev invariant-loop : tie.invariant-loop
+abbrev invariant-loop : tie.invariant-loop-i
 invariant-loop bytes d₀ i₀ d i = Digesting 0 bytes d i
 
-abbrev decreases-loop : tie.decreases-loop
+abbrev decreases-loop : tie.decreases-loop-i
 decreases-loop bytes d₀ i₀ d i = length bytes - i
 
-loop-holds : tie.Need-loop-init invariant-loop decreases-loop
+loop-holds : tie.Need-loop-i-init invariant-loop decreases-loop
 loop-holds c = starts _ _ (search rules)
 
-shared-slice-read-wide : tie.Need-shared-slice-read-wide invariant-loop decreases-loop
+shared-slice-read-wide : tie.Need-bounds-bytes-i invariant-loop decreases-loop
 shared-slice-read-wide c = search rules
 
 wide-requires : tie.Need-wide-requires invariant-loop decreases-loop
 wide-requires c κs = search rules
 
-digest-with-requires : tie.Need-digest-with-requires invariant-loop decreases-loop
+digest-with-requires : tie.Need-digest_with-d-requires invariant-loop decreases-loop
 digest-with-requires c κs =
-    (search rules, omega (arith, c.wide.ensures, c.before.shared-slice-known2.given c.before.before.before.loop.i))
+    (search rules, omega (arith, c.wide.ensures, c.before.shared_slice_known-in-loop-i-1.given c.before.before.before.loop-i.i))
 
-add-i : tie.Need-overflow-add-i invariant-loop decreases-loop
+add-i : tie.Need-overflow_add-i invariant-loop decreases-loop
 add-i c = search rules
 
-loop-less : tie.Need-loop-smaller invariant-loop decreases-loop
+loop-less : tie.Need-loop-i-smaller invariant-loop decreases-loop
 loop-less c = search rules
 
-loop-again : tie.Need-loop-preserved invariant-loop decreases-loop
+loop-again : tie.Need-loop-i-preserved invariant-loop decreases-loop
 loop-again c =
-    goes_on _ _ _ _ _ _ c.before.before.before.before.loop.invariant (search rules) c.before.wide.ensures c.digest-with.ensures
+    goes_on _ _ _ _ _ _ c.before.before.before.before.loop-i.invariant (search rules) c.before.wide.ensures c.digest_with-d.ensures
 
 returns : tie.Need-returns invariant-loop decreases-loop
-returns c = ends _ _ _ _ c.before.loop.invariant c.loop-test.false
+returns c = ends _ _ _ _ c.before.loop-i.invariant c.loop-i-test.false
 
-pub digest-of-bytes-spec : {M : Type 1} → statement M
-digest-of-bytes-spec =
+pub digest_of_bytes_spec : {M : Type 1} → statement M
+digest_of_bytes_spec =
     tie.close
     (tie.spec
     invariant-loop

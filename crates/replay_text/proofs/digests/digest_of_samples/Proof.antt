@@ -7,43 +7,43 @@ use Rattle.replay_text.proofs.Digesting.{Digesting, starts, goes_on, ends}
 use Rattle.replay_text.proofs.digests.digest_of_samples.Statement.{statement}
 use Rattle.replay_text.proofs.digests.digest_of_samples.Tie as tie
 
-abbrev invariant-loop : tie.invariant-loop
+abbrev invariant-loop : tie.invariant-loop-i
 invariant-loop digest samples d₀ i₀ d i = Digesting digest samples d i
 
-abbrev decreases-loop : tie.decreases-loop
+abbrev decreases-loop : tie.decreases-loop-i
 decreases-loop digest samples d₀ i₀ d i = length samples - i
 
-loop-holds : tie.Need-loop-init invariant-loop decreases-loop
+loop-holds : tie.Need-loop-i-init invariant-loop decreases-loop
 loop-holds c = starts _ _ (search rules)
 
-mul-value-of : tie.Need-overflow-mul-value-of invariant-loop decreases-loop
+mul-value-of : tie.Need-offset_bounds-samples-i invariant-loop decreases-loop
 mul-value-of c = search rules
 
-shared-slice-read-value-of : tie.Need-shared-slice-read-value-of invariant-loop decreases-loop
+shared-slice-read-value-of : tie.Need-bounds-samples-i invariant-loop decreases-loop
 shared-slice-read-value-of c = search rules
 
-value-of-requires : tie.Need-value-of-requires invariant-loop decreases-loop
+value-of-requires : tie.Need-value_of-requires invariant-loop decreases-loop
 value-of-requires c κs = search rules
 
-digest-with-requires : tie.Need-digest-with-requires invariant-loop decreases-loop
+digest-with-requires : tie.Need-digest_with-d-requires invariant-loop decreases-loop
 digest-with-requires c κs =
-    (search rules, omega (arith, c.value_of_lem.ensures, c.before.shared-slice-known2.given c.before.before.before.loop.i))
+    (search rules, omega (arith, c.value_of.ensures, c.before.shared_slice_known-in-loop-i-1.given c.before.before.before.loop-i.i))
 
-add-i : tie.Need-overflow-add-i invariant-loop decreases-loop
+add-i : tie.Need-overflow_add-i invariant-loop decreases-loop
 add-i c = search rules
 
-loop-less : tie.Need-loop-smaller invariant-loop decreases-loop
+loop-less : tie.Need-loop-i-smaller invariant-loop decreases-loop
 loop-less c = search rules
 
-loop-again : tie.Need-loop-preserved invariant-loop decreases-loop
+loop-again : tie.Need-loop-i-preserved invariant-loop decreases-loop
 loop-again c =
-    goes_on _ _ _ _ _ _ c.before.before.before.before.loop.invariant (search rules) c.before.value_of_lem.ensures c.digest-with.ensures
+    goes_on _ _ _ _ _ _ c.before.before.before.before.loop-i.invariant (search rules) c.before.value_of.ensures c.digest_with-d.ensures
 
 returns : tie.Need-returns invariant-loop decreases-loop
-returns c = ends _ _ _ _ c.before.loop.invariant c.loop-test.false
+returns c = ends _ _ _ _ c.before.loop-i.invariant c.loop-i-test.false
 
-pub digest-of-samples-spec : {M : Type 1} → statement M
-digest-of-samples-spec =
+pub digest_of_samples_spec : {M : Type 1} → statement M
+digest_of_samples_spec =
     tie.close
     (tie.spec
     invariant-loop

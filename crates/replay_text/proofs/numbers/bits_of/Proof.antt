@@ -31,21 +31,21 @@ far_is s e = e ∙ ap mag (read_is s.args.p s.ranges.p)
 magnitude-requires : tie.Need-magnitude-requires
 magnitude-requires c κs = search rules
 
-sub-result : tie.Need-overflow-sub-result
+sub-result : tie.Need-overflow_sub-result
 sub-result c = let s = c.before.before in omega (arith, far_is s c.magnitude.ensures, mag_small s.args.p s.ranges.p)
 
-returns : tie.Need-returns
+returns : tie.Need-returns-then-p-lt0
 returns c =
     let s = c.before.before in
-    ap (λ (n : ℕ). 18446744073709551615 - n) (far_is s c.magnitude.ensures) ∙ below s.args.p (sign_is s.args.p s.ranges.p true c.before.if1.true)
+    ap (λ (n : ℕ). 18446744073709551615 - n) (far_is s c.magnitude.ensures) ∙ below s.args.p (sign_is s.args.p s.ranges.p true c.before.if-p-lt0.true)
 
 magnitude-requires-2 : tie.Need-magnitude-requires-2
 magnitude-requires-2 c κs = search rules
 
-returns-2 : tie.Need-returns-2
+returns-2 : tie.Need-returns
 returns-2 c =
     let s = c.before.before in
-    far_is s c.magnitude2.ensures ∙ itself s.args.p (sign_is s.args.p s.ranges.p false c.before.if1.false)
+    far_is s c.magnitude-2.ensures ∙ itself s.args.p (sign_is s.args.p s.ranges.p false c.before.if-p-lt0.false)
 
-pub bits-of-spec : {M : Type 1} → statement M
-bits-of-spec = tie.close (tie.spec magnitude-requires sub-result returns magnitude-requires-2 returns-2)
+pub bits_of_spec : {M : Type 1} → statement M
+bits_of_spec = tie.close (tie.spec magnitude-requires sub-result returns magnitude-requires-2 returns-2)

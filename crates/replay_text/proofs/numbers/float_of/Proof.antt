@@ -15,20 +15,20 @@ nan_only nan h = refl
 nan_only (inf s) h = cc
 nan_only (fin s m e) h = cc
 
-returns : tie.Need-returns
+returns : tie.Need-returns-then-bits-gt9218868437227405312
 unfolding of_bits div
 returns c =
     sym
     (nan_only _
     (sym (nan_bits_is binary64 c.before.args.value)
     ∙ nan_bits_above binary64 c.before.args.value
-    ∙ lt-ltb _ _ c.if1.true))
+    ∙ lt-ltb _ _ c.if-bits-gt9218868437227405312.true))
 
-float-from-bits-result : tie.Need-float-from-bits-result
-float-from-bits-result c = rw (nan_bits_above binary64 c.before.args.value, le-ltb _ _ c.if1.false) tt
+float-from-bits-result : tie.Need-float_from_bits-result
+float-from-bits-result c = rw (nan_bits_above binary64 c.before.args.value, le-ltb _ _ c.if-bits-gt9218868437227405312.false) tt
 
-returns-2 : tie.Need-returns-2
+returns-2 : tie.Need-returns
 returns-2 c = search rules
 
-pub float-of-spec : {M : Type 1} → statement M
-float-of-spec = tie.close (tie.spec returns float-from-bits-result returns-2)
+pub float_of_spec : {M : Type 1} → statement M
+float_of_spec = tie.close (tie.spec returns float-from-bits-result returns-2)

@@ -13,44 +13,44 @@ use Rattle.replay_text.proofs.Digits.{digit_in, digits_more, decimal_more, digit
 use Rattle.replay_text.proofs.numbers.number.Statement.{statement}
 use Rattle.replay_text.proofs.numbers.number.Tie as tie
 
-abbrev invariant-loop : tie.invariant-loop
+abbrev invariant-loop : tie.invariant-loop-next
 invariant-loop line at start next₀ value₀ next value =
     (start ≤ next) × (decimal value (drop next line) ≡ decimal 0 (drop start line)) × (next + digits (drop next line) ≡ start + digits (drop start line))
 
-abbrev decreases-loop : tie.decreases-loop
+abbrev decreases-loop : tie.decreases-loop-next
 decreases-loop line at start next₀ value₀ next value = length line - next
 
-past-space-requires : tie.Need-past-space-requires invariant-loop decreases-loop
+past-space-requires : tie.Need-past_space-start-requires invariant-loop decreases-loop
 past-space-requires c κs = search rules
 
-loop-holds : tie.Need-loop-init invariant-loop decreases-loop
+loop-holds : tie.Need-loop-next-init invariant-loop decreases-loop
 loop-holds c = search rules
 
-shared-slice-read-b : tie.Need-shared-slice-read-b invariant-loop decreases-loop
+shared-slice-read-b : tie.Need-bounds-line-next invariant-loop decreases-loop
 shared-slice-read-b c = search rules
 
-is-digit-requires : tie.Need-is-digit-requires invariant-loop decreases-loop
+is-digit-requires : tie.Need-is_digit-requires invariant-loop decreases-loop
 is-digit-requires c κs = search rules
 
-with-digit-requires : tie.Need-with-digit-requires invariant-loop decreases-loop
+with-digit-requires : tie.Need-with_digit-value-requires invariant-loop decreases-loop
 with-digit-requires c κs =
-    digit_in _ (sym c.before.is_digit.ensures ∙ not-false _ c.if1.false)
+    digit_in _ (sym c.before.is_digit.ensures ∙ not-false _ c.if-not-is_digit.false)
 
-add-next : tie.Need-overflow-add-next invariant-loop decreases-loop
+add-next : tie.Need-overflow_add-next invariant-loop decreases-loop
 add-next c = search rules
 
-loop-less : tie.Need-loop-smaller invariant-loop decreases-loop
+loop-less : tie.Need-loop-next-smaller invariant-loop decreases-loop
 loop-less c = search rules
 
-loop-again : tie.Need-loop-preserved invariant-loop decreases-loop
+loop-again : tie.Need-loop-next-preserved invariant-loop decreases-loop
 loop-again c =
     let h = c.before.before.before.before.before in
     let l = h.before.before.before.args.line.now in
-    let i = h.loop.next in
-    let inv = h.loop.invariant in
-    let digit = sym c.before.before.is_digit.ensures ∙ not-false _ c.before.if1.false in (
+    let i = h.loop-next.next in
+    let inv = h.loop-next.invariant in
+    let digit = sym c.before.before.is_digit.ensures ∙ not-false _ c.before.if-not-is_digit.false in (
       search rules,
-      rw (c.with-digit.ensures, add-one i, ← decimal_more _ l i digit) inv.1,
+      rw (c.with_digit-value.ensures, add-one i, ← decimal_more _ l i digit) inv.1,
       rw add-one (omega (arith, digits_more l i digit, inv.2)),
     )
 
@@ -58,20 +58,20 @@ returns : tie.Need-returns invariant-loop decreases-loop
 unfolding is_digit
 returns c =
     let l = c.before.before.before.before.args.line.now in
-    let i = c.before.loop.next in
-    let inv = c.before.loop.invariant in
+    let i = c.before.loop-next.next in
+    let inv = c.before.loop-next.invariant in
     let stop : is_digit (get_or l i 0) ≡ false =
     ⊎_elim (λ w. rw (get_or-eq_default l 0 w.left))
-    (λ w. sym w.2.ensures ∙ not-true _ w.3.taken) c.loop-test.branch in
-    let from = c.before.before.past-space.ensures in
+    (λ w. sym w.2.ensures ∙ not-true _ w.3.taken) c.loop-next-test.branch in
+    let from = c.before.before.past_space-start.ensures in
     record {
       value_is = rw (← from) (sym (decimal_end _ l i stop) ∙ inv.1);
       next_is = rw (← from) (omega (arith, digits_end l i stop, inv.2));
       found_is = rw (← from);
     }
 
-pub number-spec : {M : Type 1} → statement M
-number-spec =
+pub number_spec : {M : Type 1} → statement M
+number_spec =
     tie.close
     (tie.spec
     invariant-loop

@@ -5,29 +5,29 @@ use Rattle.replay_text.specs.Numbers.{with_digit}
 use Rattle.replay_text.proofs.numbers.with_digit.Statement.{statement}
 use Rattle.replay_text.proofs.numbers.with_digit.Tie as tie
 
-sub_wide : tie.Need-overflow-sub-wide
+sub_wide : tie.Need-overflow_sub-b
 sub_wide c = search rules
 
-wide-requires : tie.Need-wide-requires
+wide-requires : tie.Need-wide-digit-requires
 wide-requires c κs = search rules
 
-sub-if1 : tie.Need-overflow-sub-if1
+sub-if1 : tie.Need-overflow_sub-digit
 sub-if1 c = search rules
 
-returns : tie.Need-returns
+returns : tie.Need-returns-then-digit-value
 unfolding with_digit
 returns c = omega arith
 
-mul-result : tie.Need-overflow-mul-result
+mul-result : tie.Need-overflow_mul-result
 mul-result c = search rules
 
-add-result : tie.Need-overflow-add-result
+add-result : tie.Need-overflow_add-result
 add-result c = search rules
 
-returns-2 : tie.Need-returns-2
+returns-2 : tie.Need-returns
 unfolding with_digit
 returns-2 c = omega arith
 
-pub with-digit-spec : {M : Type 1} → statement M
-with-digit-spec =
+pub with_digit_spec : {M : Type 1} → statement M
+with_digit_spec =
     tie.close (tie.spec sub_wide wide-requires sub-if1 returns mul-result add-result returns-2)

@@ -8,5 +8,5 @@ returns : tie.Need-returns
 unfolding both_as_edge
 returns c = refl
 
-pub both-as-edge-spec : {M : Type 1} → statement M
-both-as-edge-spec = tie.close (tie.spec returns)
+pub both_as_edge_spec : {M : Type 1} → statement M
+both_as_edge_spec = tie.close (tie.spec returns)

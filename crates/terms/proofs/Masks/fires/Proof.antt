@@ -8,33 +8,33 @@ use Rattle.terms.specs.Terms.{as_masks, previous_of}
 use Rattle.terms.proofs.Masks.fires.Statement.{statement}
 use Rattle.terms.proofs.Masks.fires.Tie as tie
 
-enum-known-previous : tie.Need-enum-known-previous
+enum-known-previous : tie.Need-enum_known-previous
 enum-known-previous c = search rules
 
 matches-requires : tie.Need-matches-requires
 matches-requires c κs = search rules
 
-enum_told : tie.Need-enum-told
+enum_told : tie.Need-enum_told-1
 enum_told c = search rules
 
-returns : tie.Need-returns
+returns : tie.Need-returns-then-self-ne0
 unfolding fires
 returns c =
     let a = c.before.before.before.before.before.args in
-    rw (c.before.before.before.enum_told.given.1, ne_eqb _ _ c.if1.true)
+    rw (c.before.before.before.enum_told-1.given.1, ne_eqb _ _ c.if-self-ne0.true)
 
-matches-requires-2 : tie.Need-matches-requires-2
+matches-requires-2 : tie.Need-matches-requires-in-Nothing
 matches-requires-2 c κs = search rules
 
-returns-2 : tie.Need-returns-2
+returns-2 : tie.Need-returns-in-Sample
 unfolding fires
 returns-2 c =
     let a = c.before.before.before.before.args in
-    c.matches.ensures ∙ sym (ap (λ (q : Previous). fires (as_masks a.self) (previous_of q) a.v) c.before.before.previous.given.1)
+    c.matches.ensures ∙ sym (ap (λ (q : Previous). fires (as_masks a.self) (previous_of q) a.v) c.before.before.previous-1.given.1)
 
-returns-3 : tie.Need-returns-3
+returns-3 : tie.Need-returns-else-self-ne0
 unfolding fires
-returns-3 c = rw (c.before.before.before.before.enum_told.given.1, eq-eqb _ _ c.before.if1.false) c.matches2.ensures
+returns-3 c = rw (c.before.before.before.before.enum_told-1.given.1, eq-eqb _ _ c.before.if-self-ne0.false) c.matches-in-Nothing.ensures
 
-pub fires-spec : {M : Type 1} → statement M
-fires-spec = tie.close (tie.spec enum-known-previous matches-requires enum_told returns matches-requires-2 returns-2 returns-3)
+pub fires_spec : {M : Type 1} → statement M
+fires_spec = tie.close (tie.spec enum-known-previous matches-requires enum_told returns matches-requires-2 returns-2 returns-3)

@@ -10,5 +10,5 @@ returns c =
     let a = half.before.before.before.before.before.before.args in
     unmet_none (as_masks a.self) a.prev a.v
 
-pub matches-spec : {M : Type 1} → statement M
-matches-spec = tie.close (tie.spec returns)
+pub matches_spec : {M : Type 1} → statement M
+matches_spec = tie.close (tie.spec returns)

@@ -13,38 +13,38 @@ use mathlib.Core.Path.{sym}
 arm : (m : Masks) (b : ℕ) (k j : Condition) → j ≡ k → with_line m k b ≡ with_line m j b
 arm m b k j e = sym (ap (λ (x : Condition). with_line m x b) e)
 
-enum_told : tie.Need-enum-told
+enum_told : tie.Need-enum_told-1
 enum_told c = search rules
 
-enum-told-2 : tie.Need-enum-told-2
+enum-told-2 : tie.Need-enum_told-in-Low
 enum-told-2 c = search rules
 
-enum-told-3 : tie.Need-enum-told-3
+enum-told-3 : tie.Need-enum_told-in-Rising
 enum-told-3 c = search rules
 
-enum-told-4 : tie.Need-enum-told-4
+enum-told-4 : tie.Need-enum_told-in-Falling
 enum-told-4 c = search rules
 
-enum-told-5 : tie.Need-enum-told-5
+enum-told-5 : tie.Need-enum_told-in-Edge
 enum-told-5 c = search rules
 
-returns : tie.Need-returns
-returns c = let a = c.before.before.before.args in arm a.self a.bit _ _ c.before.enum_told.given.1
+returns : tie.Need-returns-in-High
+returns c = let a = c.before.before.before.args in arm a.self a.bit _ _ c.before.enum_told-1.given.1
 
-returns-2 : tie.Need-returns-2
-returns-2 c = let a = c.before.before.before.args in arm a.self a.bit _ _ c.before.enum-told2.given.1
+returns-2 : tie.Need-returns-in-Low
+returns-2 c = let a = c.before.before.before.args in arm a.self a.bit _ _ c.before.enum_told-in-Low-1.given.1
 
-returns-3 : tie.Need-returns-3
-returns-3 c = let a = c.before.before.before.args in arm a.self a.bit _ _ c.before.enum-told3.given.1
+returns-3 : tie.Need-returns-in-Rising
+returns-3 c = let a = c.before.before.before.args in arm a.self a.bit _ _ c.before.enum_told-in-Rising-1.given.1
 
-returns-4 : tie.Need-returns-4
-returns-4 c = let a = c.before.before.before.args in arm a.self a.bit _ _ c.before.enum-told4.given.1
+returns-4 : tie.Need-returns-in-Falling
+returns-4 c = let a = c.before.before.before.args in arm a.self a.bit _ _ c.before.enum_told-in-Falling-1.given.1
 
-returns-5 : tie.Need-returns-5
-returns-5 c = let a = c.before.before.before.args in arm a.self a.bit _ _ c.before.enum-told5.given.1
+returns-5 : tie.Need-returns-in-Edge
+returns-5 c = let a = c.before.before.before.args in arm a.self a.bit _ _ c.before.enum_told-in-Edge-1.given.1
 
-pub with-line-spec : {M : Type 1} → statement M
-with-line-spec =
+pub with_line_spec : {M : Type 1} → statement M
+with_line_spec =
     tie.close
     (tie.spec
     enum_told

@@ -6,19 +6,19 @@ use Rattle.terms.proofs.Fold.{with_wrong, with_line_lem}
 use Rattle.terms.proofs.Terms.with.Statement.{statement}
 use Rattle.terms.proofs.Terms.with.Tie as tie
 
-returns : tie.Need-returns
-returns c = with_wrong c.before.before.args.self c.before.before.args.t c.if1.true
+returns : tie.Need-returns-then-channel-gt-TOP_LINE
+returns c = with_wrong c.before.before.args.self c.before.before.args.t c.if-channel-gt-TOP_LINE.true
 
-line-bit-requires : tie.Need-line-bit-requires
+line-bit-requires : tie.Need-line_bit-requires
 line-bit-requires c κs = search rules
 
-with-line-requires : tie.Need-with-line-requires
+with-line-requires : tie.Need-with_line-added-requires
 with-line-requires c κs = search rules
 
-returns-2 : tie.Need-returns-2
+returns-2 : tie.Need-returns
 returns-2 c =
     let a = c.before.before.before.before.args in
-    with_line_lem a.self a.t c.with_line_lem.result c.before.before.if1.false (c.with_line_lem.ensures ∙ ap (with_line a.self.masks a.t.condition) c.before.line-bit.ensures)
+    with_line_lem a.self a.t c.with_line-added.result c.before.before.if-channel-gt-TOP_LINE.false (c.with_line-added.ensures ∙ ap (with_line a.self.masks a.t.condition) c.before.line_bit.ensures)
 
-pub with-spec : {M : Type 1} → statement M
-with-spec = tie.close (tie.spec returns line-bit-requires with-line-requires returns-2)
+pub with_spec : {M : Type 1} → statement M
+with_spec = tie.close (tie.spec returns line-bit-requires with-line-requires returns-2)
