@@ -57,11 +57,15 @@ padding count = ap (λ (n : ℕ). sample_bytes n 0) left ∙ zeros_are (payload_
     left = omega arith
 
 -- ---- bytes put
+pub put_over : (s last given : List ℕ) (from to : ℕ) → from ≤ to → last ≡ given
+    → take from s ++ (last ++ drop (to - from) (drop from s)) ≡ take from s ++ (given ++ drop to s)
+put_over s last given from to h e =
+    ap₂ (λ (x y : List ℕ). take from s ++ (x ++ y)) e (drop-drop (to - from) from s ∙ ap (λ (k : ℕ). drop k s) (add-sub_of_le h))
+
 pub put_part : (s last : List ℕ) (from to value : ℕ) → from ≤ to → to ≤ length s → last ≡ sample_bytes (length (take (to - from) (drop from s))) value
     → take from s ++ (last ++ drop (to - from) (drop from s)) ≡ take from s ++ (sample_bytes (to - from) value ++ drop to s)
 put_part s last from to value h l e =
-    ap₂ (λ (x y : List ℕ). take from s ++ (x ++ y)) (e ∙ ap (λ (n : ℕ). sample_bytes n value) (part_length s from to h l))
-    (drop-drop (to - from) from s ∙ ap (λ (k : ℕ). drop k s) (add-sub_of_le h))
+    put_over s last (sample_bytes (to - from) value) from to h (e ∙ ap (λ (n : ℕ). sample_bytes n value) (part_length s from to h l))
 
 -- bytes put behind a front that is known
 put_next : (s s' front r f : List ℕ) (a m : ℕ) → s ≡ front ++ r → length front ≡ a → s' ≡ take a s ++ (f ++ drop (a + m) s) → s' ≡ (front ++ f) ++ drop m r
@@ -100,33 +104,27 @@ fields_put s s₁ s₂ s₃ number count size e₁ e₂ e₃ =
     second_size = length-append (take 2 s ++ x) y ∙ ap₂ ◌+◌ first_size (sample_bytes_length 4 number)
 
 -- the payload, and the zeros behind it
-pub payload_put : (s s₁ s₂ copied payload : List ℕ) (count : ℕ) → count ≡ length payload → length s ≡ block_size → length payload ≤ payload_most
-    → copied ≡ take (length payload) payload ++ drop (length payload) (take payload_most (drop payload_at s))
-    → s₁ ≡ take payload_at s ++ (copied ++ drop payload_most (drop payload_at s))
-    → s₂ ≡ take (payload_at + count) s₁ ++ (sample_bytes (block_size - (payload_at + count)) 0 ++ drop block_size s₁)
+pub payload_put : (s s₁ s₂ payload : List ℕ) → length s ≡ block_size → length payload ≤ payload_most
+    → s₁ ≡ take payload_at s ++ (payload ++ drop (payload_at + length payload) s)
+    → s₂ ≡ take (payload_at + length payload) s₁ ++ (sample_bytes (block_size - (payload_at + length payload)) 0 ++ drop block_size s₁)
     → s₂ ≡ take payload_at s ++ (payload ++ zeros (payload_most - length payload))
-payload_put s s₁ s₂ copied payload count same size small e e₁ e₂ =
+payload_put s s₁ s₂ payload size small e₁ e₂ =
     e₂
-    ∙ ap (λ (n : ℕ). take (payload_at + n) s₁ ++ (sample_bytes (block_size - (payload_at + n)) 0 ++ drop block_size s₁)) same
     ∙ ap₂ (λ (x y : List ℕ). x ++ y) (ap (take (payload_at + length payload)) stands ∙ take_at (take payload_at s ++ payload) rest (payload_at + length payload) front_size)
     (ap₂ (λ (x y : List ℕ). x ++ y) (padding (length payload)) (drop_of_length-le s₁ whole) ∙ append-nil (zeros (payload_most - length payload)))
     ∙ append_assoc (take payload_at s) payload (zeros (payload_most - length payload))
   where
     rest : List ℕ
-    rest = drop (length payload) (take payload_most (drop payload_at s)) ++ drop payload_most (drop payload_at s)
+    rest = drop (payload_at + length payload) s
 
     stands : s₁ ≡ (take payload_at s ++ payload) ++ rest
-    stands =
-        e₁
-        ∙ ap (λ (l : List ℕ). take payload_at s ++ (l ++ drop payload_most (drop payload_at s))) (e ∙ ap (λ (l : List ℕ). l ++ drop (length payload) (take payload_most (drop payload_at s))) (take-length payload))
-        ∙ ap (λ (l : List ℕ). take payload_at s ++ l) (append_assoc payload (drop (length payload) (take payload_most (drop payload_at s))) (drop payload_most (drop payload_at s)))
-        ∙ sym (append_assoc (take payload_at s) payload rest)
+    stands = e₁ ∙ sym (append_assoc (take payload_at s) payload rest)
 
     front_size : length (take payload_at s ++ payload) ≡ payload_at + length payload
     front_size = length-append (take payload_at s) payload ∙ ap (λ (n : ℕ). n + length payload) (length-take-le payload_at s (omega (arith, size)))
 
     rest_size : length rest ≡ payload_most - length payload
-    rest_size = length-append (drop (length payload) (take payload_most (drop payload_at s))) (drop payload_most (drop payload_at s)) ∙ simp (length-drop, length-take) (omega (arith, size, small))
+    rest_size = simp length-drop (omega (arith, size, small))
 
     whole : length s₁ ≤ block_size
     whole = omega (arith, ap length stands, length-append (take payload_at s ++ payload) rest, front_size, rest_size, small)

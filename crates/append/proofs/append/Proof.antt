@@ -15,12 +15,6 @@ use Rattle.append.proofs.append.Tie as tie
 abbrev start_at : tie.After-shared_slice_known-1 → tie.Start
 start_at p = p.before.before.before.before.before.before
 
--- the call that stores, from where all is lent back
-abbrev stored_at : tie.After-slice_known-10-1 → tie.After-append_samples
-stored_at p =
-    let l2 = p.before.before.before.before.before in
-    l2.before.before.before.before.before
-
 -- the start from the first test's call, and the levels then
 module _ (f : tie.After-refusal-wrong) where
   abbrev s : tie.Start
@@ -31,7 +25,7 @@ module _ (f : tie.After-refusal-wrong) where
 
 -- past the first test rows 1 and 2 do not hold
 bounds : (c : tie.Else-wrong-ne0) → Sound (store_of (s c.before).args.c) (lent_of (s c.before).args.samples.now (levels c.before))
-bounds c = let_in c.before.refusal-wrong.ensures c.if-wrong-ne0.false
+bounds c = let_in c.refusal-wrong.ensures c.if-wrong-ne0.false
 
 refusal-requires : tie.Need-refusal-wrong-requires
 refusal-requires c κs = search rules
@@ -88,16 +82,14 @@ returns-2 c =
 
 append-samples-requires : tie.Need-append_samples-requires
 append-samples-requires c κs =
-    let t = c.before.before.before.before.before in
-    let e = t.before.before in
+    let e = c.before.before in
     let a = (s e.before).args in
-    room_of a.c a.bytes.now a.samples.now (levels e.before) (bounds e) (omega (arith, t.if-c-len.false, (bounds e).len_most))
+    room_of a.c a.bytes.now a.samples.now (levels e.before) (bounds e) (omega (arith, c.if-c-len.false, (bounds e).len_most))
 
 add-t24 : tie.Need-overflow_add-result
 add-t24 c =
-    let t = (stored_at c).before.before.before.before.before.before in
-    let d = bounds t.before.before in
-    omega (arith, t.if-c-len.left, d.len_most, d.capacity_most)
+    let d = bounds c.before.before in
+    omega (arith, c.if-c-len.left, d.len_most, d.capacity_most)
 
 same-length-11 : tie.Need-shape_of-samples
 same-length-11 c = search rules
@@ -116,12 +108,10 @@ same-length-15 c = search rules
 
 returns-3 : tie.Need-returns
 returns-3 c =
-    let w = stored_at c in
-    let t = w.before.before.before.before.before.before in
-    let e = t.before.before in
+    let e = c.before.before in
     let f = e.before in
     let a = (s f).args in
-    appends_done a.c a.bytes.now a.samples.now (levels f) (refused_none a.c a.bytes.now a.samples.now (levels f) f.refusal-wrong.ensures e.if-wrong-ne0.left (omega (arith, t.if-c-len.left, (bounds e).len_most))) _ _ w.append_samples.ensures
+    appends_done a.c a.bytes.now a.samples.now (levels f) (refused_none a.c a.bytes.now a.samples.now (levels f) f.refusal-wrong.ensures e.if-wrong-ne0.left (omega (arith, c.if-c-len.left, (bounds e).len_most))) _ _ c.append_samples.ensures
 
 pub append_spec : {M : Type 1} → statement M
 append_spec =

@@ -29,9 +29,7 @@ side-of-requires c κs = search rules
 
 returns-3 : tie.Need-returns
 returns-3 c =
-    let m = c.before.before in
-    let k = m.before.before.before in
-    c.side_of.ensures ∙ sym (ap₂ (λ (p n : Change). between k.before.before.args.gap (change_as p) (change_as n)) k.before-1.given.1 m.after-1.given.1)
+    c.side_of.ensures ∙ sym (ap₂ (λ (p n : Change). between c.args.gap (change_as p) (change_as n)) c.in-At.is c.in-At-after.is)
 
 pub between_spec : {M : Type 1} → statement M
 between_spec = tie.close (tie.spec enum-known-before enum_told returns enum-known-after enum-told-2 returns-2 side-of-requires returns-3)

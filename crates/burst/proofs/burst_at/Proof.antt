@@ -37,14 +37,14 @@ burst-at s = bursted_by (back_at s) (fore_at s) s.args.c.len s.args.sample s.arg
 told : (k : tie.Else-number-ne0) (b : Counted Burst) → let s = start_of k in b ≡ burst-at s
     → given b ≡ burst_of s.args.c s.args.samples.now (level_of s.args.l1.now s.args.l2.now s.args.l3.now s.args.l4.now) s.args.mask s.args.sample s.args.max_gap s.args.tolerance s.args.budget
 unfolding burst_of
-told k b e = given_is _ k.before.refusal-number.ensures k.if-number-ne0.false e
+told k b e = given_is _ k.refusal-number.ensures k.if-number-ne0.false e
 
 -- and the capture lies in memory
 stored : (h : tie.Else-len-eq0) → let s = start_of h.before in Stored s.args.c.unitsize s.args.c.len s.args.samples.now (level_of s.args.l1.now s.args.l2.now s.args.l3.now s.args.l4.now)
 stored h =
     let k = h.before in
     let s = start_of k in
-    stored_of s.args.c s.args.samples.now (level_of s.args.l1.now s.args.l2.now s.args.l3.now s.args.l4.now) (let_in k.before.refusal-number.ensures k.if-number-ne0.false)
+    stored_of s.args.c s.args.samples.now (level_of s.args.l1.now s.args.l2.now s.args.l3.now s.args.l4.now) (let_in k.refusal-number.ensures k.if-number-ne0.false)
 
 -- the pair, by the clamped tolerance
 abbrev start_at : tie.After-pair_of-pair → tie.Start
@@ -53,24 +53,22 @@ start_at p = start_of p.before.before.before.before
 paired : (p : tie.After-pair_of-pair) (side : Option rule.Side) → side ≡ side_as p.pair_of-pair.result.side-1
     → let s = start_at p in grown_from (back_at s) (fore_at s) s.args.max_gap s.args.budget (counted side p.pair_of-pair.result.read) ≡ burst-at s
 paired p side e =
-    let h = p.before.before in
     let s = start_at p in
-    let clamped : p.before.lesser.result ≡ min s.args.tolerance (s.args.max_gap - 1) = p.before.lesser.ensures in
-    burst_grown (back_at s) (fore_at s) s.args.c.len s.args.sample s.args.max_gap s.args.tolerance s.args.budget h.before.if-len-eq0.false h.if-max_gap-lt2.false (counted side p.pair_of-pair.result.read)
+    let clamped : p.lesser.result ≡ min s.args.tolerance (s.args.max_gap - 1) = p.lesser.ensures in
+    burst_grown (back_at s) (fore_at s) s.args.c.len s.args.sample s.args.max_gap s.args.tolerance s.args.budget p.if-len-eq0.false p.if-max_gap-lt2.false (counted side p.pair_of-pair.result.read)
     (ap (λ (o : Option rule.Side). counted o p.pair_of-pair.result.read) e ∙ p.pair_of-pair.ensures ∙ ap (λ (t : ℕ). paired_by (back_at s) (fore_at s) s.args.max_gap t s.args.sample) clamped)
 
 -- the pair grown at both ends, and the nodes read for all
 abbrev read_at : tie.After-end_of-start → ℕ
-read_at f = f.before.before.before.before.before.pair_of-pair.result.read + f.before.end_of-end.result.read + f.end_of-start.result.read
+read_at f = f.pair_of-pair.result.read + f.end_of-end.result.read + f.end_of-start.result.read
 
-grew : (f : tie.After-end_of-start) → let s = start_at f.before.before.before.before.before in counted (some (ends (places (back_at s)) (places (fore_at s)) (end_as f.before.end_of-end.result) (end_as f.end_of-start.result))) (read_at f) ≡ burst-at s
+grew : (f : tie.After-end_of-start) → let s = start_at f.before.before.before.before.before in counted (some (ends (places (back_at s)) (places (fore_at s)) (end_as f.end_of-end.result) (end_as f.end_of-start.result))) (read_at f) ≡ burst-at s
 grew f =
-    let d = f.before.before.before in
-    let p = d.before.before in
+    let p = f.before.before in
     let s = start_at p in
-    let side : rule.Side = record { distance = d.side-1.given.0.0; first = d.side-1.given.0.1.0; last = d.side-1.given.0.1.1.0 } in
-    grown_some (back_at s) (fore_at s) s.args.max_gap s.args.budget side p.pair_of-pair.result.read f.before.end_of-end.result f.end_of-start.result f.before.end_of-end.ensures f.end_of-start.ensures
-    ∙ paired p (some side) (sym (ap side_as d.side-1.given.1))
+    let side : rule.Side = record { distance = f.in-Pair.field-0; first = f.in-Pair.first; last = f.in-Pair.last } in
+    grown_some (back_at s) (fore_at s) s.args.max_gap s.args.budget side p.pair_of-pair.result.read f.end_of-end.result f.end_of-start.result f.end_of-end.ensures f.end_of-start.ensures
+    ∙ paired p (some side) (sym (ap side_as f.in-Pair.is))
 
 -- so that every sum of the counts fits
 read_few : (f : tie.After-end_of-start) → read_at f ≤ most_burst
@@ -88,7 +86,7 @@ refusal-requires c κs = search rules
 
 returns : tie.Need-returns-then-number-ne0
 unfolding burst_of
-returns c = refused_is _ c.before.refusal-number.ensures c.if-number-ne0.true
+returns c = refused_is _ c.refusal-number.ensures c.if-number-ne0.true
 
 returns-2 : tie.Need-returns-then-len-eq0
 returns-2 c =
@@ -100,7 +98,7 @@ returns-3 : tie.Need-returns-then-max_gap-lt2
 returns-3 c =
     let k = c.before.before in
     let s = start_of k in
-    told k (counted none 0) (burst_narrow (back_at s) (fore_at s) s.args.c.len s.args.sample s.args.max_gap s.args.tolerance s.args.budget c.before.if-len-eq0.false c.if-max_gap-lt2.true)
+    told k (counted none 0) (burst_narrow (back_at s) (fore_at s) s.args.c.len s.args.sample s.args.max_gap s.args.tolerance s.args.budget c.if-len-eq0.false c.if-max_gap-lt2.true)
 
 sub-lesser : tie.Need-overflow_sub-max_gap
 sub-lesser c = search rules
@@ -122,13 +120,13 @@ returns-4 c =
     let p = c.before.before in
     let s = start_at p in
     told p.before.before.before.before _
-    (grown_none (back_at s) (fore_at s) s.args.max_gap s.args.budget p.pair_of-pair.result.read ∙ paired p none (sym (ap side_as c.enum_told-1.given.1)))
+    (grown_none (back_at s) (fore_at s) s.args.max_gap s.args.budget p.pair_of-pair.result.read ∙ paired p none (sym (ap side_as c.in_default.is)))
 
 end-of-requires : tie.Need-end_of-end-requires
-end-of-requires c κs = let h = c.before.before.before.before.before in (stored h.before, h.if-max_gap-lt2.false)
+end-of-requires c κs = (stored c.before, c.if-max_gap-lt2.false)
 
 end-of-requires-2 : tie.Need-end_of-start-requires
-end-of-requires-2 c κs = let h = c.before.before.before.before.before.before in (stored h.before, h.if-max_gap-lt2.false)
+end-of-requires-2 c κs = (stored c.before, c.if-max_gap-lt2.false)
 
 add_read : tie.Need-overflow_add-read
 add_read c = omega (arith, read_few c.before.before)
@@ -139,8 +137,7 @@ add-read-2 c = omega (arith, read_few c.before.before.before)
 returns-5 : tie.Need-returns
 returns-5 c =
     let f = c.before.before.before in
-    let p = f.before.before.before.before.before in
-    told p.before.before.before.before _ (grew f)
+    told f.before.before.before.before _ (grew f)
 
 pub burst_at_spec : {M : Type 1} → statement M
 burst_at_spec =

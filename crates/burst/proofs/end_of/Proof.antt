@@ -23,19 +23,15 @@ invariant-loop samples l1 l2 l3 l4 unitsize len mask gap budget start from place
 abbrev decreases-loop : tie.decreases-loop-jumps
 decreases-loop samples l1 l2 l3 l4 unitsize len mask gap budget start from place₀ jumps₀ read₀ place jumps read = budget - jumps
 
--- the function's start, from the loop's head
-abbrev start_at : tie.At-loop-jumps invariant-loop decreases-loop → tie.Start invariant-loop decreases-loop
-start_at p = p.before.before.before.before.before.before
-
 -- what a jump may reach, and that the search finds it
 abbrev reach_at : tie.Start invariant-loop decreases-loop → ℕ → Walked
 reach_at s = reach_in s.args.unitsize s.args.len s.args.samples.now (level_of s.args.l1.now s.args.l2.now s.args.l3.now s.args.l4.now) s.args.mask s.args.gap s.args.start
 
-reached : (f : tie.After-seek-sought invariant-loop decreases-loop) → reach_at (start_at f.before.before.before) f.before.before.before.loop-jumps.place ≡ sought_as f.seek-sought.result
+reached : (f : tie.After-seek-sought invariant-loop decreases-loop) → reach_at f.before.before.before f.loop-jumps.place ≡ sought_as f.seek-sought.result
 reached f =
-    let a = (start_at f.before.before.before).args in
+    let a = f.args in
     let levels = level_of a.l1.now a.l2.now a.l3.now a.l4.now in
-    sym (f.seek-sought.ensures ∙ ap (cond a.start (fore a.unitsize a.len a.samples.now levels a.mask) (back a.unitsize a.len a.samples.now levels a.mask)) f.before.far-reach.ensures)
+    sym (f.seek-sought.ensures ∙ ap (cond a.start (fore a.unitsize a.len a.samples.now levels a.mask) (back a.unitsize a.len a.samples.now levels a.mask)) f.far-reach.ensures)
 
 loop-holds : tie.Need-loop-jumps-init invariant-loop decreases-loop
 loop-holds c =
@@ -51,13 +47,11 @@ seek-requires c κs = search rules
 add_read : tie.Need-overflow_add-read invariant-loop decreases-loop
 add_read c =
     let f = c.before in
-    let l = f.before.before.before in
-    let s = start_at l in
-    let a = s.args in
+    let a = f.args in
     omega (
       arith,
-      jumping_read l.loop-jumps.invariant f.before.before.loop-jumps-test.true (reached f),
-      end_read a.unitsize a.len a.samples.now (level_of a.l1.now a.l2.now a.l3.now a.l4.now) a.mask s.pre.0.most a.gap a.start a.budget a.from,
+      jumping_read f.loop-jumps.invariant f.loop-jumps-test.true (reached f),
+      end_read a.unitsize a.len a.samples.now (level_of a.l1.now a.l2.now a.l3.now a.l4.now) a.mask f.pre.0.most a.gap a.start a.budget a.from,
     )
 
 enum-known-change : tie.Need-enum_known-change invariant-loop decreases-loop
@@ -69,7 +63,7 @@ enum_told c = search rules
 returns : tie.Need-returns-in_default invariant-loop decreases-loop
 returns c =
     let f = c.before.before.before in
-    jumping_none f.before.before.before.loop-jumps.invariant f.before.before.loop-jumps-test.true (reached f) (ap change_as c.enum_told-1.given.1)
+    jumping_none f.loop-jumps.invariant f.loop-jumps-test.true (reached f) (ap change_as c.in_default.is)
 
 further-requires : tie.Need-further-requires invariant-loop decreases-loop
 further-requires c κs = search rules
@@ -77,8 +71,8 @@ further-requires c κs = search rules
 returns-2 : tie.Need-returns-then-not-further invariant-loop decreases-loop
 returns-2 c =
     let f = c.before.before.before.before.before.before in
-    jumping_near f.before.before.before.loop-jumps.invariant f.before.before.loop-jumps-test.true (reached f) (ap change_as c.before.before.before.change-1.given.1)
-    (sym c.before.further.ensures ∙ not-true c.before.further.result c.if-not-further.true)
+    jumping_near f.loop-jumps.invariant f.loop-jumps-test.true (reached f) (ap change_as c.in-At.is)
+    (sym c.further.ensures ∙ not-true c.further.result c.if-not-further.true)
 
 add-jumps : tie.Need-overflow_add-jumps invariant-loop decreases-loop
 add-jumps c = omega arith
@@ -89,11 +83,11 @@ loop-less c = omega arith
 loop-again : tie.Need-loop-jumps-preserved invariant-loop decreases-loop
 loop-again c =
     let f = c.before.before.before.before.before.before in
-    jumping_on f.before.before.before.loop-jumps.invariant f.before.before.loop-jumps-test.true (reached f) (ap change_as c.before.before.before.change-1.given.1)
-    (sym c.before.further.ensures ∙ not-false c.before.further.result c.if-not-further.false)
+    jumping_on f.loop-jumps.invariant f.loop-jumps-test.true (reached f) (ap change_as c.in-At.is)
+    (sym c.further.ensures ∙ not-false c.further.result c.if-not-further.false)
 
 returns-3 : tie.Need-returns invariant-loop decreases-loop
-returns-3 c = jumping_spent c.before.loop-jumps.invariant c.loop-jumps-test.false
+returns-3 c = jumping_spent c.loop-jumps.invariant c.loop-jumps-test.false
 
 pub end_of_spec : {M : Type 1} → statement M
 end_of_spec =

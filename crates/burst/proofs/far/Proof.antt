@@ -13,10 +13,10 @@ sum-of-requires : tie.Need-sum_of-requires
 sum-of-requires c κs = search rules
 
 returns : tie.Need-returns-then-start
-returns c = rw c.before.if-start.true c.less.ensures
+returns c = rw c.if-start.true c.less.ensures
 
 returns-2 : tie.Need-returns-else-start
-returns-2 c = rw c.before.if-start.false c.sum_of.ensures
+returns-2 c = rw c.if-start.false c.sum_of.ensures
 
 pub far_spec : {M : Type 1} → statement M
 far_spec = tie.close (tie.spec less-requires sub-sum-of sum-of-requires returns returns-2)

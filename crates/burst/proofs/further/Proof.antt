@@ -7,12 +7,12 @@ use Rattle.burst.proofs.further.Tie as tie
 
 returns : tie.Need-returns-then-start
 returns c =
-    let a = c.before.args in
+    let a = c.args in
     sym (ap (λ (b : Bool). further_of b a.place a.e) c.if-start.true)
 
 returns-2 : tie.Need-returns-else-start
 returns-2 c =
-    let a = c.before.args in
+    let a = c.args in
     sym (ap (λ (b : Bool). further_of b a.place a.e) c.if-start.false)
 
 pub further_spec : {M : Type 1} → statement M

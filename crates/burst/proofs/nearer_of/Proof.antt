@@ -34,26 +34,21 @@ enum-known-r c = search rules
 
 returns : tie.Need-returns-then-dl-dr
 returns c =
-    let r = c.before.before in
-    let l = r.before.before.before in
-    let a = l.before.before.args in
-    near_left a.l a.r _ _ _ _ _ _ l.l-1.given.1 r.r-1.given.1 c.if-dl-dr.true
+    let a = c.args in
+    near_left a.l a.r _ _ _ _ _ _ c.in-Pair.is c.in-Pair-r.is c.if-dl-dr.true
 
 returns-2 : tie.Need-returns-in-Nothing
-returns-2 c = sym (ap (λ (x : Side). nearer (side_as x) (side_as c.before.before.args.r)) c.enum_told-1.given.1)
+returns-2 c = sym (ap (λ (x : Side). nearer (side_as x) (side_as c.args.r)) c.in-Nothing.is)
 
 returns-3 : tie.Need-returns-in-Nothing-r
 returns-3 c =
-    let l = c.before.before.before in
-    let a = l.before.before.args in
-    sym (ap₂ (λ (x y : Side). nearer (side_as x) (side_as y)) l.l-1.given.1 c.enum_told-in-Nothing-r-1.given.1)
+    let a = c.args in
+    sym (ap₂ (λ (x y : Side). nearer (side_as x) (side_as y)) c.in-Pair.is c.in-Nothing-r.is)
 
 returns-4 : tie.Need-returns-else-dl-dr
 returns-4 c =
-    let r = c.before.before in
-    let l = r.before.before.before in
-    let a = l.before.before.args in
-    near_right a.l a.r _ _ _ _ _ _ l.l-1.given.1 r.r-1.given.1 c.if-dl-dr.false
+    let a = c.args in
+    near_right a.l a.r _ _ _ _ _ _ c.in-Pair.is c.in-Pair-r.is c.if-dl-dr.false
 
 pub nearer_of_spec : {M : Type 1} → statement M
 nearer_of_spec = tie.close (tie.spec enum_told enum-known-l enum-told-2 enum-known-r returns returns-2 returns-3 returns-4)

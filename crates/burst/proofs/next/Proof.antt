@@ -11,7 +11,7 @@ sought-of-requires : tie.Need-sought_of-requires
 sought-of-requires c κs = search rules
 
 returns : tie.Need-returns
-returns c = c.sought_of.ensures ∙ c.before.next_in.ensures
+returns c = c.sought_of.ensures ∙ c.next_in.ensures
 
 pub next_spec : {M : Type 1} → statement M
 next_spec = tie.close (tie.spec next-in-requires sought-of-requires returns)

@@ -27,35 +27,24 @@ pair_at s = paired_by (back_at s) (fore_at s) s.args.gap s.args.tolerance s.args
 few : (s : tie.Start) → (pair_at s).steps ≤ 4 * most_search
 few s = pair_read s.args.unitsize s.args.len s.args.samples.now (level_of s.args.l1.now s.args.l2.now s.args.l3.now s.args.l4.now) s.args.mask s.requires.most s.args.gap s.args.tolerance s.args.sample
 
--- the pair, by the changes at both sides
-abbrev start_at : tie.After-next-n → tie.Start
-start_at k = k.before.before.before.before.before.before.before
-
 paired : (w : tie.After-between-near) (near : Option Side) → near ≡ side_as w.between-near.result
-    → let k = w.before.before.before in let s = start_at k in let p = sought_as k.before.previous-p.result in let n = sought_as k.next-n.result in or_asked near (p.steps + n.steps) (asked (back_at s) (fore_at s) s.args.gap s.args.tolerance s.args.sample p.found n.found) ≡ pair_at s
+    → let k = w.before.before.before in let p = sought_as k.previous-p.result in let n = sought_as k.next-n.result in or_asked near (p.steps + n.steps) (asked (back_at k) (fore_at k) k.args.gap k.args.tolerance k.args.sample p.found n.found) ≡ pair_at k
 paired w near e =
     let k = w.before.before.before in
-    let s = start_at k in
-    pair_is (back_at s) (fore_at s) s.args.gap s.args.tolerance s.args.sample near (sought_as k.before.previous-p.result) (sought_as k.next-n.result) (e ∙ w.between-near.ensures) k.before.previous-p.ensures k.next-n.ensures
-
--- the pair, where the sides are asked
-abbrev around : tie.After-one_side-r → tie.After-next-n
-around r = r.before.before.before.before.before.before.before
+    pair_is (back_at k) (fore_at k) k.args.gap k.args.tolerance k.args.sample near (sought_as k.previous-p.result) (sought_as k.next-n.result) (e ∙ w.between-near.ensures) k.previous-p.ensures k.next-n.ensures
 
 abbrev read_at : tie.After-one_side-r → ℕ
-read_at r = let k = around r in k.before.previous-p.result.read + k.next-n.result.read + r.before.one_side-l.result.read + r.one_side-r.result.read
+read_at r = r.previous-p.result.read + r.next-n.result.read + r.one_side-l.result.read + r.one_side-r.result.read
 
-sided : (r : tie.After-one_side-r) → counted (nearer (side_as r.before.one_side-l.result.side) (side_as r.one_side-r.result.side)) (read_at r) ≡ pair_at (start_at (around r))
+sided : (r : tie.After-one_side-r) → counted (nearer (side_as r.one_side-l.result.side) (side_as r.one_side-r.result.side)) (read_at r) ≡ pair_at r
 sided r =
-    let l = r.before in
-    let e = l.before in
     ap₂ (counted {A = Side})
-    (ap₂ nearer (ap (λ (x : Counted Side). x.found) l.one_side-l.ensures) (ap (λ (x : Counted Side). x.found) r.one_side-r.ensures))
-    (omega (arith, ap (λ (x : Counted Side). x.steps) l.one_side-l.ensures, ap (λ (x : Counted Side). x.steps) r.one_side-r.ensures))
-    ∙ paired e.before.before none (sym (ap side_as e.enum_told-in_default-1.given.1))
+    (ap₂ nearer (ap (λ (x : Counted Side). x.found) r.one_side-l.ensures) (ap (λ (x : Counted Side). x.found) r.one_side-r.ensures))
+    (omega (arith, ap (λ (x : Counted Side). x.steps) r.one_side-l.ensures, ap (λ (x : Counted Side). x.steps) r.one_side-r.ensures))
+    ∙ paired r.before.before none (sym (ap side_as r.in_default.is))
 
 read_few : (r : tie.After-one_side-r) → read_at r ≤ 4 * most_search
-read_few r = omega (arith, ap (λ (x : Counted Side). x.steps) (sided r), few (start_at (around r)))
+read_few r = omega (arith, ap (λ (x : Counted Side). x.steps) (sided r), few r)
 
 previous-requires : tie.Need-previous-p-requires
 previous-requires c κs = search rules
@@ -66,7 +55,7 @@ next-requires c κs = search rules
 add_read : tie.Need-overflow_add-read
 add_read c =
     let k = c.before.before in
-    omega (arith, ap (λ (w : Walked). w.steps) k.before.previous-p.ensures, ap (λ (w : Walked). w.steps) k.next-n.ensures, few (start_at k))
+    omega (arith, ap (λ (w : Walked). w.steps) k.previous-p.ensures, ap (λ (w : Walked). w.steps) k.next-n.ensures, few k)
 
 between-requires : tie.Need-between-near-requires
 between-requires c κs = search rules
@@ -77,9 +66,8 @@ enum_told c = search rules
 returns : tie.Need-returns-in-Pair
 returns c =
     let w = c.before.before in
-    let k = w.before.before.before in
-    let e = ap side_as c.enum_told-1.given.1 in
-    ap (λ (o : Option Side). counted o (k.before.previous-p.result.read + k.next-n.result.read)) e ∙ paired w _ (sym e)
+    let e = ap side_as c.in-Pair.is in
+    ap (λ (o : Option Side). counted o (w.previous-p.result.read + w.next-n.result.read)) e ∙ paired w _ (sym e)
 
 enum-told-2 : tie.Need-enum_told-in_default
 enum-told-2 c = search rules
@@ -102,7 +90,7 @@ add-read-3 c = omega (arith, read_few c.before.before.before)
 returns-2 : tie.Need-returns
 returns-2 c =
     let r = c.before.before.before in
-    ap (λ (o : Option Side). counted o (read_at r)) c.before.before.nearer_of-side.ensures ∙ sided r
+    ap (λ (o : Option Side). counted o (read_at r)) c.nearer_of-side.ensures ∙ sided r
 
 pub pair_of_spec : {M : Type 1} → statement M
 pair_of_spec =

@@ -11,7 +11,7 @@ sought-of-requires : tie.Need-sought_of-requires
 sought-of-requires c κs = search rules
 
 returns : tie.Need-returns
-returns c = c.sought_of.ensures ∙ c.before.prev_in.ensures
+returns c = c.sought_of.ensures ∙ c.prev_in.ensures
 
 pub previous_spec : {M : Type 1} → statement M
 previous_spec = tie.close (tie.spec prev-in-requires sought-of-requires returns)

@@ -7,13 +7,13 @@ next-requires : tie.Need-next-requires
 next-requires c κs = search rules
 
 returns : tie.Need-returns-then-forward
-returns c = rw c.before.if-forward.true c.next.ensures
+returns c = rw c.if-forward.true c.next.ensures
 
 previous-requires : tie.Need-previous-requires
 previous-requires c κs = search rules
 
 returns-2 : tie.Need-returns
-returns-2 c = rw c.before.if-forward.false c.previous.ensures
+returns-2 c = rw c.if-forward.false c.previous.ensures
 
 pub seek_spec : {M : Type 1} → statement M
 seek_spec = tie.close (tie.spec next-requires returns previous-requires returns-2)

@@ -14,14 +14,14 @@ less-requires c κs = search rules
 
 returns : tie.Need-returns-then-less-gap
 returns c =
-    let a = c.before.before.args in
-    let h : a.last - a.first < a.gap = omega (arith, c.before.less.ensures) in
+    let a = c.args in
+    let h : a.last - a.first < a.gap = omega (arith, c.less.ensures) in
     sym (ap (λ (b : Bool). side_if b (record { distance = a.distance; first = a.first; last = a.last })) (lt-ltb (a.last - a.first) a.gap h))
 
 returns-2 : tie.Need-returns
 returns-2 c =
-    let a = c.before.before.args in
-    let h : a.gap ≤ a.last - a.first = omega (arith, c.before.less.ensures) in
+    let a = c.args in
+    let h : a.gap ≤ a.last - a.first = omega (arith, c.less.ensures) in
     sym (ap (λ (b : Bool). side_if b (record { distance = a.distance; first = a.first; last = a.last })) (le-ltb (a.last - a.first) a.gap h))
 
 pub side_of_spec : {M : Type 1} → statement M

@@ -18,24 +18,22 @@ decreases-loop bytes unitsize start k output₀ i₀ output i = k - i
 
 loop-holds : tie.Need-loop-i-init invariant-loop decreases-loop
 loop-holds c =
-    let a = c.before.before.args in
+    let a = c.args in
     (omega arith, omega arith, over_none (sample_of a.unitsize a.bytes.now) a.start a.output.now)
 
 add-get : tie.Need-overflow_add-start invariant-loop decreases-loop
 add-get c =
-    let s = c.before.before.before.before in
-    omega (arith, place_small s.args.unitsize s.args.start s.args.k _ _ c.before.loop-i.i s.requires c.loop-i-test.true)
+    omega (arith, place_small c.args.unitsize c.args.start c.args.k _ _ c.loop-i.i c.requires c.loop-i-test.true)
 
 get-requires : tie.Need-get-requires invariant-loop decreases-loop
 get-requires c κs =
-    let s = c.before.before.before.before in
-    held_at s.args.unitsize s.args.start s.args.k _ _ c.before.loop-i.i s.requires c.loop-i-test.true
+    held_at c.args.unitsize c.args.start c.args.k _ _ c.loop-i.i c.requires c.loop-i-test.true
 
 mul-output : tie.Need-offset_bounds-output-i invariant-loop decreases-loop
-mul-output c = omega (arith, c.before.before.before.before.before.requires.room)
+mul-output c = omega (arith, c.requires.room)
 
 slice-write-output : tie.Need-bounds-output-i invariant-loop decreases-loop
-slice-write-output c = omega (arith, c.before.before.before.before.before.requires.room)
+slice-write-output c = omega (arith, c.requires.room)
 
 add-i : tie.Need-overflow_add-i invariant-loop decreases-loop
 add-i c = omega arith
@@ -45,17 +43,15 @@ loop-less c = omega arith
 
 loop-again : tie.Need-loop-i-preserved invariant-loop decreases-loop
 loop-again c =
-    let s = c.before.before.before.before.before in
-    let l = c.before.before.loop-i in
-    (omega arith, length-set l.output l.i c.get.result ∙ l.invariant.1, over_turn (sample_of s.args.unitsize s.args.bytes.now) s.args.start l.i c.get.result s.args.output.now l.output (omega (arith, s.requires.room)) l.invariant.2 c.get.ensures)
+    let l = c.loop-i in
+    (omega arith, length-set l.output l.i c.get.result ∙ l.invariant.1, over_turn (sample_of c.args.unitsize c.args.bytes.now) c.args.start l.i c.get.result c.args.output.now l.output (omega (arith, c.requires.room)) l.invariant.2 c.get.ensures)
 
 same_length : tie.Need-shape_of-output invariant-loop decreases-loop
-same_length c = c.before.loop-i.invariant.1
+same_length c = c.loop-i.invariant.1
 
 returns : tie.Need-returns invariant-loop decreases-loop
 returns c =
-    let s = c.before.before.before.before in
-    c.before.loop-i.invariant.2 ∙ ap (λ (n : ℕ). copied_to (sample_of s.args.unitsize s.args.bytes.now) s.args.start n s.args.output.now) (le_antisymm c.before.loop-i.invariant.0 c.loop-i-test.false)
+    c.loop-i.invariant.2 ∙ ap (λ (n : ℕ). copied_to (sample_of c.args.unitsize c.args.bytes.now) c.args.start n c.args.output.now) (le_antisymm c.loop-i.invariant.0 c.loop-i-test.false)
 
 pub copy_samples_spec : {M : Type 1} → statement M
 copy_samples_spec =

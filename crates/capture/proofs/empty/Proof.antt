@@ -8,7 +8,7 @@ unit-of-requires : tie.Need-unit_of-requires
 unit-of-requires c κs = search rules
 
 returns : tie.Need-returns
-returns c = λ i. record { unit = c.unit_of.ensures i; capacity = c.before.args.capacity; len = 0; mark = none }
+returns c = λ i. record { unit = c.unit_of.ensures i; capacity = c.args.capacity; len = 0; mark = none }
 
 pub empty_spec : {M : Type 1} → statement M
 empty_spec = tie.close (tie.spec unit-of-requires returns)

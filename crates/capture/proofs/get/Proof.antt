@@ -39,17 +39,17 @@ returns c = let f = c.before in refused_is _ (rows_refuse (st f) (lent f) (own f
 returns-2 : tie.Need-returns-then-c-i
 returns-2 c =
     let f = c.before.before.before in
-    refused_is _ (rows_decide (st f) (lent f) (own f) f.refusal-n.ensures c.before.before.if-n-ne0.false 9 (simp (le-leb _ _ c.if-c-i.true))) (λ z. omega arith)
+    refused_is _ (rows_decide (st f) (lent f) (own f) f.refusal-n.ensures c.if-n-ne0.false 9 (simp (le-leb _ _ c.if-c-i.true))) (λ z. omega arith)
 
 get-requires : tie.Need-get-requires
 get-requires c κs =
     let f = c.before.before.before in
-    held_stored (st f) (s f).args.samples.now (levels f) (let_in f.refusal-n.ensures c.before.before.if-n-ne0.false) _ c.if-c-i.false
+    held_stored (st f) (s f).args.samples.now (levels f) (let_in f.refusal-n.ensures c.if-n-ne0.false) _ c.if-c-i.false
 
 returns-3 : tie.Need-returns
 returns-3 c =
     let f = c.before.before.before.before in
-    given_is _ (rows_decide (st f) (lent f) (own f) f.refusal-n.ensures c.before.before.before.if-n-ne0.false 0 (simp (lt-leb _ _ c.before.if-c-i.false))) refl c.get.ensures
+    given_is _ (rows_decide (st f) (lent f) (own f) f.refusal-n.ensures c.if-n-ne0.false 0 (simp (lt-leb _ _ c.if-c-i.false))) refl c.get.ensures
 
 pub get_spec : {M : Type 1} → statement M
 get_spec = tie.close (tie.spec refusal-requires returns returns-2 get-requires returns-3)

@@ -17,7 +17,7 @@ returns : tie.Need-returns-in-Absent
 returns c = search rules
 
 returns-2 : tie.Need-returns-in-At
-returns-2 c = sym (ap (λ (m : Mark). mark_wrong (mark_of m) c.before.before.before.args.len) c.before.m-1.given.1)
+returns-2 c = sym (ap (λ (m : Mark). mark_wrong (mark_of m) c.args.len) c.in-At.is)
 
 pub mark_wrong_spec : {M : Type 1} → statement M
 mark_wrong_spec = tie.close (tie.spec enum_told enum-known-m returns returns-2)

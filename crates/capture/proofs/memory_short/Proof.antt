@@ -12,12 +12,12 @@ use Rattle.capture.proofs.memory_short.Statement.{statement}
 use Rattle.capture.proofs.memory_short.Tie as tie
 
 -- the test of each slice, against the need that was worked out
-row_2 : (f : tie.After-sizes_of-need) → let a = f.before.before.before.before.before.before.args in let n = f.sizes_of-need.result in
+row_2 : (f : tie.After-sizes_of-need) → let a = f.args in let n = f.sizes_of-need.result in
     (s t₁ t₂ t₃ t₄ : Bool) → ltb (length a.samples.now) n.samples ≡ s → ltb (length a.l1.now) n.l1 ≡ t₁ → ltb (length a.l2.now) n.l2 ≡ t₂ → ltb (length a.l3.now) n.l3 ≡ t₃ → ltb (length a.l4.now) n.l4 ≡ t₄
     → (s || ((((false || t₁) || t₂) || t₃) || t₄)) ≡ lent_short (store_of a.c) (lent_of a.samples.now (level_of a.l1.now a.l2.now a.l3.now a.l4.now))
 unfolding level_short level_of
 row_2 f s t₁ t₂ t₃ t₄ e e₁ e₂ e₃ e₄ =
-    let a = f.before.before.before.before.before.before.args in
+    let a = f.args in
     let n = f.sizes_of-need.ensures in
     (λ i. sym e i || ((((false || sym e₁ i) || sym e₂ i) || sym e₃ i) || sym e₄ i))
     ∙ (λ i. ltb (length a.samples.now) (n.samples i) || ((((false || ltb (length a.l1.now) (n.l1 i)) || ltb (length a.l2.now) (n.l2 i)) || ltb (length a.l3.now) (n.l3 i)) || ltb (length a.l4.now) (n.l4 i)))
@@ -29,28 +29,19 @@ returns : tie.Need-returns-then-samples-need
 returns c = row_2 c.before.before true _ _ _ _ (lt-ltb _ _ c.if-samples-need.true) refl refl refl refl
 
 returns-2 : tie.Need-returns-then-l1-need
-returns-2 c = let t = c.before.before in row_2 t.before.before false true _ _ _ (le-ltb _ _ t.if-samples-need.false) (lt-ltb _ _ c.if-l1-need.true) refl refl refl
+returns-2 c = row_2 c.before.before.before.before false true _ _ _ (le-ltb _ _ c.if-samples-need.false) (lt-ltb _ _ c.if-l1-need.true) refl refl refl
 
 returns-3 : tie.Need-returns-then-l2-need
 returns-3 c =
-    let t₁ = c.before.before in
-    let t = t₁.before.before in
-    row_2 t.before.before false false true _ _ (le-ltb _ _ t.if-samples-need.false) (le-ltb _ _ t₁.if-l1-need.false) (lt-ltb _ _ c.if-l2-need.true) refl refl
+    row_2 c.before.before.before.before.before.before false false true _ _ (le-ltb _ _ c.if-samples-need.false) (le-ltb _ _ c.if-l1-need.false) (lt-ltb _ _ c.if-l2-need.true) refl refl
 
 returns-4 : tie.Need-returns-then-l3-need
 returns-4 c =
-    let t₂ = c.before.before in
-    let t₁ = t₂.before.before in
-    let t = t₁.before.before in
-    row_2 t.before.before false false false true _ (le-ltb _ _ t.if-samples-need.false) (le-ltb _ _ t₁.if-l1-need.false) (le-ltb _ _ t₂.if-l2-need.false) (lt-ltb _ _ c.if-l3-need.true) refl
+    row_2 c.before.before.before.before.before.before.before.before false false false true _ (le-ltb _ _ c.if-samples-need.false) (le-ltb _ _ c.if-l1-need.false) (le-ltb _ _ c.if-l2-need.false) (lt-ltb _ _ c.if-l3-need.true) refl
 
 returns-5 : tie.Need-returns
 returns-5 c =
-    let t₃ = c.before in
-    let t₂ = t₃.before.before in
-    let t₁ = t₂.before.before in
-    let t = t₁.before.before in
-    row_2 t.before.before false false false false _ (le-ltb _ _ t.if-samples-need.false) (le-ltb _ _ t₁.if-l1-need.false) (le-ltb _ _ t₂.if-l2-need.false) (le-ltb _ _ t₃.if-l3-need.false) refl
+    row_2 c.before.before.before.before.before.before.before.before.before false false false false _ (le-ltb _ _ c.if-samples-need.false) (le-ltb _ _ c.if-l1-need.false) (le-ltb _ _ c.if-l2-need.false) (le-ltb _ _ c.if-l3-need.false) refl
 
 pub memory_short_spec : {M : Type 1} → statement M
 memory_short_spec =

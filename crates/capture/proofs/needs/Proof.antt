@@ -19,19 +19,19 @@ record-wrong-requires : tie.Need-record_wrong-requires
 record-wrong-requires c κs = search rules
 
 -- row 1, by its test
-number_is : (f : tie.After-record_wrong) (t : Bool) → f.record_wrong.result ≡ t → let a = f.before.before.args in need_refusal (fresh a.channels a.capacity) ≡ cond t 1 0
-number_is f t e = ap (λ (b : Bool). cond b 1 0) (ap store_wrong (sym f.before.empty-c.ensures) ∙ sym f.record_wrong.ensures ∙ e)
+number_is : (f : tie.After-record_wrong) (t : Bool) → f.record_wrong.result ≡ t → let a = f.args in need_refusal (fresh a.channels a.capacity) ≡ cond t 1 0
+number_is f t e = ap (λ (b : Bool). cond b 1 0) (ap store_wrong (sym f.empty-c.ensures) ∙ sym f.record_wrong.ensures ∙ e)
 
 returns : tie.Need-returns-then-record_wrong
 returns c = let f = c.before in refused_is _ (sym (number_is f true c.if-record_wrong.true)) (λ z. omega arith)
 
 sizes-of-requires : tie.Need-sizes_of-requires
 sizes-of-requires c κs =
-    let r = ranged (store_of c.before.before.empty-c.result) (sym c.before.record_wrong.ensures ∙ c.if-record_wrong.false) in
+    let r = ranged (store_of c.empty-c.result) (sym c.record_wrong.ensures ∙ c.if-record_wrong.false) in
     record { unit_size = r.unit_size; capacity = r.capacity_most }
 
 returns-2 : tie.Need-returns
-returns-2 c = let f = c.before.before in given_is _ (sym (number_is f false c.before.if-record_wrong.false)) refl (memory_is _ _ c.sizes_of.ensures ∙ ap memory_need f.before.empty-c.ensures)
+returns-2 c = let f = c.before.before in given_is _ (sym (number_is f false c.if-record_wrong.false)) refl (memory_is _ _ c.sizes_of.ensures ∙ ap memory_need f.empty-c.ensures)
 
 pub needs_spec : {M : Type 1} → statement M
 needs_spec =

@@ -39,12 +39,12 @@ sub-if2 : tie.Need-overflow_sub-t-10
 sub-if2 c = search rules
 
 add-if2 : tie.Need-overflow_add-c
-add-if2 c = let h = inside c.before.before c.before.if-n-ne0.false in omega (arith, h.len_most, h.capacity_most)
+add-if2 c = let h = inside c.before.before c.if-n-ne0.false in omega (arith, h.len_most, h.capacity_most)
 
 returns-2 : tie.Need-returns-then-c-chunk
 returns-2 c =
     let f = c.before.before.before in
-    lies_past (st f) (bytes f) (levels f) (s f).args.chunk (sym f.refusal-n.ensures ∙ c.before.before.if-n-ne0.false) c.if-c-chunk.true
+    lies_past (st f) (bytes f) (levels f) (s f).args.chunk (sym f.refusal-n.ensures ∙ c.if-n-ne0.false) c.if-c-chunk.true
 
 mul-t10 : tie.Need-overflow_mul-result
 mul-t10 c = search rules
@@ -52,7 +52,7 @@ mul-t10 c = search rules
 mul-t11 : tie.Need-overflow_mul-result-2
 mul-t11 c =
     let f = c.before.before.before.before in
-    omega (arith, (s f).well-formed, chunk_starts (st f) (bytes f) (levels f) (inside f c.before.before.before.if-n-ne0.false) (s f).args.chunk c.before.if-c-chunk.false)
+    omega (arith, (s f).well_formed, chunk_starts (st f) (bytes f) (levels f) (inside f c.if-n-ne0.false) (s f).args.chunk c.if-c-chunk.false)
 
 chunk-end-requires : tie.Need-chunk_end-requires
 chunk-end-requires c κs = search rules
@@ -60,13 +60,13 @@ chunk-end-requires c κs = search rules
 mul-t13 : tie.Need-overflow_mul-result-3
 mul-t13 c =
     let f = c.before.before.before.before.before.before in
-    omega (arith, (s f).well-formed, chunk_ends (st f) (bytes f) (levels f) (inside f c.before.before.before.before.before.if-n-ne0.false) (s f).args.chunk c.before.chunk_end.result c.before.chunk_end.ensures)
+    omega (arith, (s f).well_formed, chunk_ends (st f) (bytes f) (levels f) (inside f c.if-n-ne0.false) (s f).args.chunk c.chunk_end.result c.chunk_end.ensures)
 
 returns-3 : tie.Need-returns
 returns-3 c =
-    let z = c.before.before.before.before.before.if-n-ne0.false in
+    let z = c.if-n-ne0.false in
     let f = c.before.before.before.before.before.before in
-    lies_part (st f) (bytes f) (levels f) (s f).args.chunk (inside f z) c.before.chunk_end.result (sym f.refusal-n.ensures ∙ z) c.before.chunk_end.ensures c.before.before.before.if-c-chunk.false
+    lies_part (st f) (bytes f) (levels f) (s f).args.chunk (inside f z) c.chunk_end.result (sym f.refusal-n.ensures ∙ z) c.chunk_end.ensures c.if-c-chunk.false
 
 pub raw_part_spec : {M : Type 1} → statement M
 raw_part_spec = tie.close (tie.spec refusal-requires returns sub-if2 add-if2 returns-2 mul-t10 mul-t11 chunk-end-requires mul-t13 returns-3)

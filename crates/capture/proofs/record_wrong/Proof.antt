@@ -9,31 +9,25 @@ unit-wrong-requires : tie.Need-unit_wrong-requires
 unit-wrong-requires c κs = search rules
 
 returns : tie.Need-returns-then-unit_wrong
-returns c = simp (sym c.before.unit_wrong.ensures ∙ c.if-unit_wrong.true)
+returns c = simp (sym c.unit_wrong.ensures ∙ c.if-unit_wrong.true)
 
 returns-2 : tie.Need-returns-then-c-eq0
-returns-2 c = simp (sym c.before.before.before.unit_wrong.ensures ∙ c.before.before.if-unit_wrong.false, eq-eqb _ _ c.if-c-eq0.true)
+returns-2 c = simp (sym c.unit_wrong.ensures ∙ c.if-unit_wrong.false, eq-eqb _ _ c.if-c-eq0.true)
 
 returns-3 : tie.Need-returns-then-c-gt-MOST_SAMPLES
 returns-3 c =
-    let d = c.before.before in
-    simp (sym d.before.before.before.unit_wrong.ensures ∙ d.before.before.if-unit_wrong.false, ne_eqb _ _ d.if-c-eq0.false, lt-ltb _ _ c.if-c-gt-MOST_SAMPLES.true)
+    simp (sym c.unit_wrong.ensures ∙ c.if-unit_wrong.false, ne_eqb _ _ c.if-c-eq0.false, lt-ltb _ _ c.if-c-gt-MOST_SAMPLES.true)
 
 returns-4 : tie.Need-returns-then-c
 returns-4 c =
-    let e = c.before.before in
-    let d = e.before.before in
-    simp (sym d.before.before.before.unit_wrong.ensures ∙ d.before.before.if-unit_wrong.false, ne_eqb _ _ d.if-c-eq0.false, le-ltb _ _ e.if-c-gt-MOST_SAMPLES.false, lt-ltb _ _ c.if-c.true)
+    simp (sym c.unit_wrong.ensures ∙ c.if-unit_wrong.false, ne_eqb _ _ c.if-c-eq0.false, le-ltb _ _ c.if-c-gt-MOST_SAMPLES.false, lt-ltb _ _ c.if-c.true)
 
 mark-wrong-requires : tie.Need-mark_wrong-requires
 mark-wrong-requires c κs = search rules
 
 returns-5 : tie.Need-returns
 returns-5 c =
-    let f = c.before in
-    let e = f.before.before in
-    let d = e.before.before in
-    simp (sym d.before.before.before.unit_wrong.ensures ∙ d.before.before.if-unit_wrong.false, ne_eqb _ _ d.if-c-eq0.false, le-ltb _ _ e.if-c-gt-MOST_SAMPLES.false, le-ltb _ _ f.if-c.false) c.mark_wrong.ensures
+    simp (sym c.unit_wrong.ensures ∙ c.if-unit_wrong.false, ne_eqb _ _ c.if-c-eq0.false, le-ltb _ _ c.if-c-gt-MOST_SAMPLES.false, le-ltb _ _ c.if-c.false) c.mark_wrong.ensures
 
 pub record_wrong_spec : {M : Type 1} → statement M
 record_wrong_spec = tie.close (tie.spec unit-wrong-requires returns returns-2 returns-3 returns-4 mark-wrong-requires returns-5)

@@ -51,28 +51,25 @@ count-copied-requires c κs = search rules
 
 returns-2 : tie.Need-returns-then-output-k
 returns-2 c =
-    let k = c.before in
-    let f = k.before.before in
-    let h : length (output f) < count f = subst (λ (x : ℕ). length (output f) < x) k.count_copied-k.ensures c.if-output-k.true in
-    copies_refused (st f) (s f).args.bytes.now (levels f) (s f).args.start (s f).args.count (output f) (rows_decide (st f) (lent f) (own f) f.refusal-n.ensures k.before.if-n-ne0.false 11 (simp (lt-ltb _ _ h))) (λ z. omega arith)
+    let f = c.before.before.before in
+    let h : length (output f) < count f = subst (λ (x : ℕ). length (output f) < x) c.count_copied-k.ensures c.if-output-k.true in
+    copies_refused (st f) (s f).args.bytes.now (levels f) (s f).args.start (s f).args.count (output f) (rows_decide (st f) (lent f) (own f) f.refusal-n.ensures c.if-n-ne0.false 11 (simp (lt-ltb _ _ h))) (λ z. omega arith)
 
 copy-samples-requires : tie.Need-copy_samples-requires
 copy-samples-requires c κs =
-    let k = c.before.before in
-    let f = k.before.before in
-    let e = k.count_copied-k.ensures in
+    let f = c.before.before.before.before in
+    let e = c.count_copied-k.ensures in
     subst (λ (x : ℕ). Source (st f).unit (s f).args.start x (length (s f).args.bytes.now) (length (output f))) (sym e)
-    (source_of (st f) (s f).args.bytes.now (levels f) (let_in f.refusal-n.ensures k.before.if-n-ne0.false) (s f).args.start (s f).args.count (length (output f)) (subst (λ (x : ℕ). x ≤ length (output f)) e c.before.if-output-k.false))
+    (source_of (st f) (s f).args.bytes.now (levels f) (let_in f.refusal-n.ensures c.if-n-ne0.false) (s f).args.start (s f).args.count (length (output f)) (subst (λ (x : ℕ). x ≤ length (output f)) e c.if-output-k.false))
 
 same_length : tie.Need-shape_of-output
 same_length c = search rules
 
 returns-3 : tie.Need-returns
 returns-3 c =
-    let k = c.before.before.before.before.before in
-    let f = k.before.before in
-    let h : count f ≤ length (output f) = subst (λ (x : ℕ). x ≤ length (output f)) k.count_copied-k.ensures c.before.before.before.before.if-output-k.false in
-    copies_done (st f) (s f).args.bytes.now (levels f) (s f).args.start (s f).args.count (output f) (rows_decide (st f) (lent f) (own f) f.refusal-n.ensures k.before.if-n-ne0.false 0 (simp (le-ltb _ _ h))) refl _ k.count_copied-k.ensures _ c.before.before.copy_samples.ensures
+    let f = c.before.before.before.before.before.before.before in
+    let h : count f ≤ length (output f) = subst (λ (x : ℕ). x ≤ length (output f)) c.count_copied-k.ensures c.if-output-k.false in
+    copies_done (st f) (s f).args.bytes.now (levels f) (s f).args.start (s f).args.count (output f) (rows_decide (st f) (lent f) (own f) f.refusal-n.ensures c.if-n-ne0.false 0 (simp (le-ltb _ _ h))) refl _ c.count_copied-k.ensures _ c.copy_samples.ensures
 
 pub samples_spec : {M : Type 1} → statement M
 samples_spec = tie.close (tie.spec refusal-requires returns count-copied-requires returns-2 copy-samples-requires same_length returns-3)

@@ -6,7 +6,7 @@ use Rattle.capture.proofs.sizes_of.Statement.{statement}
 use Rattle.capture.proofs.sizes_of.Tie as tie
 
 mul-t2 : tie.Need-overflow_mul-result
-mul-t2 c = let p = c.before.requires in record { fits = omega (arith, mul-le-mul p.capacity p.unit_size.most) }
+mul-t2 c = let p = c.requires in record { fits = omega (arith, mul-le-mul p.capacity p.unit_size.most) }
 
 nodes-of-requires : tie.Need-nodes_of-requires
 nodes-of-requires c κs = search rules

@@ -23,13 +23,13 @@ module _ (f : tie.After-refusal-n) where
   lent = lent_of s.args.samples.now (level_of s.args.l1.now s.args.l2.now s.args.l3.now s.args.l4.now)
 
   number_is : f.refusal-n.result ≡ store_refusal (fresh s.args.channels s.args.capacity) lent
-  number_is = f.refusal-n.ensures ∙ ap (λ (st : Store). store_refusal st lent) f.before.empty-c.ensures
+  number_is = f.refusal-n.ensures ∙ ap (λ (st : Store). store_refusal st lent) f.empty-c.ensures
 
 returns : tie.Need-returns-then-n-ne0
 returns c = refused_is _ (number_is c.before) c.if-n-ne0.true
 
 returns-2 : tie.Need-returns
-returns-2 c = given_is _ (number_is c.before) c.if-n-ne0.false c.before.before.empty-c.ensures
+returns-2 c = given_is _ (number_is c.before) c.if-n-ne0.false c.empty-c.ensures
 
 pub start_spec : {M : Type 1} → statement M
 start_spec = tie.close (tie.spec empty-requires refusal-requires returns returns-2)

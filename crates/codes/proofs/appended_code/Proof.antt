@@ -25,7 +25,7 @@ returns : tie.Need-returns-in-Refused
 returns c = search rules
 
 returns-2 : tie.Need-returns-in-Done
-returns-2 c = coded len_number (λ (x : Appended). plain (grown_len (appended_of x))) _ _ _ c.before.answer-in-Done-1.given.1 refl refl
+returns-2 c = coded len_number (λ (x : Appended). plain (grown_len (appended_of x))) _ _ _ c.in-Done.is refl refl
 
 pub appended_code_spec : {M : Type 1} → statement M
 appended_code_spec = tie.close (tie.spec enum-known-answer code-requires enum-known-answer-2 element-write-numbers returns returns-2)

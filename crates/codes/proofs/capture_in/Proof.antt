@@ -18,7 +18,7 @@ element-copy-out-t14 : tie.Need-bounds-numbers-2
 element-copy-out-t14 c = search rules
 
 returns : tie.Need-returns-then-numbers-eq0
-returns c = sym (simp (eq-eqb _ _ c.before.before.before.if-numbers-eq0.true))
+returns c = sym (simp (eq-eqb _ _ c.if-numbers-eq0.true))
 
 element-copy-out-t4 : tie.Need-bounds-numbers-0-2
 element-copy-out-t4 c = search rules
@@ -33,7 +33,7 @@ element-copy-out-t26 : tie.Need-bounds-numbers-4
 element-copy-out-t26 c = search rules
 
 returns-2 : tie.Need-returns
-returns-2 c = sym (simp (ne_eqb _ _ c.before.before.before.before.if-numbers-eq0.false))
+returns-2 c = sym (simp (ne_eqb _ _ c.if-numbers-eq0.false))
 
 pub capture_in_spec : {M : Type 1} → statement M
 capture_in_spec =

@@ -22,13 +22,13 @@ enum-known-answer-2 : tie.Need-enum_known-answer-in-Wrong-1
 enum-known-answer-2 c = search rules
 
 returns : tie.Need-returns-in-Refused
-returns c = (coded place_level (λ (x : Checked). fault (checked_of x)) _ _ _ c.before.before.answer-1.given.1 c.code.ensures refl, coded place_number (λ (x : Checked). fault (checked_of x)) _ _ _ c.before.before.answer-1.given.1 c.code.ensures refl)
+returns c = (coded place_level (λ (x : Checked). fault (checked_of x)) _ _ _ c.in-Refused.is c.code.ensures refl, coded place_number (λ (x : Checked). fault (checked_of x)) _ _ _ c.in-Refused.is c.code.ensures refl)
 
 returns-2 : tie.Need-returns-in-Yes
-returns-2 c = (coded place_level (λ (x : Checked). fault (checked_of x)) _ _ _ c.enum_told-1.given.1 refl refl, coded place_number (λ (x : Checked). fault (checked_of x)) _ _ _ c.enum_told-1.given.1 refl refl)
+returns-2 c = (coded place_level (λ (x : Checked). fault (checked_of x)) _ _ _ c.in-Yes.is refl refl, coded place_number (λ (x : Checked). fault (checked_of x)) _ _ _ c.in-Yes.is refl refl)
 
 returns-3 : tie.Need-returns-in-Wrong
-returns-3 c = (coded place_level (λ (x : Checked). fault (checked_of x)) _ _ _ c.before.answer-in-Wrong-1.given.1 refl refl, coded place_number (λ (x : Checked). fault (checked_of x)) _ _ _ c.before.answer-in-Wrong-1.given.1 refl refl)
+returns-3 c = (coded place_level (λ (x : Checked). fault (checked_of x)) _ _ _ c.in-Wrong.is refl refl, coded place_number (λ (x : Checked). fault (checked_of x)) _ _ _ c.in-Wrong.is refl refl)
 
 pub checked_code_spec : {M : Type 1} → statement M
 checked_code_spec =

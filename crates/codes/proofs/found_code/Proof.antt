@@ -20,7 +20,7 @@ enum-known-answer-3 : tie.Need-enum_known-answer-in-Nothing-1
 enum-known-answer-3 c = search rules
 
 returns : tie.Need-returns-in-Refused
-returns c = sought_coded number found_of c.before.before.answer-1.given.1 (record { find = record { code_is = c.code.ensures; value_is = refl }; count = record { code_is = c.code.ensures; value_is = refl } })
+returns c = sought_coded number found_of c.in-Refused.is (record { find = record { code_is = c.code.ensures; value_is = refl }; count = record { code_is = c.code.ensures; value_is = refl } })
 
 returns-2 : tie.Need-returns-in-At
 returns-2 c = search rules

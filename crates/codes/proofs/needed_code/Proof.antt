@@ -35,11 +35,11 @@ element-write-sizes-5 : tie.Need-bounds-sizes-4
 element-write-sizes-5 c = search rules
 
 returns : tie.Need-returns-in-Refused
-returns c = coded lent_numbers (λ (x : Needed). plain (needed_of x)) _ _ _ c.before.before.answer-1.given.1 c.code.ensures refl
+returns c = coded lent_numbers (λ (x : Needed). plain (needed_of x)) _ _ _ c.in-Refused.is c.code.ensures refl
 
 returns-2 : tie.Need-returns-in-Memory
 unfolding level_of
-returns-2 c = coded lent_numbers (λ (x : Needed). plain (needed_of x)) _ _ _ c.before.answer-in-Memory-1.given.1 refl refl
+returns-2 c = coded lent_numbers (λ (x : Needed). plain (needed_of x)) _ _ _ c.in-Memory.is refl refl
 
 pub needed_code_spec : {M : Type 1} → statement M
 needed_code_spec =

@@ -32,10 +32,10 @@ element-write-numbers-7 : tie.Need-bounds-numbers-4-in-At
 element-write-numbers-7 c = search rules
 
 returns : tie.Need-returns-in-Absent
-returns c = mark_written c.before.before.args.c _ c.before.before.args.numbers.now c.enum_told-1.given.1
+returns c = mark_written c.args.c _ c.args.numbers.now c.in-Absent.is
 
 returns-2 : tie.Need-returns-in-At
-returns-2 c = mark_written c.before.before.before.args.c _ c.before.before.before.args.numbers.now c.before.mark-1.given.1
+returns-2 c = mark_written c.args.c _ c.args.numbers.now c.in-At.is
 
 pub put_capture_spec : {M : Type 1} → statement M
 put_capture_spec =

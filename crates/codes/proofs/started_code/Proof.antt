@@ -22,10 +22,10 @@ put-capture-requires : tie.Need-put_capture-requires
 put-capture-requires c κs = search rules
 
 returns : tie.Need-returns-in-Refused
-returns c = coded store_numbers (λ (x : Started). plain (started_of x)) _ _ _ c.before.before.answer-1.given.1 c.code.ensures refl
+returns c = coded store_numbers (λ (x : Started). plain (started_of x)) _ _ _ c.in-Refused.is c.code.ensures refl
 
 returns-2 : tie.Need-returns-in-Store
-returns-2 c = coded store_numbers (λ (x : Started). plain (started_of x)) _ _ _ c.before.before.before.answer-in-Store-1.given.1 refl c.put_capture.ensures
+returns-2 c = coded store_numbers (λ (x : Started). plain (started_of x)) _ _ _ c.in-Store.is refl c.put_capture.ensures
 
 pub started_code_spec : {M : Type 1} → statement M
 started_code_spec =

@@ -35,15 +35,15 @@ enum_told : tie.Need-enum_told-1
 enum_told c = search rules
 
 returns : tie.Need-returns-in-Refused
-returns c = let e = c.before.before.answer-1.given.1 in (coded node_numbers said _ _ _ e c.code.ensures refl, coded count_number said _ _ _ e c.code.ensures refl)
+returns c = let e = c.in-Refused.is in (coded node_numbers said _ _ _ e c.code.ensures refl, coded count_number said _ _ _ e c.code.ensures refl)
 
 returns-2 : tie.Need-returns-in-Node
-returns-2 c = let e = c.before.answer-in-Node-1.given.1 in (coded node_numbers said _ _ _ e refl refl, coded count_number said _ _ _ e refl refl)
+returns-2 c = let e = c.in-Node.is in (coded node_numbers said _ _ _ e refl refl, coded count_number said _ _ _ e refl refl)
 
 returns-3 : tie.Need-returns-in-Nothing
 returns-3 c =
-    let a = c.before.before.args in
-    let e = c.enum_told-1.given.1 in
+    let a = c.args in
+    let e = c.in-Nothing.is in
     (coded node_numbers said _ a.node.now _ e refl refl, coded count_number said _ a.count.now _ e refl refl)
 
 pub summed_code_spec : {M : Type 1} → statement M

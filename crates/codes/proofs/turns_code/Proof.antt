@@ -35,10 +35,10 @@ turns_told : (r r' : Encoded) {code : ℕ} {position position' : ℤ} {counts co
 turns_told r r' {code} {position} {position'} {counts} {counts'} e o = subst⁻¹ (λ (x : Encoded). TurnsOut (encoded_of x) code position position' counts counts') e o
 
 returns : tie.Need-returns-in-Refused
-returns c = turns_told _ _ c.before.before.answer-1.given.1 (record { position_is = record { code_is = c.code.ensures; value_is = refl }; counts_are = record { code_is = c.code.ensures; value_is = refl } })
+returns c = turns_told _ _ c.in-Refused.is (record { position_is = record { code_is = c.code.ensures; value_is = refl }; counts_are = record { code_is = c.code.ensures; value_is = refl } })
 
 returns-2 : tie.Need-returns-in-Turns
-returns-2 c = turns_told _ _ c.before.before.answer-in-Turns-1.given.1 (record { position_is = record { code_is = refl; value_is = to_z-of_z w64 _ (record { sfits = c.struct_told-1.given.0.1 }) }; counts_are = record { code_is = refl; value_is = refl } })
+returns-2 c = turns_told _ _ c.in-Turns.is (record { position_is = record { code_is = refl; value_is = to_z-of_z w64 _ (record { sfits = c.struct_told-1.given.0.1 }) }; counts_are = record { code_is = refl; value_is = refl } })
 
 pub turns_code_spec : {M : Type 1} → statement M
 turns_code_spec = tie.close (tie.spec enum-known-answer code-requires enum-known-answer-2 element-write-counts element-write-counts-2 element-write-counts-3 returns returns-2)

@@ -24,15 +24,15 @@ enum_told c = search rules
 
 returns : tie.Need-returns-in-Refused
 unfolding counted
-returns c = sym (ap counted c.before.summed-1.given.1)
+returns c = sym (ap counted c.in-Refused.is)
 
 returns-2 : tie.Need-returns-in-Node
 unfolding counted
-returns-2 c = sym (ap counted c.before.summed-in-Node-1.given.1)
+returns-2 c = sym (ap counted c.in-Node.is)
 
 returns-3 : tie.Need-returns-in-Nothing
 unfolding counted
-returns-3 c = sym (ap counted c.enum_told-1.given.1)
+returns-3 c = sym (ap counted c.in-Nothing.is)
 
 pub count_in_spec : {M : Type 1} → statement M
 count_in_spec = tie.close (tie.spec enum-known-summed enum-known-summed-2 enum_told returns returns-2 returns-3)

@@ -11,18 +11,17 @@ refusal-requires : tie.Need-refusal-n-requires
 refusal-requires c κs = search rules
 
 returns : tie.Need-returns-then-n-ne0
-returns c = refused_is _ c.before.refusal-n.ensures c.if-n-ne0.true
+returns c = refused_is _ c.refusal-n.ensures c.if-n-ne0.true
 
 summed-in-requires : tie.Need-summed_in-requires
-summed-in-requires c κs = let_in c.before.refusal-n.ensures c.if-n-ne0.false
+summed-in-requires c κs = let_in c.refusal-n.ensures c.if-n-ne0.false
 
 count-in-requires : tie.Need-count_in-requires
 count-in-requires c κs = search rules
 
 returns-2 : tie.Need-returns
 returns-2 c =
-    let m = c.before in
-    c.count_in.ensures ∙ ap (seen count_in) m.summed_in.ensures ∙ given_is _ m.before.before.refusal-n.ensures m.before.if-n-ne0.false refl
+    c.count_in.ensures ∙ ap (seen count_in) c.summed_in.ensures ∙ given_is _ c.refusal-n.ensures c.if-n-ne0.false refl
 
 pub density_spec : {M : Type 1} → statement M
 density_spec = tie.close (tie.spec refusal-requires returns summed-in-requires count-in-requires returns-2)

@@ -50,17 +50,17 @@ loop-holds c = (search rules, search rules, left_starts _ _ _ _ _ _)
 resume-requires : tie.Need-resume-i-requires invariant-loop decreases-loop
 resume-requires c κs =
     let s = start_at c.before in
-    (s.pre.0, omega (arith, c.before.loop-p.invariant.1), c.loop-p-test.true)
+    (s.pre.0, omega (arith, c.loop-p.invariant.1), c.loop-p-test.true)
 
 stretch-end-requires : tie.Need-stretch_end-end-requires invariant-loop decreases-loop
 stretch-end-requires c κs = (c.resume-i.ensures.low, c.resume-i.ensures.high, (start_at c.before.before).requires.0.most)
 
 -- where the stretch ends
-stretch_ends : (c : tie.After-stretch_end-end invariant-loop decreases-loop) → let s = start_at c.before.before.before in Ends s.args.unitsize s.args.len c.before.before.before.loop-p.p c.before.resume-i.result c.stretch_end-end.result
-stretch_ends c = ends _ _ _ _ _ c.before.resume-i.ensures.high c.stretch_end-end.ensures
+stretch_ends : (c : tie.After-stretch_end-end invariant-loop decreases-loop) → let s = start_at c.before.before.before in Ends s.args.unitsize s.args.len c.loop-p.p c.resume-i.result c.stretch_end-end.result
+stretch_ends c = ends _ _ _ _ _ c.resume-i.ensures.high c.stretch_end-end.ensures
 
 sub-scan : tie.Need-overflow_sub-i invariant-loop decreases-loop
-sub-scan c = omega (arith, c.before.resume-i.ensures.low, c.before.before.before.loop-p.invariant.1)
+sub-scan c = omega (arith, c.resume-i.ensures.low, c.loop-p.invariant.1)
 
 sub-scan-2 : tie.Need-overflow_sub-end invariant-loop decreases-loop
 sub-scan-2 c = (stretch_ends c).least
@@ -70,19 +70,19 @@ scan-requires c κs =
     let s = start_at c.before.before.before in
     let bytes = s.pre.0.bytes in
     let e = stretch_ends c in
-    (bytes.unit_size, e.few, omega (arith, bytes.room, mul-le-mul_right s.args.unitsize (read c.before.before.before.loop-p.invariant.1 c.before.resume-i.ensures.low e.least e.most)), s.pre.1, s.pre.2)
+    (bytes.unit_size, e.few, omega (arith, bytes.room, mul-le-mul_right s.args.unitsize (read c.loop-p.invariant.1 c.resume-i.ensures.low e.least e.most)), s.pre.1, s.pre.2)
   where
     -- the last sample that is read is stored
     read : {f p i end len : ℕ} → f < p → p ≤ i → i ≤ end → end ≤ len → i - 1 + (end - i) + 1 ≤ len
     read a b d e = omega (arith, a, b, d, e)
 
 -- the stretch in numbers
-known : (c : tie.After-scan-t invariant-loop decreases-loop) → let s = start_at c.before.before.before.before in let p = c.before.before.before.before.loop-p in
-    Turn s.args.len p.p c.before.before.resume-i.result c.before.stretch_end-end.result p.forward p.backward p.skipped c.scan-t.result.forward c.scan-t.result.backward c.scan-t.result.skipped
+known : (c : tie.After-scan-t invariant-loop decreases-loop) → let s = start_at c.before.before.before.before in let p = c.loop-p in
+    Turn s.args.len p.p c.resume-i.result c.stretch_end-end.result p.forward p.backward p.skipped c.scan-t.result.forward c.scan-t.result.backward c.scan-t.result.skipped
 known c =
     let s = start_at c.before.before.before.before in
-    let p = c.before.before.before.before.loop-p in
-    turn s.args.unitsize (seek s _) (samples s) s.args.len s.args.a s.args.b p.p p.invariant.1 c.before.before.before.loop-p-test.true c.before.before.resume-i.ensures c.before.stretch_end-end.ensures c.scan-t.ensures
+    let p = c.loop-p in
+    turn s.args.unitsize (seek s _) (samples s) s.args.len s.args.a s.args.b p.p p.invariant.1 c.loop-p-test.true c.resume-i.ensures c.stretch_end-end.ensures c.scan-t.ensures
 
 -- no count leaves 64 bits
 most : (c : tie.After-scan-t invariant-loop decreases-loop) → let s = start_at c.before.before.before.before in s.args.len ≤ most_samples
@@ -104,7 +104,7 @@ add-quiet-behind-2 : tie.Need-overflow_add-t-in-loop-p invariant-loop decreases-
 add-quiet-behind-2 c = record { fits = omega (arith, (known c.before.before.before.before.before).scanned) }
 
 quiet-behind-requires : tie.Need-quiet_behind-quiet-requires invariant-loop decreases-loop
-quiet-behind-requires c κs = let z = c.before.before.before.before.before in (z.before.before.resume-i.ensures.low, omega (arith, z.before.before.resume-i.ensures.high, most z))
+quiet-behind-requires c κs = let z = c.before.before.before.before.before in (z.resume-i.ensures.low, omega (arith, z.resume-i.ensures.high, most z))
 
 loop-less : tie.Need-loop-p-smaller invariant-loop decreases-loop
 loop-less c = let k = known c.before.before.before.before.before.before in omega (arith, k.later, k.inside, k.upto)
@@ -116,15 +116,15 @@ loop-again c =
     let s = start_at z.before.before.before.before in (
       omega (arith, k.upto),
       k.after,
-      left_on s.args.unitsize (seek s _) (samples s) s.args.len s.args.a s.args.b z.before.before.before.before.loop-p.invariant.2 k.inside z.before.before.resume-i.ensures z.before.stretch_end-end.ensures z.scan-t.ensures c.quiet_behind-quiet.ensures,
+      left_on s.args.unitsize (seek s _) (samples s) s.args.len s.args.a s.args.b z.loop-p.invariant.2 k.inside z.resume-i.ensures z.stretch_end-end.ensures z.scan-t.ensures c.quiet_behind-quiet.ensures,
     )
 
 returns : tie.Need-returns invariant-loop decreases-loop
 unfolding hops_of
 returns c =
-    let p = c.before.loop-p in
+    let p = c.loop-p in
     let s = start_at c.before in
-    let all = left_ends _ _ _ _ _ _ p.invariant.2 c.loop-p-test.false ∙ ap (λ (m : ℕ). hops_from s.args.unitsize (seek s m) (samples s) s.args.len s.args.a s.args.b s.args.len 1 true no_turns) c.before.before.pair_mask-mask.ensures in (
+    let all = left_ends _ _ _ _ _ _ p.invariant.2 c.loop-p-test.false ∙ ap (λ (m : ℕ). hops_from s.args.unitsize (seek s m) (samples s) s.args.len s.args.a s.args.b s.args.len 1 true no_turns) c.pair_mask-mask.ensures in (
       all,
       omega (arith, p.invariant.0, p.invariant.1, s.pre.0.most),
       omega (arith, p.invariant.0, p.invariant.1, s.pre.0.most),

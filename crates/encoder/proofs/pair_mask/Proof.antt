@@ -12,7 +12,7 @@ line-bit-requires-2 : tie.Need-line_bit-requires-2
 line-bit-requires-2 c κs = search rules
 
 returns : tie.Need-returns
-returns c = ap₂ bit_or c.before.line_bit.ensures c.line_bit-2.ensures
+returns c = ap₂ bit_or c.line_bit.ensures c.line_bit-2.ensures
 
 pub pair_mask_spec : {M : Type 1} → statement M
 pair_mask_spec = tie.close (tie.spec line-bit-requires line-bit-requires-2 returns)

@@ -20,23 +20,19 @@ lent s = lent_of s.args.samples.now (level_of s.args.l1.now s.args.l2.now s.args
 abbrev own : tie.Start → List Row
 own s = pair_row top_line s.args.a s.args.b ∷ []
 
-abbrev start : tie.After-refusal-number → tie.Start
-start f = f.before.before.before.before.before.before
-
 -- rows 1 and 2 pass: 14 is left
-left : (c : tie.After-pair_wrong) (t : Bool) → c.pair_wrong.result ≡ t → let s = start c.before.before in cond t 14 0 ≡ first_of (store_rows (st s) (lent s) (own s))
+left : (c : tie.After-pair_wrong) (t : Bool) → c.pair_wrong.result ≡ t → let s = c.before.before in cond t 14 0 ≡ first_of (store_rows (st s) (lent s) (own s))
 left c t e =
     let k = c.before.before in
-    let s = start k in
-    rows_decide (st s) (lent s) (own s) k.refusal-number.ensures c.before.if-number-ne0.false _ (ap (λ (b : Bool). cond b 14 0) (sym e ∙ c.pair_wrong.ensures))
+    rows_decide (st k) (lent k) (own k) k.refusal-number.ensures c.if-number-ne0.false _ (ap (λ (b : Bool). cond b 14 0) (sym e ∙ c.pair_wrong.ensures))
 
 refusal-requires : tie.Need-refusal-number-requires
 refusal-requires c κs = search rules
 
 returns : tie.Need-returns-then-number-ne0
 returns c =
-    let s = start c.before in
-    rows_refuse (st s) (lent s) (own s) c.before.refusal-number.ensures c.if-number-ne0.true
+    let s = c.before in
+    rows_refuse (st s) (lent s) (own s) c.refusal-number.ensures c.if-number-ne0.true
 
 cast-pair-wrong : tie.Need-overflow_cast-pair_wrong
 cast-pair-wrong c = search rules

@@ -19,10 +19,6 @@ use Rattle.encoder.proofs.resume.Tie as tie
 abbrev levels : tie.Start → ℕ → List ℕ
 levels s = level_of s.args.l1.now s.args.l2.now s.args.l3.now s.args.l4.now
 
--- the function's start
-abbrev start_at : tie.After-chunk_end-hi → tie.Start
-start_at c = c.before.before.before.before.before.before.before
-
 -- a capture's first samples, and the nodes below them, lie in memory
 part_of_lem : (unit len hi : ℕ) (samples : List ℕ) (levels : ℕ → List ℕ) → Stored unit len samples levels → hi ≤ len → Part unit 0 hi samples levels
 part_of_lem unit len hi samples levels s h = record {
@@ -35,29 +31,27 @@ part_of_lem unit len hi samples levels s h = record {
 
 chunk-end-requires : tie.Need-chunk_end-hi-requires
 chunk-end-requires c κs =
-    let s = c.before.before.before.before.before.before in
-    (omega (arith, div-mul-le_self s.args.p chunk, s.requires.2), s.requires.0.most)
+    (omega (arith, div-mul-le_self c.args.p chunk, c.requires.2), c.requires.0.most)
 
 sub-get : tie.Need-overflow_sub-p
 sub-get c = search rules
 
 get-requires : tie.Need-get-value-requires
 get-requires c κs =
-    let s = start_at c in
-    bytes_held s.args.unitsize s.args.len _ s.args.samples.now s.pre.0.bytes (omega (arith, s.pre.1, s.pre.2))
+    bytes_held c.args.unitsize c.args.len _ c.args.samples.now c.pre.0.bytes (omega (arith, c.pre.1, c.pre.2))
 
 pass-requires : tie.Need-pass-requires
 pass-requires c κs =
-    let s = start_at c.before in
-    let e = c.before.chunk_end-hi.ensures in
-    (part_of_lem s.args.unitsize s.args.len c.before.chunk_end-hi.result s.args.samples.now (levels s) s.pre.0 (omega (arith, e)), omega arith, omega (arith, e, chunk_inside s.args.len s.args.p s.pre.2))
+    let s = c.before in
+    let e = c.chunk_end-hi.ensures in
+    (part_of_lem s.args.unitsize s.args.len c.chunk_end-hi.result s.args.samples.now (levels s) s.pre.0 (omega (arith, e)), omega arith, omega (arith, e, chunk_inside s.args.len s.args.p s.pre.2))
 
 returns : tie.Need-returns-then-quiet
 returns c =
-    let s = start_at c.before.before in
-    let e = c.before.before.chunk_end-hi.ensures in
-    resumed_on (onward_in s.args.unitsize s.args.len s.args.samples.now (levels s) s.args.mask) s.args.len s.args.p _ c.before.before.before.if-quiet.true
-    (c.pass.ensures.0 ∙ ap₂ (λ (h v : ℕ). pass_from s.args.unitsize 0 h s.args.samples.now (levels s) s.args.mask s.args.p v) e c.before.get-value.ensures)
+    let s = c.before.before in
+    let e = c.chunk_end-hi.ensures in
+    resumed_on (onward_in s.args.unitsize s.args.len s.args.samples.now (levels s) s.args.mask) s.args.len s.args.p _ c.if-quiet.true
+    (c.pass.ensures.0 ∙ ap₂ (λ (h v : ℕ). pass_from s.args.unitsize 0 h s.args.samples.now (levels s) s.args.mask s.args.p v) e c.get-value.ensures)
     c.pass.ensures.1 (omega (arith, c.pass.ensures.2, e))
 
 returns-2 : tie.Need-returns

@@ -28,7 +28,7 @@ lesser-requires : tie.Need-lesser-requires
 lesser-requires c κs = search rules
 
 returns : tie.Need-returns-then-p-i
-returns c = let s = c.before.before in ended s true (eqb s.args.unitsize 1) (le-leb _ _ c.before.if-p-i.true) refl c.lesser.ensures
+returns c = let s = c.before.before in ended s true (eqb s.args.unitsize 1) (le-leb _ _ c.if-p-i.true) refl c.lesser.ensures
 
 add-lesser-2 : tie.Need-overflow_add-i-then-unitsize-eq1
 add-lesser-2 c = search rules
@@ -40,7 +40,7 @@ lesser-requires-2 : tie.Need-lesser-requires-then-unitsize-eq1
 lesser-requires-2 c κs = search rules
 
 returns-2 : tie.Need-returns-then-unitsize-eq1
-returns-2 c = let s = c.before.before.before in ended s false true (lt-leb (s.args.p + 256) s.args.i (omega (arith, c.before.before.if-p-i.false))) (eq-eqb _ _ c.before.if-unitsize-eq1.true) c.lesser-then-unitsize-eq1.ensures
+returns-2 c = let s = c.before.before.before in ended s false true (lt-leb (s.args.p + 256) s.args.i (omega (arith, c.if-p-i.false))) (eq-eqb _ _ c.if-unitsize-eq1.true) c.lesser-then-unitsize-eq1.ensures
 
 add-lesser-3 : tie.Need-overflow_add-i-2
 add-lesser-3 c = search rules
@@ -52,7 +52,7 @@ lesser-requires-3 : tie.Need-lesser-requires-2
 lesser-requires-3 c κs = search rules
 
 returns-3 : tie.Need-returns
-returns-3 c = let s = c.before.before.before in ended s false false (lt-leb (s.args.p + 256) s.args.i (omega (arith, c.before.before.if-p-i.false))) (ne_eqb _ _ c.before.if-unitsize-eq1.false) c.lesser-2.ensures
+returns-3 c = let s = c.before.before.before in ended s false false (lt-leb (s.args.p + 256) s.args.i (omega (arith, c.if-p-i.false))) (ne_eqb _ _ c.if-unitsize-eq1.false) c.lesser-2.ensures
 
 pub stretch_end_spec : {M : Type 1} → statement M
 stretch_end_spec =

@@ -22,7 +22,7 @@ difference-requires c κs = (omega (arith, c.hops-s.ensures.1), omega (arith, c.
 
 returns : tie.Need-returns
 returns c =
-    let h = c.before.hops-s in
+    let h = c.hops-s in
     turns_eq (difference_back h.result.forward h.result.backward (omega (arith, h.ensures.1)) (omega (arith, h.ensures.2)) _ c.difference.ensures ∙ difference h.result.forward h.result.backward) refl refl refl
     ∙ h.ensures.0
 

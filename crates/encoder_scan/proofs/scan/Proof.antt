@@ -31,16 +31,15 @@ scan-two-requires c κs =
 
 returns : tie.Need-returns-then-unitsize-eq1
 returns c =
-    let a = c.before.before.before.args in
+    let a = c.args in
     let r = c.scan_one.result in
-    subst (λ (u : ℕ). Counts (turns_of (sample_of u a.samples.now) a.a a.b a.p a.n) r.forward r.backward r.skipped) (sym c.before.if-unitsize-eq1.true) c.scan_one.ensures
+    subst (λ (u : ℕ). Counts (turns_of (sample_of u a.samples.now) a.a a.b a.p a.n) r.forward r.backward r.skipped) (sym c.if-unitsize-eq1.true) c.scan_one.ensures
 
 returns-2 : tie.Need-returns-else-unitsize-eq1
 returns-2 c =
-    let s = c.before.before.before in
-    let a = s.args in
+    let a = c.args in
     let r = c.scan_two.result in
-    subst (λ (u : ℕ). Counts (turns_of (sample_of u a.samples.now) a.a a.b a.p a.n) r.forward r.backward r.skipped) (sym (unit_two s.requires.0 c.before.if-unitsize-eq1.false)) c.scan_two.ensures
+    subst (λ (u : ℕ). Counts (turns_of (sample_of u a.samples.now) a.a a.b a.p a.n) r.forward r.backward r.skipped) (sym (unit_two c.requires.0 c.if-unitsize-eq1.false)) c.scan_two.ensures
 
 pub scan_spec : {M : Type 1} → statement M
 scan_spec = tie.close (tie.spec scan-one-requires scan-two-requires returns returns-2)

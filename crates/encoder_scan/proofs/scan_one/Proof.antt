@@ -61,16 +61,13 @@ loop-less c = search rules
 
 loop-again : tie.Need-loop-k-preserved invariant-loop decreases-loop
 loop-again c =
-    let q = c.before.before.before in
-    let w = q.before.before.before.before in
-    let p = w.loop-k in
-    let s = w.before.before.before.before in
-    let bytes = s.args.samples.now in
-    let at = s.args.p + p.k in (
+    let p = c.loop-k in
+    let bytes = c.args.samples.now in
+    let at = c.args.p + p.k in (
       search rules,
       search rules,
       search rules,
-      stepped_on (sample_of 1 bytes) s.args.a s.args.b s.args.p p.k _ _ p.moved p.back p.skipped _ _ _ p.invariant.3 (byte_sample bytes at) (byte_sample bytes (at + 1)) (q.step_one-t.ensures.is s.args.a s.args.b w.before.before.bit_one-x.ensures w.before.bit_one-y.ensures),
+      stepped_on (sample_of 1 bytes) c.args.a c.args.b c.args.p p.k _ _ p.moved p.back p.skipped _ _ _ p.invariant.3 (byte_sample bytes at) (byte_sample bytes (at + 1)) (c.step_one-t.ensures.is c.args.a c.args.b c.bit_one-x.ensures c.bit_one-y.ensures),
     )
 
 sub-t21 : tie.Need-overflow_sub-result invariant-loop decreases-loop
@@ -87,9 +84,8 @@ cast-t24 c = search rules
 
 returns : tie.Need-returns invariant-loop decreases-loop
 returns c =
-    let p = c.before.loop-k in
-    let s = c.before.before.before.before.before in
-    subst (λ (n : ℕ). Counts (turns_of (sample_of 1 s.args.samples.now) s.args.a s.args.b s.args.p n) (p.moved - p.back) p.back p.skipped) (le_antisymm p.invariant.0 c.loop-k-test.false) (counts_of p.invariant.3)
+    let p = c.loop-k in
+    subst (λ (n : ℕ). Counts (turns_of (sample_of 1 c.args.samples.now) c.args.a c.args.b c.args.p n) (p.moved - p.back) p.back p.skipped) (le_antisymm p.invariant.0 c.loop-k-test.false) (counts_of p.invariant.3)
 
 pub scan_one_spec : {M : Type 1} → statement M
 scan_one_spec =

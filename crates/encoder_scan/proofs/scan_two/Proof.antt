@@ -54,14 +54,12 @@ loop-less c = search rules
 
 loop-again : tie.Need-loop-k-preserved invariant-loop decreases-loop
 loop-again c =
-    let q = c.before.before.before in
-    let w = q.before.before.before.before in
-    let p = w.loop-k in
-    let s = w.before.before in (
+    let p = c.loop-k in
+    (
       search rules,
       search rules,
       search rules,
-      stepped_on (sample_of 2 s.args.samples.now) s.args.a s.args.b s.args.p p.k _ _ p.moved p.back p.skipped _ _ _ p.invariant.3 q.before.before.get.ensures q.before.get-in-loop-k.ensures q.step_two-t.ensures.0,
+      stepped_on (sample_of 2 c.args.samples.now) c.args.a c.args.b c.args.p p.k _ _ p.moved p.back p.skipped _ _ _ p.invariant.3 c.get.ensures c.get-in-loop-k.ensures c.step_two-t.ensures.0,
     )
 
 sub-t17 : tie.Need-overflow_sub-result invariant-loop decreases-loop
@@ -78,9 +76,8 @@ cast-t20 c = search rules
 
 returns : tie.Need-returns invariant-loop decreases-loop
 returns c =
-    let p = c.before.loop-k in
-    let s = c.before.before.before in
-    subst (λ (n : ℕ). Counts (turns_of (sample_of 2 s.args.samples.now) s.args.a s.args.b s.args.p n) (p.moved - p.back) p.back p.skipped) (le_antisymm p.invariant.0 c.loop-k-test.false) (counts_of p.invariant.3)
+    let p = c.loop-k in
+    subst (λ (n : ℕ). Counts (turns_of (sample_of 2 c.args.samples.now) c.args.a c.args.b c.args.p n) (p.moved - p.back) p.back p.skipped) (le_antisymm p.invariant.0 c.loop-k-test.false) (counts_of p.invariant.3)
 
 pub scan_two_spec : {M : Type 1} → statement M
 scan_two_spec =

@@ -18,9 +18,8 @@ set-one-requires-4 c κs = search rules
 
 returns : tie.Need-returns
 returns c =
-    let start = c.before.before.before.before in
-    let a = start.args in
-    step_by 256 a.x a.y a.before a.after start.ranges.before.fits start.ranges.after.fits c.before.before.before.set_one-a.ensures c.before.before.set_one-b.ensures c.before.set_one-a2.ensures c.set_one-b2.ensures
+    let a = c.args in
+    step_by 256 a.x a.y a.before a.after c.ranges.before.fits c.ranges.after.fits c.set_one-a.ensures c.set_one-b.ensures c.set_one-a2.ensures c.set_one-b2.ensures
 
 pub step_one_spec : {M : Type 1} → statement M
 step_one_spec = tie.close (tie.spec set-one-requires set-one-requires-2 set-one-requires-3 set-one-requires-4 returns)

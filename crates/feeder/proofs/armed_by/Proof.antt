@@ -9,7 +9,7 @@ both-as-edge-requires : tie.Need-both_as_edge-requires
 both-as-edge-requires c κs = search rules
 
 returns : tie.Need-returns-then-terms
-returns c = simp c.before.before.if-terms.true (ap waiting c.both_as_edge.ensures)
+returns c = simp c.if-terms.true (ap waiting c.both_as_edge.ensures)
 
 returns-2 : tie.Need-returns
 returns-2 c = simp c.if-terms.false

@@ -30,20 +30,17 @@ is-nan-requires-2 c κs = search rules
 
 returns : tie.Need-returns-then-is_nan
 returns c =
-    let d = c.before.before.before in
-    let s = d.before.before.args in
-    second s.wish _ s.rate true d.wish-in-Seconds-1.given.1 (sym c.before.is_nan-in-Seconds.ensures ∙ c.if-is_nan.true)
+    let s = c.args in
+    second s.wish _ s.rate true c.in-Seconds.is (sym c.is_nan-in-Seconds.ensures ∙ c.if-is_nan.true)
 
 returns-2 : tie.Need-returns-in-Fraction
 returns-2 c =
-    let d = c.before.before in
-    c.is_nan.ensures ∙ sym (ap (λ (w : Pretrigger). number_wrong (wish_of w) d.before.before.args.rate) d.wish-1.given.1)
+    c.is_nan.ensures ∙ sym (ap (λ (w : Pretrigger). number_wrong (wish_of w) c.args.rate) c.in-Fraction.is)
 
 returns-3 : tie.Need-returns-else-is_nan
 returns-3 c =
-    let d = c.before.before.before in
-    let s = d.before.before.args in
-    second s.wish _ s.rate false d.wish-in-Seconds-1.given.1 (sym c.before.is_nan-in-Seconds.ensures ∙ c.if-is_nan.false)
+    let s = c.args in
+    second s.wish _ s.rate false c.in-Seconds.is (sym c.is_nan-in-Seconds.ensures ∙ c.if-is_nan.false)
 
 pub number_wrong_spec : {M : Type 1} → statement M
 number_wrong_spec =

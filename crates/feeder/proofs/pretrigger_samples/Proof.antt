@@ -25,28 +25,25 @@ enum-known-wish : tie.Need-enum_known-wish
 enum-known-wish c = search rules
 
 fraction-samples-requires : tie.Need-fraction_samples-samples-requires
-fraction-samples-requires c κs = c.before.before.before.requires.limit_most
+fraction-samples-requires c κs = c.requires.limit_most
 
 enum-known-wish-2 : tie.Need-enum_known-wish-in-Seconds-1
 enum-known-wish-2 c = search rules
 
 seconds-samples-requires : tie.Need-seconds_samples-requires
 seconds-samples-requires c κs =
-    let s = c.before.before.before in
-    (rate_most s.args.wish _ s.args.limit s.args.rate s.args.unit c.before.wish-in-Seconds-1.given.1 s.requires, s.requires.unit_least)
+    (rate_most c.args.wish _ c.args.limit c.args.rate c.args.unit c.in-Seconds.is c.requires, c.requires.unit_least)
 
 returns : tie.Need-returns-in-Fraction
 returns c =
-    let d = c.before.before in
-    let s = d.before.before.args in
+    let s = c.args in
     ap (λ (n : ℕ). record { samples = n; was_cut = false }) c.fraction_samples-samples.ensures
-    ∙ sym (ap (λ (w : Pretrigger). pre_for (wish_of w) s.limit s.rate s.unit) d.wish-1.given.1)
+    ∙ sym (ap (λ (w : Pretrigger). pre_for (wish_of w) s.limit s.rate s.unit) c.in-Fraction.is)
 
 returns-2 : tie.Need-returns-in-Seconds
 returns-2 c =
-    let d = c.before.before in
-    let s = d.before.before.args in
-    c.seconds_samples.ensures ∙ sym (ap (λ (w : Pretrigger). pre_for (wish_of w) s.limit s.rate s.unit) d.wish-in-Seconds-1.given.1)
+    let s = c.args in
+    c.seconds_samples.ensures ∙ sym (ap (λ (w : Pretrigger). pre_for (wish_of w) s.limit s.rate s.unit) c.in-Seconds.is)
 
 pub pretrigger_samples_spec : {M : Type 1} → statement M
 pretrigger_samples_spec =

@@ -15,7 +15,7 @@ use Rattle.feeder.proofs.refusal_of.Tie as tie
 
 module _ (f : tie.After-refusal-first) where
   abbrev s : tie.Start
-  s = let known = f.before.before in known.before.before.before.before.before.before
+  s = f.before.before.before.before.before.before
 
   abbrev recorder : Recorder
   recorder = recorder_of s.args.f
@@ -31,7 +31,7 @@ refusal-requires c κs = search rules
 
 returns : tie.Need-returns-then-first-eq1
 returns c =
-    refused_1 (recorder c.before) (lent c.before) (ring c.before) c.before.refusal-first.ensures c.if-first-eq1.true
+    refused_1 (recorder c.before) (lent c.before) (ring c.before) c.refusal-first.ensures c.if-first-eq1.true
 
 setting-wrong-requires : tie.Need-setting_wrong-requires
 setting-wrong-requires c κs = search rules
@@ -39,33 +39,27 @@ setting-wrong-requires c κs = search rules
 returns-2 : tie.Need-returns-then-setting_wrong
 returns-2 c =
     let d = c.before.before.before in
-    refused_1' (recorder d) (lent d) (ring d) d.refusal-first.ensures (sym c.before.setting_wrong.ensures ∙ c.if-setting_wrong.true)
+    refused_1' (recorder d) (lent d) (ring d) d.refusal-first.ensures (sym c.setting_wrong.ensures ∙ c.if-setting_wrong.true)
 
 returns-3 : tie.Need-returns-then-first-ne0
 returns-3 c =
-    let e = c.before.before in
-    let d = e.before.before in
-    refused_2 (recorder d) (lent d) (ring d) d.refusal-first.ensures e.before.if-first-eq1.false (sym e.setting_wrong.ensures ∙ c.before.if-setting_wrong.false) c.if-first-ne0.true
+    let d = c.before.before in
+    refused_2 (recorder d) (lent d) (ring d) d.refusal-first.ensures c.if-first-eq1.false (sym c.setting_wrong.ensures ∙ c.if-setting_wrong.false) c.if-first-ne0.true
 
 mul-if4 : tie.Need-overflow_mul-f
 mul-if4 c =
-    let e = c.before.before.before.before in
-    let d = e.before.before in
-    record { fits = need_fits (recorder d) (lent d) (ring d) d.refusal-first.ensures e.before.if-first-eq1.false (sym e.setting_wrong.ensures ∙ c.before.before.before.if-setting_wrong.false) }
+    let d = c.before.before in
+    record { fits = need_fits (recorder d) (lent d) (ring d) d.refusal-first.ensures c.if-first-eq1.false (sym c.setting_wrong.ensures ∙ c.if-setting_wrong.false) }
 
 returns-4 : tie.Need-returns-then-ring-f
 returns-4 c =
-    let i = c.before.before.before in
-    let e = i.before.before in
-    let d = e.before.before in
-    ring_row (recorder d) (lent d) (ring d) d.refusal-first.ensures e.before.if-first-eq1.false (sym e.setting_wrong.ensures ∙ i.before.if-setting_wrong.false) i.if-first-ne0.false true (lt-ltb _ _ c.if-ring-f.true)
+    let d = c.before.before in
+    ring_row (recorder d) (lent d) (ring d) d.refusal-first.ensures c.if-first-eq1.false (sym c.setting_wrong.ensures ∙ c.if-setting_wrong.false) c.if-first-ne0.false true (lt-ltb _ _ c.if-ring-f.true)
 
 returns-5 : tie.Need-returns
 returns-5 c =
-    let i = c.before.before.before in
-    let e = i.before.before in
-    let d = e.before.before in
-    ring_row (recorder d) (lent d) (ring d) d.refusal-first.ensures e.before.if-first-eq1.false (sym e.setting_wrong.ensures ∙ i.before.if-setting_wrong.false) i.if-first-ne0.false false (le-ltb _ _ c.if-ring-f.false)
+    let d = c.before.before in
+    ring_row (recorder d) (lent d) (ring d) d.refusal-first.ensures c.if-first-eq1.false (sym c.setting_wrong.ensures ∙ c.if-setting_wrong.false) c.if-first-ne0.false false (le-ltb _ _ c.if-ring-f.false)
 
 pub refusal_of_spec : {M : Type 1} → statement M
 refusal_of_spec =

@@ -31,51 +31,42 @@ returns-2 : tie.Need-returns-then-wrong
 returns-2 c =
     let f = c.before.before in
     let a = (s f).args in
-    row_by (store_of a.fresh) (lent f) a.limit a.wrong (wish_of a.wish) a.rate f.refusal-first.ensures c.before.if-first-ne0.false
+    row_by (store_of a.fresh) (lent f) a.limit a.wrong (wish_of a.wish) a.rate f.refusal-first.ensures c.if-first-ne0.false
     true _ _ _ c.if-wrong.true refl refl refl
 
 returns-3 : tie.Need-returns-then-fresh-limit
 returns-3 c =
-    let t3 = c.before.before in
-    let f = t3.before.before in
+    let f = c.before.before in
     let a = (s f).args in
-    row_by (store_of a.fresh) (lent f) a.limit a.wrong (wish_of a.wish) a.rate f.refusal-first.ensures t3.before.if-first-ne0.false
-    false true _ _ t3.if-wrong.false (lt-ltb _ _ c.if-fresh-limit.true) refl refl
+    row_by (store_of a.fresh) (lent f) a.limit a.wrong (wish_of a.wish) a.rate f.refusal-first.ensures c.if-first-ne0.false
+    false true _ _ c.if-wrong.false (lt-ltb _ _ c.if-fresh-limit.true) refl refl
 
 wish-wrong-requires : tie.Need-wish_wrong-requires
 wish-wrong-requires c κs = search rules
 
 returns-4 : tie.Need-returns-then-wish_wrong
 returns-4 c =
-    let t4 = c.before.before in
-    let t3 = t4.before.before in
-    let f = t3.before.before in
+    let f = c.before.before in
     let a = (s f).args in
-    row_by (store_of a.fresh) (lent f) a.limit a.wrong (wish_of a.wish) a.rate f.refusal-first.ensures t3.before.if-first-ne0.false
-    false false true _ t3.if-wrong.false (le-ltb _ _ t4.if-fresh-limit.false) (sym c.before.wish_wrong.ensures ∙ c.if-wish_wrong.true) refl
+    row_by (store_of a.fresh) (lent f) a.limit a.wrong (wish_of a.wish) a.rate f.refusal-first.ensures c.if-first-ne0.false
+    false false true _ c.if-wrong.false (le-ltb _ _ c.if-fresh-limit.false) (sym c.wish_wrong.ensures ∙ c.if-wish_wrong.true) refl
 
 number-wrong-requires : tie.Need-number_wrong-requires
 number-wrong-requires c κs = search rules
 
 returns-5 : tie.Need-returns-then-number_wrong
 returns-5 c =
-    let t5 = c.before.before in
-    let t4 = t5.before.before in
-    let t3 = t4.before.before in
-    let f = t3.before.before in
+    let f = c.before.before in
     let a = (s f).args in
-    row_by (store_of a.fresh) (lent f) a.limit a.wrong (wish_of a.wish) a.rate f.refusal-first.ensures t3.before.if-first-ne0.false
-    false false false true t3.if-wrong.false (le-ltb _ _ t4.if-fresh-limit.false) (sym t5.before.wish_wrong.ensures ∙ t5.if-wish_wrong.false) (sym c.before.number_wrong.ensures ∙ c.if-number_wrong.true)
+    row_by (store_of a.fresh) (lent f) a.limit a.wrong (wish_of a.wish) a.rate f.refusal-first.ensures c.if-first-ne0.false
+    false false false true c.if-wrong.false (le-ltb _ _ c.if-fresh-limit.false) (sym c.wish_wrong.ensures ∙ c.if-wish_wrong.false) (sym c.number_wrong.ensures ∙ c.if-number_wrong.true)
 
 returns-6 : tie.Need-returns
 returns-6 c =
-    let t5 = c.before.before in
-    let t4 = t5.before.before in
-    let t3 = t4.before.before in
-    let f = t3.before.before in
+    let f = c.before.before in
     let a = (s f).args in
-    row_by (store_of a.fresh) (lent f) a.limit a.wrong (wish_of a.wish) a.rate f.refusal-first.ensures t3.before.if-first-ne0.false
-    false false false false t3.if-wrong.false (le-ltb _ _ t4.if-fresh-limit.false) (sym t5.before.wish_wrong.ensures ∙ t5.if-wish_wrong.false) (sym c.before.number_wrong.ensures ∙ c.if-number_wrong.false)
+    row_by (store_of a.fresh) (lent f) a.limit a.wrong (wish_of a.wish) a.rate f.refusal-first.ensures c.if-first-ne0.false
+    false false false false c.if-wrong.false (le-ltb _ _ c.if-fresh-limit.false) (sym c.wish_wrong.ensures ∙ c.if-wish_wrong.false) (sym c.number_wrong.ensures ∙ c.if-number_wrong.false)
 
 pub settings_refusal_spec : {M : Type 1} → statement M
 settings_refusal_spec =

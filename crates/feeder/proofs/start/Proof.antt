@@ -25,54 +25,47 @@ lent s = lent_of s.args.samples.now (level_of s.args.l1.now s.args.l2.now s.args
 abbrev ring : tie.Start → ℕ
 ring s = length s.args.ring.now
 
-abbrev start : tie.After-settings_refusal-number → tie.Start
-start n = let known = n.before.before in known.before.before.before.before.before.before
-
 returns : tie.Need-returns-then-number-ne0
 returns c =
     let n = c.before in
-    let s = (start n).args in
-    start_refused s.channels s.capacity s.limit s.terms s.wish s.rate (lent (start n)) (ring (start n)) n.before.unit_of-unitsize.result n.before.unit_of-unitsize.ensures n.settings_refusal-number.ensures c.if-number-ne0.true
+    let s = n.args in
+    start_refused s.channels s.capacity s.limit s.terms s.wish s.rate (lent n) (ring n) n.unit_of-unitsize.result n.unit_of-unitsize.ensures n.settings_refusal-number.ensures c.if-number-ne0.true
 
 pretrigger-samples-requires : tie.Need-pretrigger_samples-kept-requires
 pretrigger-samples-requires c κs =
     let n = c.before in
-    let s = (start n).args in
-    workable s.channels s.capacity s.limit s.terms s.wish s.rate (lent (start n)) (ring (start n)) n.before.unit_of-unitsize.result n.before.unit_of-unitsize.ensures n.settings_refusal-number.ensures c.if-number-ne0.false
+    let s = n.args in
+    workable s.channels s.capacity s.limit s.terms s.wish s.rate (lent n) (ring n) n.unit_of-unitsize.result n.unit_of-unitsize.ensures n.settings_refusal-number.ensures c.if-number-ne0.false
 
 returns-2 : tie.Need-returns-then-capacity-pre
 returns-2 c =
-    let k = c.before in
-    let n = k.before.before in
-    let s = (start n).args in
-    too_many s.channels s.capacity s.limit s.terms s.wish s.rate (lent (start n)) (ring (start n)) n.before.unit_of-unitsize.result n.before.unit_of-unitsize.ensures n.settings_refusal-number.ensures k.before.if-number-ne0.false
-    (kept_as k.pretrigger_samples-kept.result) k.pretrigger_samples-kept.ensures c.if-capacity-pre.true
+    let n = c.before.before in
+    let s = n.args in
+    too_many s.channels s.capacity s.limit s.terms s.wish s.rate (lent n) (ring n) n.unit_of-unitsize.result n.unit_of-unitsize.ensures n.settings_refusal-number.ensures c.if-number-ne0.false
+    (kept_as c.pretrigger_samples-kept.result) c.pretrigger_samples-kept.ensures c.if-capacity-pre.true
 
 mul-if3 : tie.Need-overflow_mul-pre
 mul-if3 c =
-    let k = c.before in
-    let n = k.before.before in
-    let s = (start n).args in
-    record { fits = pre_fits s.channels s.capacity s.limit s.terms s.wish s.rate (lent (start n)) (ring (start n)) n.before.unit_of-unitsize.result n.before.unit_of-unitsize.ensures n.settings_refusal-number.ensures k.before.if-number-ne0.false _ c.if-capacity-pre.false }
+    let n = c.before.before in
+    let s = n.args in
+    record { fits = pre_fits s.channels s.capacity s.limit s.terms s.wish s.rate (lent n) (ring n) n.unit_of-unitsize.result n.unit_of-unitsize.ensures n.settings_refusal-number.ensures c.if-number-ne0.false _ c.if-capacity-pre.false }
 
 returns-3 : tie.Need-returns-then-ring-pre
 returns-3 c =
-    let k = c.before.before in
-    let n = k.before.before in
-    let s = (start n).args in
-    ring_short_lem s.channels s.capacity s.limit s.terms s.wish s.rate (lent (start n)) (ring (start n)) n.before.unit_of-unitsize.result n.before.unit_of-unitsize.ensures n.settings_refusal-number.ensures k.before.if-number-ne0.false
-    (kept_as k.pretrigger_samples-kept.result) k.pretrigger_samples-kept.ensures c.before.if-capacity-pre.false c.if-ring-pre.true
+    let n = c.before.before in
+    let s = n.args in
+    ring_short_lem s.channels s.capacity s.limit s.terms s.wish s.rate (lent n) (ring n) n.unit_of-unitsize.result n.unit_of-unitsize.ensures n.settings_refusal-number.ensures c.if-number-ne0.false
+    (kept_as c.pretrigger_samples-kept.result) c.pretrigger_samples-kept.ensures c.if-capacity-pre.false c.if-ring-pre.true
 
 armed-by-requires : tie.Need-armed_by-requires
 armed-by-requires c κs = search rules
 
 returns-4 : tie.Need-returns
 returns-4 c =
-    let k = c.before.before.before in
-    let n = k.before.before in
-    let s = (start n).args in
-    accepted s.channels s.capacity s.limit s.terms s.wish s.rate (lent (start n)) (ring (start n)) n.before.unit_of-unitsize.result n.before.unit_of-unitsize.ensures n.settings_refusal-number.ensures k.before.if-number-ne0.false
-    (kept_as k.pretrigger_samples-kept.result) k.pretrigger_samples-kept.ensures c.before.before.if-capacity-pre.false c.before.if-ring-pre.false (armed_as c.armed_by.result) c.armed_by.ensures
+    let n = c.before.before in
+    let s = n.args in
+    accepted s.channels s.capacity s.limit s.terms s.wish s.rate (lent n) (ring n) n.unit_of-unitsize.result n.unit_of-unitsize.ensures n.settings_refusal-number.ensures c.if-number-ne0.false
+    (kept_as c.pretrigger_samples-kept.result) c.pretrigger_samples-kept.ensures c.if-capacity-pre.false c.if-ring-pre.false (armed_as c.armed_by.result) c.armed_by.ensures
 
 pub start_spec : {M : Type 1} → statement M
 start_spec =

@@ -14,10 +14,10 @@ enum-told-2 : tie.Need-enum_told-in-Seconds
 enum-told-2 c = search rules
 
 returns : tie.Need-returns-in-Fraction
-returns c = sym (ap (λ (w : Pretrigger). wish_wrong (wish_of w) c.before.before.args.limit) c.enum_told-1.given.1)
+returns c = sym (ap (λ (w : Pretrigger). wish_wrong (wish_of w) c.args.limit) c.in-Fraction.is)
 
 returns-2 : tie.Need-returns-in-Seconds
-returns-2 c = sym (ap (λ (w : Pretrigger). wish_wrong (wish_of w) c.before.before.args.limit) c.enum_told-in-Seconds-1.given.1)
+returns-2 c = sym (ap (λ (w : Pretrigger). wish_wrong (wish_of w) c.args.limit) c.in-Seconds.is)
 
 pub wish_wrong_spec : {M : Type 1} → statement M
 wish_wrong_spec = tie.close (tie.spec enum_told enum-told-2 returns returns-2)

@@ -25,10 +25,10 @@ flag-requires : tie.Need-flag-requires
 flag-requires c κs = search rules
 
 returns : tie.Need-returns-in-Refused
-returns c = (coded begun_numbers (λ (x : Started). plain (started_of x)) _ _ _ c.before.before.answer-1.given.1 c.code.ensures refl, coded cut_number (λ (x : Started). plain (started_of x)) _ _ _ c.before.before.answer-1.given.1 c.code.ensures refl)
+returns c = (coded begun_numbers (λ (x : Started). plain (started_of x)) _ _ _ c.in-Refused.is c.code.ensures refl, coded cut_number (λ (x : Started). plain (started_of x)) _ _ _ c.in-Refused.is c.code.ensures refl)
 
 returns-2 : tie.Need-returns-in-Fresh
-returns-2 c = (coded begun_numbers (λ (x : Started). plain (started_of x)) _ _ _ c.before.before.before.before.answer-in-Fresh-1.given.1 refl c.before.put_feeder.ensures, coded cut_number (λ (x : Started). plain (started_of x)) _ _ _ c.before.before.before.before.answer-in-Fresh-1.given.1 refl c.flag.ensures)
+returns-2 c = (coded begun_numbers (λ (x : Started). plain (started_of x)) _ _ _ c.in-Fresh.is refl c.put_feeder.ensures, coded cut_number (λ (x : Started). plain (started_of x)) _ _ _ c.in-Fresh.is refl c.flag.ensures)
 
 pub begun_code_spec : {M : Type 1} → statement M
 begun_code_spec =

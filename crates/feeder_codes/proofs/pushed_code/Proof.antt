@@ -24,13 +24,13 @@ put-pushed-requires-2 : tie.Need-put_pushed-requires-in-Complete
 put-pushed-requires-2 c κs = search rules
 
 returns : tie.Need-returns-in-Refused
-returns c = pushed_coded _ c.before.before.before.before.args.numbers.now _ c.before.before.answer-1.given.1 c.code.ensures refl
+returns c = pushed_coded _ c.args.numbers.now _ c.in-Refused.is c.code.ensures refl
 
 returns-2 : tie.Need-returns-in-GoingOn
-returns-2 c = pushed_coded _ c.before.before.before.before.before.args.numbers.now _ c.before.before.before.answer-in-GoingOn-1.given.1 refl c.put_pushed.ensures
+returns-2 c = pushed_coded _ c.args.numbers.now _ c.in-GoingOn.is refl c.put_pushed.ensures
 
 returns-3 : tie.Need-returns-in-Complete
-returns-3 c = pushed_coded _ c.before.before.before.before.before.args.numbers.now _ c.before.before.before.answer-in-Complete-1.given.1 refl c.put_pushed-in-Complete.ensures
+returns-3 c = pushed_coded _ c.args.numbers.now _ c.in-Complete.is refl c.put_pushed-in-Complete.ensures
 
 pub pushed_code_spec : {M : Type 1} → statement M
 pushed_code_spec =

@@ -69,10 +69,7 @@ element-copy-out-t47 c = search rules
 
 returns : tie.Need-returns
 returns c =
-    let armed = c.before.before.before.before.before in
-    let masks = armed.before.before.before.before in
-    let mark = masks.before.before.before.before.before.before in
-    read mark.before.before.before.before.before.before.args.numbers.now mark.mark_in.ensures masks.masks_in-masks.ensures armed.armed_in.ensures c.before.before.previous_in.ensures
+    read c.args.numbers.now c.mark_in.ensures c.masks_in-masks.ensures c.armed_in.ensures c.previous_in.ensures
 
 pub feeder_in_spec : {M : Type 1} → statement M
 feeder_in_spec =

@@ -19,7 +19,7 @@ mask-in-requires-5 : tie.Need-mask_in-requires-5
 mask-in-requires-5 c κs = search rules
 
 returns : tie.Need-returns
-returns c = rw (c.before.before.before.before.mask_in.ensures, c.before.before.before.mask_in-2.ensures, c.before.before.mask_in-3.ensures, c.before.mask_in-4.ensures, c.mask_in-5.ensures)
+returns c = rw (c.mask_in.ensures, c.mask_in-2.ensures, c.mask_in-3.ensures, c.mask_in-4.ensures, c.mask_in-5.ensures)
 
 pub masks_in_spec : {M : Type 1} → statement M
 masks_in_spec =

@@ -19,10 +19,10 @@ enum-known-a : tie.Need-enum_known-a
 enum-known-a c = search rules
 
 returns : tie.Need-returns-in-Unarmed
-returns c = ap as_masks c.masks_in.ensures ∙ sym (ap (λ (a : Armed). masks_of (armed_as a)) c.before.enum_told-1.given.1)
+returns c = ap as_masks c.masks_in.ensures ∙ sym (ap (λ (a : Armed). masks_of (armed_as a)) c.in-Unarmed.is)
 
 returns-2 : tie.Need-returns-in-Waiting
-returns-2 c = sym (ap (λ (a : Armed). masks_of (armed_as a)) c.before.a-1.given.1)
+returns-2 c = sym (ap (λ (a : Armed). masks_of (armed_as a)) c.in-Waiting.is)
 
 pub masks_of_spec : {M : Type 1} → statement M
 masks_of_spec = tie.close (tie.spec enum_told masks-in-requires enum-known-a returns returns-2)

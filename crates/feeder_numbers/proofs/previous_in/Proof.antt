@@ -11,7 +11,7 @@ mask-in-requires : tie.Need-mask_in-requires
 mask-in-requires c κs = search rules
 
 returns-2 : tie.Need-returns
-returns-2 c = rw (ne_eqb _ _ c.before.if-known-eq0.false, c.mask_in.ensures)
+returns-2 c = rw (ne_eqb _ _ c.if-known-eq0.false, c.mask_in.ensures)
 
 pub previous_in_spec : {M : Type 1} → statement M
 previous_in_spec = tie.close (tie.spec returns mask-in-requires returns-2)

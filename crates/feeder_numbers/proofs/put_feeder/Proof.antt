@@ -54,9 +54,8 @@ put-pushed-requires c κs = search rules
 
 returns : tie.Need-returns
 returns c =
-    let masks = c.before.before.before.before.before.before.before in
-    let a = masks.before.before.args in
-    whole_written a.f a.numbers.now _ masks.masks_of-masks.ensures c.put_pushed.ensures
+    let a = c.args in
+    whole_written a.f a.numbers.now _ c.masks_of-masks.ensures c.put_pushed.ensures
 
 pub put_feeder_spec : {M : Type 1} → statement M
 put_feeder_spec =

@@ -45,8 +45,8 @@ element-write-numbers-8 c = search rules
 
 returns : tie.Need-returns
 returns c =
-    let a = c.before.before.before.before.before.before.args in
-    written a.f a.numbers.now c.before.before.before.before.mark_flag.ensures c.before.before.before.mark_place.ensures c.before.before.waits.ensures c.before.known.ensures c.sample_of.ensures
+    let a = c.args in
+    written a.f a.numbers.now c.mark_flag.ensures c.mark_place.ensures c.waits.ensures c.known.ensures c.sample_of.ensures
 
 pub put_pushed_spec : {M : Type 1} → statement M
 put_pushed_spec =

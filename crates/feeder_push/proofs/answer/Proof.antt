@@ -18,35 +18,30 @@ enum_told c = search rules
 
 returns : tie.Need-returns-in_default
 returns c =
-    let a = c.before.before.args in
-    answers_none a.back (recorder_of a.f) a.taken c.enum_told-1.given.1
+    let a = c.args in
+    answers_none a.back (recorder_of a.f) a.taken c.in_default.is
 
 add-len : tie.Need-overflow_add-len
 add-len c =
-    let t = c.before.before.before in
-    let s = t.before.before in
-    omega (arith, s.requires, ap count_in t.taken-1.given.1)
+    omega (arith, c.requires, ap count_in c.in-Count.is)
 
 returns-2 : tie.Need-returns-then-limit-eq0
 returns-2 c =
-    let t = c.before.before.before.before in
-    let a = t.before.before.args in
-    let k = t.taken-1.given.0.0 in
-    answers_some (recorder_of a.back) (recorder_of a.f) a.taken k _ t.taken-1.given.1 (rw (eq-eqb a.f.limit 0 c.if-limit-eq0.true)) refl
+    let a = c.args in
+    let k = c.in-Count.k in
+    answers_some (recorder_of a.back) (recorder_of a.f) a.taken k _ c.in-Count.is (rw (eq-eqb a.f.limit 0 c.if-limit-eq0.true)) refl
 
 returns-3 : tie.Need-returns-then-len-limit
 returns-3 c =
-    let t = c.before.before.before.before.before in
-    let a = t.before.before.args in
-    let k = t.taken-1.given.0.0 in
-    answers_some (recorder_of a.back) (recorder_of a.f) a.taken k _ t.taken-1.given.1 (rw (ne_eqb a.f.limit 0 c.before.if-limit-eq0.false, eq-eqb (a.f.capture.len + k) a.f.limit c.if-len-limit.true)) refl
+    let a = c.args in
+    let k = c.in-Count.k in
+    answers_some (recorder_of a.back) (recorder_of a.f) a.taken k _ c.in-Count.is (rw (ne_eqb a.f.limit 0 c.if-limit-eq0.false, eq-eqb (a.f.capture.len + k) a.f.limit c.if-len-limit.true)) refl
 
 returns-4 : tie.Need-returns
 returns-4 c =
-    let t = c.before.before.before.before.before in
-    let a = t.before.before.args in
-    let k = t.taken-1.given.0.0 in
-    answers_some (recorder_of a.back) (recorder_of a.f) a.taken k _ t.taken-1.given.1 (rw (ne_eqb a.f.limit 0 c.before.if-limit-eq0.false, ne_eqb (a.f.capture.len + k) a.f.limit c.if-len-limit.false)) refl
+    let a = c.args in
+    let k = c.in-Count.k in
+    answers_some (recorder_of a.back) (recorder_of a.f) a.taken k _ c.in-Count.is (rw (ne_eqb a.f.limit 0 c.if-limit-eq0.false, ne_eqb (a.f.capture.len + k) a.f.limit c.if-len-limit.false)) refl
 
 pub answer_spec : {M : Type 1} → statement M
 answer_spec =

@@ -11,17 +11,10 @@ use Rattle.feeder_push.proofs.fire.Tie as tie
 abbrev start_at : tie.After-shared_slice_known-2-1 → tie.Start
 start_at p = p.before.before.before.before.before.before.before
 
--- the call that stores, from where all is lent back
-abbrev stored_at : tie.After-slice_known-10-1 → tie.After-store_run-taken
-stored_at p =
-    let l2 = p.before.before.before.before.before in
-    l2.before.before.before.before.before
-
 -- and the start from there
 abbrev start_of_call : tie.After-store_run-taken → tie.Start
 start_of_call p =
-    let m = p.before.before.before.before.before.before in
-    start_at m.before.before.before.before
+    start_at p.before.before.before.before
 
 lesser-requires : tie.Need-lesser-before-requires
 lesser-requires c κs = search rules
@@ -37,32 +30,27 @@ sub-store-run c = search rules
 
 store-run-requires : tie.Need-store_run-taken-requires
 store-run-requires c κs =
-    let m = c.before.before.before.before.before in
-    let l = m.before.before in
-    let s = start_at l.before.before in
+    let s = start_at c.before.before in
     let a = s.args in
-    fire_room (recorder_of a.f) a.samples.now (level_of a.l1.now a.l2.now a.l3.now a.l4.now) a.ring.now a.bytes.now a.n s.pre.0 a.i s.pre.1 l.lesser-before.result m.lesser-w.result l.lesser-before.ensures m.lesser-w.ensures
+    fire_room (recorder_of a.f) a.samples.now (level_of a.l1.now a.l2.now a.l3.now a.l4.now) a.ring.now a.bytes.now a.n s.pre.0 a.i s.pre.1 c.lesser-before.result c.lesser-w.result c.lesser-before.ensures c.lesser-w.ensures
 
 get-requires : tie.Need-get-v-requires
 get-requires c κs =
-    let s = start_of_call (stored_at c) in
+    let s = start_of_call c in
     let a = s.args in
     held_in (recorder_of a.f) a.samples.now (level_of a.l1.now a.l2.now a.l3.now a.l4.now) (length a.ring.now) (length a.bytes.now) a.n s.pre.0 a.i s.pre.1
 
 fired-by-requires : tie.Need-fired_by-requires
 fired-by-requires c κs =
-    let s = start_of_call (stored_at c.before) in
+    let s = start_of_call c.before in
     s.pre.0.sound.kept_most
 
 answer-requires : tie.Need-answer-requires
 answer-requires c κs =
-    let y = stored_at c.before.before in
-    let m = y.before.before.before.before.before.before in
-    let l = m.before.before in
-    let s = start_at l.before.before in
+    let s = start_at c.before.before in
     let a = s.args in
-    fire_fits (recorder_of a.f) a.samples.now (level_of a.l1.now a.l2.now a.l3.now a.l4.now) a.ring.now a.bytes.now a.n s.pre.0 a.i s.pre.1 l.lesser-before.result m.lesser-w.result l.lesser-before.ensures m.lesser-w.ensures
-    y.store_run-taken.result _ _ y.store_run-taken.ensures (recorder_of c.fired_by.result) c.before.get-v.result c.fired_by.ensures
+    fire_fits (recorder_of a.f) a.samples.now (level_of a.l1.now a.l2.now a.l3.now a.l4.now) a.ring.now a.bytes.now a.n s.pre.0 a.i s.pre.1 c.lesser-before.result c.lesser-w.result c.lesser-before.ensures c.lesser-w.ensures
+    c.store_run-taken.result _ _ c.store_run-taken.ensures (recorder_of c.fired_by.result) c.get-v.result c.fired_by.ensures
 
 same_length : tie.Need-shape_of-samples
 same_length c = search rules
@@ -81,13 +69,10 @@ same-length-5 c = search rules
 
 returns : tie.Need-returns
 returns c =
-    let y = stored_at c.before.before.before in
-    let m = y.before.before.before.before.before.before in
-    let l = m.before.before in
-    let s = start_at l.before.before in
+    let s = start_at c.before.before in
     let a = s.args in
-    fire_done (recorder_of a.f) a.samples.now (level_of a.l1.now a.l2.now a.l3.now a.l4.now) a.ring.now a.bytes.now a.n s.pre.0 a.i s.pre.1 l.lesser-before.result m.lesser-w.result l.lesser-before.ensures m.lesser-w.ensures
-    y.store_run-taken.result _ _ y.store_run-taken.ensures (recorder_of c.before.fired_by.result) c.before.before.get-v.result c.before.fired_by.ensures c.before.before.get-v.ensures c.answer.result c.answer.ensures
+    fire_done (recorder_of a.f) a.samples.now (level_of a.l1.now a.l2.now a.l3.now a.l4.now) a.ring.now a.bytes.now a.n s.pre.0 a.i s.pre.1 c.lesser-before.result c.lesser-w.result c.lesser-before.ensures c.lesser-w.ensures
+    c.store_run-taken.result _ _ c.store_run-taken.ensures (recorder_of c.fired_by.result) c.get-v.result c.fired_by.ensures c.get-v.ensures c.answer.result c.answer.ensures
 
 pub fire_spec : {M : Type 1} → statement M
 fire_spec =

@@ -10,7 +10,7 @@ filled-requires c κs = search rules
 
 returns : tie.Need-returns
 returns c =
-    let a = c.before.before.args in
+    let a = c.args in
     fired_is (recorder_of a.f) a.v a.i c.filled-mark.result c.filled-mark.ensures
 
 pub fired_by_spec : {M : Type 1} → statement M

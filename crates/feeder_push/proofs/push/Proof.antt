@@ -18,17 +18,6 @@ use Rattle.feeder_push.proofs.push.Tie as tie
 abbrev start_at : tie.After-shared_slice_known-1 → tie.Start
 start_at p = p.before.before.before.before.before.before.before
 
--- the calls that store, from where all is lent back
-abbrev stored_at : tie.After-slice_known-in_default-5-1 → tie.After-store_run-taken
-stored_at p =
-    let l2 = p.before.before.before.before.before in
-    l2.before.before.before.before.before
-
-abbrev fired_at : tie.After-slice_known-then-i-n-5-1 → tie.After-fire
-fired_at p =
-    let l2 = p.before.before.before.before.before in
-    l2.before.before.before.before.before
-
 module _ (f : tie.After-refusal_of-number) where
   abbrev s : tie.Start
   s = start_at f.before.before.before.before.before.before.before
@@ -38,7 +27,7 @@ module _ (f : tie.After-refusal_of-number) where
 
 -- past the first test rows 1 and 2 do not hold
 free : (c : tie.Else-number-ne0) → let f = c.before in recorder_refusal (recorder_of (s f).args.f) (lent_of (s f).args.samples.now (levels f)) (length (s f).args.ring.now) ≡ 0
-free c = sym c.before.refusal_of-number.ensures ∙ c.if-number-ne0.false
+free c = sym c.refusal_of-number.ensures ∙ c.if-number-ne0.false
 
 refusal-of-requires : tie.Need-refusal_of-number-requires
 refusal-of-requires c κs = search rules
@@ -82,20 +71,17 @@ enum_told c = search rules
 
 store-run-requires : tie.Need-store_run-taken-requires
 store-run-requires c κs =
-    let t = c.before.before.before.before.before.before in
-    let i = t.before.before.before in
+    let i = c.before.before.before in
     let f = i.before in
     let a = (s f).args in
     all_room a.f a.samples.now (levels f) a.ring.now a.bytes.now (free i)
 
 answer-requires : tie.Need-answer-requires
 answer-requires c κs =
-    let r = stored_at c in
-    let t = r.before.before.before.before.before.before.before in
-    let i = t.before.before.before in
+    let i = c.before.before.before in
     let f = i.before in
     let a = (s f).args in
-    taken_fits (recorder_of a.f) a.samples.now (levels f) (length a.ring.now) (length a.bytes.now) _ (room a.f a.samples.now (levels f) a.ring.now a.bytes.now (free i)) r.store_run-taken.result r.store_run-taken.ensures
+    taken_fits (recorder_of a.f) a.samples.now (levels f) (length a.ring.now) (length a.bytes.now) _ (room a.f a.samples.now (levels f) a.ring.now a.bytes.now (free i)) c.store_run-taken.result c.store_run-taken.ensures
 
 same-length-7 : tie.Need-shape_of-samples-in_default
 same-length-7 c = search rules
@@ -117,12 +103,10 @@ same-length-12 c = search rules
 
 returns-2 : tie.Need-returns-in_default
 returns-2 c =
-    let r = stored_at c.before in
-    let t = r.before.before.before.before.before.before.before in
-    let i = t.before.before.before in
+    let i = c.before.before.before in
     let f = i.before in
     let a = (s f).args in
-    pushed_unarmed a.f a.samples.now (levels f) a.ring.now a.bytes.now (free i) t.enum_told-1.given.1 r.store_run-taken.result c.answer.result _ _ r.store_run-taken.ensures c.answer.ensures
+    pushed_unarmed a.f a.samples.now (levels f) a.ring.now a.bytes.now (free i) c.in_default.is c.store_run-taken.result c.answer.result _ _ c.store_run-taken.ensures c.answer.ensures
 
 first-fire-requires : tie.Need-first_fire-i-requires
 first-fire-requires c κs =
@@ -133,11 +117,10 @@ first-fire-requires c κs =
 
 fire-requires : tie.Need-fire-requires
 fire-requires c κs =
-    let t = c.before.before.before.before.before.before in
-    let i = t.before.before.before.before.before.before in
+    let i = c.before.before.before.before.before.before in
     let f = i.before in
     let a = (s f).args in
-    (room a.f a.samples.now (levels f) a.ring.now a.bytes.now (free i), t.if-i-n.true)
+    (room a.f a.samples.now (levels f) a.ring.now a.bytes.now (free i), c.if-i-n.true)
 
 same-length-13 : tie.Need-shape_of-samples-then-i-n
 same-length-13 c = search rules
@@ -159,13 +142,10 @@ same-length-18 c = search rules
 
 returns-3 : tie.Need-returns-then-i-n
 returns-3 c =
-    let r = fired_at c in
-    let t = r.before.before.before.before.before.before.before in
-    let m = t.before.before.before in
-    let i = m.before.before.before in
+    let i = c.before.before.before in
     let f = i.before in
     let a = (s f).args in
-    pushed_fired a.f a.samples.now (levels f) a.ring.now a.bytes.now (free i) m.masks-1.given.0.0 m.masks-1.given.1 t.before.first_fire-i.result t.before.first_fire-i.ensures t.if-i-n.taken r.fire.result _ _ r.fire.ensures
+    pushed_fired a.f a.samples.now (levels f) a.ring.now a.bytes.now (free i) c.in-Waiting.m c.in-Waiting.is c.first_fire-i.result c.first_fire-i.ensures c.if-i-n.taken c.fire.result _ _ c.fire.ensures
 
 wait-requires : tie.Need-wait-requires
 wait-requires c κs =
@@ -194,12 +174,10 @@ same-length-24 c = search rules
 
 returns-4 : tie.Need-returns
 returns-4 c =
-    let t = c.before.before.before.before in
-    let m = t.before.before.before in
-    let i = m.before.before.before in
+    let i = c.before.before.before in
     let f = i.before in
     let a = (s f).args in
-    pushed_waited a.f a.samples.now (levels f) a.ring.now a.bytes.now (free i) m.masks-1.given.0.0 m.masks-1.given.1 t.before.first_fire-i.result t.before.first_fire-i.ensures t.if-i-n.false c.before.before.wait.result _ c.before.before.wait.ensures
+    pushed_waited a.f a.samples.now (levels f) a.ring.now a.bytes.now (free i) c.in-Waiting.m c.in-Waiting.is c.first_fire-i.result c.first_fire-i.ensures c.if-i-n.false c.wait.result _ c.wait.ensures
 
 pub push_spec : {M : Type 1} → statement M
 push_spec =

@@ -23,11 +23,10 @@ same_length c = search rules
 
 returns : tie.Need-returns
 returns c =
-    let l = c.before.before.before.before.before.before in
-    let a = l.before.before.before.before.args in
+    let a = c.args in
     record {
-      recorder_is = waited_is (recorder_of a.f) a.n a.bytes.now (previous_of l.last_sample-last.result) c.before.place_after-place.result c.filled-kept.result l.last_sample-last.ensures c.before.place_after-place.ensures c.filled-kept.ensures;
-      ring_is = c.before.before.before.before.ring_write.ensures;
+      recorder_is = waited_is (recorder_of a.f) a.n a.bytes.now (previous_of c.last_sample-last.result) c.place_after-place.result c.filled-kept.result c.last_sample-last.ensures c.place_after-place.ensures c.filled-kept.ensures;
+      ring_is = c.ring_write.ensures;
     }
 
 pub wait_spec : {M : Type 1} → statement M

@@ -38,22 +38,20 @@ loop-less c = search rules
 
 loop-again : tie.Need-loop-i-preserved invariant-loop decreases-loop
 loop-again c =
-    let p = c.before.before.loop-i in
-    let s = c.before.before.before in
-    let a = s.args in
-    (search rules, simp length-set p.invariant.1, copy_turn a.ring.now p.ring a.bytes.now a.at a.from p.i a.n s.requires.0 s.requires.1 c.before.loop-i-test.true p.invariant.2)
+    let p = c.loop-i in
+    let a = c.args in
+    (search rules, simp length-set p.invariant.1, copy_turn a.ring.now p.ring a.bytes.now a.at a.from p.i a.n c.requires.0 c.requires.1 c.loop-i-test.true p.invariant.2)
 
 same_length : tie.Need-shape_of-ring invariant-loop decreases-loop
 same_length c = search rules
 
 returns : tie.Need-returns invariant-loop decreases-loop
 returns c =
-    let p = c.before.loop-i in
-    let s = c.before.before in
-    let a = s.args in
+    let p = c.loop-i in
+    let a = c.args in
     p.invariant.2
     ∙ ap (paste a.ring.now a.at (drop a.from a.bytes.now)) (le_antisymm p.invariant.0 c.loop-i-test.false)
-    ∙ copy_end a.ring.now a.bytes.now a.at a.from a.n s.requires.1
+    ∙ copy_end a.ring.now a.bytes.now a.at a.from a.n c.requires.1
 
 pub copy_run_spec : {M : Type 1} → statement M
 copy_run_spec =

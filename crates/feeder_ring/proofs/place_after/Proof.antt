@@ -14,16 +14,16 @@ add-result : tie.Need-overflow_add-result
 add-result c = search rules
 
 returns : tie.Need-returns-then-n-left
-returns c = let s = c.before in place_ahead s.args.pre s.args.place s.args.n s.requires c.if-n-left.true
+returns c = place_ahead c.args.pre c.args.place c.args.n c.requires c.if-n-left.true
 
 returns-2 : tie.Need-returns-then-pre-eq0
-returns-2 c = let s = c.before.before in sym (place_zero s.args.pre s.args.n s.args.place c.if-pre-eq0.true (omega arith))
+returns-2 c = sym (place_zero c.args.pre c.args.n c.args.place c.if-pre-eq0.true (omega arith))
 
 rem-result : tie.Need-nonzero_rem-result
 rem-result c = search rules
 
 returns-3 : tie.Need-returns
-returns-3 c = let s = c.before.before in place_around s.args.pre s.args.place s.args.n s.requires c.before.if-n-left.false c.if-pre-eq0.false
+returns-3 c = place_around c.args.pre c.args.place c.args.n c.requires c.if-n-left.false c.if-pre-eq0.false
 
 pub place_after_spec : {M : Type 1} → statement M
 place_after_spec = tie.close (tie.spec sub-left add-result returns returns-2 rem-result returns-3)

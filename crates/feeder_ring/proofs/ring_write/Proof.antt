@@ -20,7 +20,7 @@ returns c = search rules
 
 returns-2 : tie.Need-returns-then-pre-eq0
 returns-2 c =
-    let a = c.before.before.before.before.args in
+    let a = c.args in
     sym (bytes_none a.unitsize a.pre a.n a.ring.now a.place a.bytes.now c.if-pre-eq0.true)
 
 write-around-requires : tie.Need-write_around-requires

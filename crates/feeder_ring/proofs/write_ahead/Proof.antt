@@ -7,23 +7,22 @@ use Rattle.feeder_ring.proofs.write_ahead.Statement.{statement}
 use Rattle.feeder_ring.proofs.write_ahead.Tie as tie
 
 mul-copy-run : tie.Need-overflow_mul-place
-mul-copy-run c = let s = c.before.before.before in omega (arith, run_room _ _ _ _ _ _ s.requires.0 s.requires.1)
+mul-copy-run c = omega (arith, run_room _ _ _ _ _ _ c.requires.0 c.requires.1)
 
 mul-copy-run-2 : tie.Need-overflow_mul-n
 mul-copy-run-2 c = search rules
 
 copy-run-requires : tie.Need-copy_run-requires
-copy-run-requires c κs = let s = c.before.before.before in (run_room _ _ _ _ _ _ s.requires.0 s.requires.1, omega (arith, s.requires.0.samples))
+copy-run-requires c κs = (run_room _ _ _ _ _ _ c.requires.0 c.requires.1, omega (arith, c.requires.0.samples))
 
 same_length : tie.Need-shape_of-ring
 same_length c = search rules
 
 returns : tie.Need-returns
 returns c =
-    let s = c.before.before.before.before.before.before in
-    let a = s.args in
-    c.before.before.copy_run.ensures
-    ∙ one_run a.unitsize a.pre a.n a.ring.now a.place a.bytes.now (omega arith) s.requires.0.slots s.requires.0.samples
+    let a = c.args in
+    c.copy_run.ensures
+    ∙ one_run a.unitsize a.pre a.n a.ring.now a.place a.bytes.now (omega arith) c.requires.0.slots c.requires.0.samples
 
 pub write_ahead_spec : {M : Type 1} → statement M
 write_ahead_spec = tie.close (tie.spec mul-copy-run mul-copy-run-2 copy-run-requires same_length returns)

@@ -9,13 +9,12 @@ use Rattle.feeder_ring.proofs.write_around.Statement.{statement}
 use Rattle.feeder_ring.proofs.write_around.Tie as tie
 
 -- the room of both copies
-room_at : (c : tie.After-place_after-first) → Around c.before.before.before.before.args.unitsize c.before.before.before.before.args.pre
-    c.before.lesser-m.result (c.before.before.before.before.args.n - c.before.lesser-m.result) c.place_after-first.result (c.before.before.before.before.args.pre - c.place_after-first.result)
-    (length c.before.before.before.before.args.ring.now) (length c.before.before.before.before.args.bytes.now)
+room_at : (c : tie.After-place_after-first) → Around c.args.unitsize c.args.pre
+    c.lesser-m.result (c.args.n - c.lesser-m.result) c.place_after-first.result (c.args.pre - c.place_after-first.result)
+    (length c.args.ring.now) (length c.args.bytes.now)
 room_at c =
-    let s = c.before.before.before.before in
-    let a = s.args in
-    around a.unitsize a.pre a.place a.n c.before.lesser-m.result _ c.place_after-first.result _ s.requires.1 s.requires.2 c.before.lesser-m.ensures refl c.place_after-first.ensures refl _ _ s.requires.0.slots s.requires.0.samples
+    let a = c.args in
+    around a.unitsize a.pre a.place a.n c.lesser-m.result _ c.place_after-first.result _ c.requires.1 c.requires.2 c.lesser-m.ensures refl c.place_after-first.ensures refl _ _ c.requires.0.slots c.requires.0.samples
 
 lesser-requires : tie.Need-lesser-m-requires
 lesser-requires c κs = search rules
@@ -61,12 +60,9 @@ same_length c = search rules
 
 returns : tie.Need-returns
 returns c =
-    let y = c.before.before.before.before.before.before in
-    let q = y.before.before in
-    let s = q.before.before.before.before in
-    let a = s.args in
-    around_is a.unitsize a.pre a.place a.n q.before.lesser-m.result _ q.place_after-first.result _ s.requires.1 s.requires.2 q.before.lesser-m.ensures refl q.place_after-first.ensures refl
-    a.ring.now _ _ a.bytes.now s.requires.0.slots s.requires.0.samples y.copy_run.ensures c.before.before.copy_run-2.ensures
+    let a = c.args in
+    around_is a.unitsize a.pre a.place a.n c.lesser-m.result _ c.place_after-first.result _ c.requires.1 c.requires.2 c.lesser-m.ensures refl c.place_after-first.ensures refl
+    a.ring.now _ _ a.bytes.now c.requires.0.slots c.requires.0.samples c.copy_run.ensures c.copy_run-2.ensures
 
 pub write_around_spec : {M : Type 1} → statement M
 write_around_spec =

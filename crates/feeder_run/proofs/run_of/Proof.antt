@@ -42,19 +42,19 @@ lesser-requires-4 c κs = search rules
 
 add-t16 : tie.Need-overflow_add-result
 add-t16 c =
-    let a = c.before.before.before.before.before.args in
-    omega (arith, counts_fit c.before.before.before.before.room_of-room.result (a.w - c.before.before.before.lesser-newest.result) c.before.before.before.lesser-newest.result a.own c.before.before.lesser-older.result c.before.lesser-newer.result c.lesser-own.result c.before.before.lesser-older.ensures c.before.lesser-newer.ensures c.lesser-own.ensures)
+    let a = c.args in
+    omega (arith, counts_fit c.room_of-room.result (a.w - c.lesser-newest.result) c.lesser-newest.result a.own c.lesser-older.result c.lesser-newer.result c.lesser-own.result c.lesser-older.ensures c.lesser-newer.ensures c.lesser-own.ensures)
 
 add-t17 : tie.Need-overflow_add-result-2
 add-t17 c =
-    let a = c.before.before.before.before.before.args in
-    omega (arith, counts_fit c.before.before.before.before.room_of-room.result (a.w - c.before.before.before.lesser-newest.result) c.before.before.before.lesser-newest.result a.own c.before.before.lesser-older.result c.before.lesser-newer.result c.lesser-own.result c.before.before.lesser-older.ensures c.before.lesser-newer.ensures c.lesser-own.ensures)
+    let a = c.args in
+    omega (arith, counts_fit c.room_of-room.result (a.w - c.lesser-newest.result) c.lesser-newest.result a.own c.lesser-older.result c.lesser-newer.result c.lesser-own.result c.lesser-older.ensures c.lesser-newer.ensures c.lesser-own.ensures)
 
 returns : tie.Need-returns
 returns c =
-    let a = c.before.before.before.before.before.args in
-    run_is (room_of a.limit a.len a.capacity) a.pre a.place a.w a.own c.before.before.before.lesser-newest.result c.before.before.lesser-older.result c.before.lesser-newer.result c.lesser-own.result c.before.before.before.before.room_of-room.result
-    c.before.before.before.before.room_of-room.ensures c.before.before.before.lesser-newest.ensures c.before.before.lesser-older.ensures c.before.lesser-newer.ensures c.lesser-own.ensures
+    let a = c.args in
+    run_is (room_of a.limit a.len a.capacity) a.pre a.place a.w a.own c.lesser-newest.result c.lesser-older.result c.lesser-newer.result c.lesser-own.result c.room_of-room.result
+    c.room_of-room.ensures c.lesser-newest.ensures c.lesser-older.ensures c.lesser-newer.ensures c.lesser-own.ensures
 
 pub run_of_spec : {M : Type 1} → statement M
 run_of_spec =

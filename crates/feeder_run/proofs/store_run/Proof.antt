@@ -11,10 +11,6 @@ use Rattle.feeder_run.proofs.Taking.{takes_none, write_room, takes_some}
 use Rattle.feeder_run.proofs.store_run.Statement.{statement}
 use Rattle.feeder_run.proofs.store_run.Tie as tie
 
--- the function's start, from where its slices are known
-abbrev start_at : tie.After-shared_slice_known-2-1 → tie.Start
-start_at p = p.before.before.before.before.before.before.before
-
 sub-own : tie.Need-overflow_sub-own
 sub-own c = search rules
 
@@ -23,20 +19,17 @@ is-full-requires c κs = search rules
 
 returns : tie.Need-returns-then-is_full
 returns c =
-    let a = (start_at c.before.before).args in
+    let a = c.args in
     takes_none a.unitsize a.capacity a.len a.limit (a.w + (a.n - a.d)) (kept_bytes a.unitsize a.pre a.ring.now a.place a.w ++ drop (a.d * a.unitsize) a.bytes.now)
-    a.samples.now (level_of a.l1.now a.l2.now a.l3.now a.l4.now) (ltb-true _ _ (sym c.before.is_full.ensures ∙ c.if-is_full.true))
+    a.samples.now (level_of a.l1.now a.l2.now a.l3.now a.l4.now) (ltb-true _ _ (sym c.is_full.ensures ∙ c.if-is_full.true))
 
 run-of-requires : tie.Need-run_of-run-requires
 run-of-requires c κs = search rules
 
 write-run-requires : tie.Need-write_run-requires
 write-run-requires c κs =
-    let r = c.before.before.before.before.before in
-    let i = r.before in
-    let s = start_at i.before.before in
-    let a = s.args in
-    write_room a.unitsize a.capacity a.len a.limit a.pre a.place a.samples.now (level_of a.l1.now a.l2.now a.l3.now a.l4.now) a.ring.now a.bytes.now a.w a.d a.n s.pre (sym i.before.is_full.ensures ∙ i.if-is_full.false) r.run_of-run.result r.run_of-run.ensures
+    let a = c.args in
+    write_room a.unitsize a.capacity a.len a.limit a.pre a.place a.samples.now (level_of a.l1.now a.l2.now a.l3.now a.l4.now) a.ring.now a.bytes.now a.w a.d a.n c.pre (sym c.is_full.ensures ∙ c.if-is_full.false) c.run_of-run.result c.run_of-run.ensures
 
 same_length : tie.Need-shape_of-samples
 same_length c = search rules
@@ -55,13 +48,8 @@ same-length-5 c = search rules
 
 returns-2 : tie.Need-returns
 returns-2 c =
-    let l2 = c.before.before.before.before.before in
-    let y = l2.before.before.before.before.before in
-    let r = y.before.before.before.before.before.before in
-    let i = r.before in
-    let s = start_at i.before.before in
-    let a = s.args in
-    takes_some a.unitsize a.capacity a.len a.limit a.pre a.place a.samples.now (level_of a.l1.now a.l2.now a.l3.now a.l4.now) a.ring.now a.bytes.now a.w a.d a.n s.pre (sym i.before.is_full.ensures ∙ i.if-is_full.false) r.run_of-run.result r.run_of-run.ensures _ _ y.write_run.ensures
+    let a = c.args in
+    takes_some a.unitsize a.capacity a.len a.limit a.pre a.place a.samples.now (level_of a.l1.now a.l2.now a.l3.now a.l4.now) a.ring.now a.bytes.now a.w a.d a.n c.pre (sym c.is_full.ensures ∙ c.if-is_full.false) c.run_of-run.result c.run_of-run.ensures _ _ c.write_run.ensures
 
 pub store_run_spec : {M : Type 1} → statement M
 store_run_spec =

@@ -16,8 +16,7 @@ start_at p = p.before.before.before.before.before.before.before
 -- and from the arguments of the call
 abbrev start_of_call : tie.After-append_parts-arg-8-1 → tie.Start
 start_of_call p =
-    let parts = p.before.before.before.before.before.before.before in
-    start_at parts.before.before.before.before.before.before
+    start_at p.before.before.before.before.before.before
 
 mul-a : tie.Need-overflow_mul-a
 mul-a c = search rules
@@ -104,11 +103,9 @@ same-length-5 c = search rules
 
 returns : tie.Need-returns
 returns c =
-    let l2 = c.before.before.before.before.before in
-    let p = l2.before.before.before.before.before in
-    let s = start_of_call p.before in
+    let s = start_of_call c.before in
     let a = s.args in
-    run_written a.unitsize a.len a.run a.d (length a.samples.now) (level_of a.l1.now a.l2.now a.l3.now a.l4.now) a.ring.now a.bytes.now s.pre a.samples.now _ _ p.append_parts.ensures
+    run_written a.unitsize a.len a.run a.d (length a.samples.now) (level_of a.l1.now a.l2.now a.l3.now a.l4.now) a.ring.now a.bytes.now s.pre a.samples.now _ _ c.append_parts.ensures
 
 pub write_run_spec : {M : Type 1} → statement M
 write_run_spec =

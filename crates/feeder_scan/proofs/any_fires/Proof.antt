@@ -21,17 +21,17 @@ decreases-loop w bytes unitsize a e any₀ i₀ any i = e - i
 
 loop-holds : tie.Need-loop-i-init invariant-loop decreases-loop
 loop-holds c =
-    let a = c.before.args in
+    let a = c.args in
     (search rules, search rules, any_none (masks_for a.w) (sample_of a.unitsize a.bytes.now) a.a)
 
 sub-get : tie.Need-overflow_sub-i invariant-loop decreases-loop
 sub-get c = search rules
 
 get-requires : tie.Need-get-requires invariant-loop decreases-loop
-get-requires c κs = held _ _ _ _ c.before.before.before.requires.0 (omega arith)
+get-requires c κs = held _ _ _ _ c.requires.0 (omega arith)
 
 get-requires-2 : tie.Need-get-requires-in-loop-i invariant-loop decreases-loop
-get-requires-2 c κs = held _ _ _ _ c.before.before.before.before.requires.0 (omega arith)
+get-requires-2 c κs = held _ _ _ _ c.requires.0 (omega arith)
 
 met-requires : tie.Need-met-any-requires invariant-loop decreases-loop
 met-requires c κs = search rules
@@ -44,18 +44,18 @@ loop-less c = search rules
 
 loop-again : tie.Need-loop-i-preserved invariant-loop decreases-loop
 loop-again c =
-    let p = c.before.before.before.before.loop-i in
-    let a = c.before.before.before.before.before.before.args in (
+    let p = c.loop-i in
+    let a = c.args in (
       search rules,
       search rules,
       any_turn (masks_for a.w) (sample_of a.unitsize a.bytes.now) a.a p.i p.any _ p.invariant.0 p.invariant.2
-          (c.met-any.ensures ∙ ap₂ (matches (masks_for a.w)) c.before.before.get.ensures c.before.get-in-loop-i.ensures),
+          (c.met-any.ensures ∙ ap₂ (matches (masks_for a.w)) c.get.ensures c.get-in-loop-i.ensures),
     )
 
 returns : tie.Need-returns invariant-loop decreases-loop
 returns c =
-    let p = c.before.loop-i in
-    let a = c.before.before.before.args in
+    let p = c.loop-i in
+    let a = c.args in
     p.invariant.2 ∙ ap (λ i. ltb (fire_from (masks_for a.w) (sample_of a.unitsize a.bytes.now) (sample_of a.unitsize a.bytes.now (a.a - 1)) a.a i) i) (le_antisymm p.invariant.1 c.loop-i-test.false)
 
 pub any_fires_spec : {M : Type 1} → statement M

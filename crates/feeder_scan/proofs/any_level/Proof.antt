@@ -24,7 +24,7 @@ loop-holds : tie.Need-loop-i-init invariant-loop decreases-loop
 loop-holds c = (search rules, λ j l. absurd (omega arith))
 
 get-requires : tie.Need-get-requires invariant-loop decreases-loop
-get-requires c κs = held _ _ _ _ c.before.before.before.before.requires (omega arith)
+get-requires c κs = held _ _ _ _ c.requires (omega arith)
 
 level-requires : tie.Need-level-requires invariant-loop decreases-loop
 level-requires c κs = search rules
@@ -40,16 +40,16 @@ loop-less c = search rules
 
 loop-again : tie.Need-loop-i-preserved invariant-loop decreases-loop
 loop-again c =
-    let p = c.before.before.before.before.loop-i in
-    let a = c.before.before.before.before.before.before.before.args in
-    (search rules, missed_more c.before.before.before.before.before.of-w.result (sample_of a.unitsize a.bytes.now) p.i c.before.before.get.result c.before.before.get.ensures (sym c.before.level.ensures ∙ c.if-level.false) p.invariant.1)
+    let p = c.loop-i in
+    let a = c.args in
+    (search rules, missed_more c.of-w.result (sample_of a.unitsize a.bytes.now) p.i c.get.result c.get.ensures (sym c.level.ensures ∙ c.if-level.false) p.invariant.1)
 
 returns-2 : tie.Need-returns invariant-loop decreases-loop
 returns-2 c e =
-    let p = c.before.loop-i in
-    let a = c.before.before.before.before.args in
+    let p = c.loop-i in
+    let a = c.args in
     let s = sample_of a.unitsize a.bytes.now in
-    none_fires a.masks s a.n (subst (λ (w : Wanted). Missed w s a.n) c.before.before.of-w.ensures (subst (Missed c.before.before.of-w.result s) (le_antisymm p.invariant.0 c.loop-i-test.false) p.invariant.1))
+    none_fires a.masks s a.n (subst (λ (w : Wanted). Missed w s a.n) c.of-w.ensures (subst (Missed c.of-w.result s) (le_antisymm p.invariant.0 c.loop-i-test.false) p.invariant.1))
 
 pub any_level_spec : {M : Type 1} → statement M
 any_level_spec =

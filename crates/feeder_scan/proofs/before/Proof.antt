@@ -22,8 +22,8 @@ returns c = search rules
 
 returns-2 : tie.Need-returns-in-Nothing
 returns-2 c =
-    let a = c.before.before.before.before.args in
-    c.get.ensures ∙ sym (ap (λ (q : Previous). before_or (previous_of q) (sample_of a.unitsize a.bytes.now 0)) c.before.enum_told-1.given.1)
+    let a = c.args in
+    c.get.ensures ∙ sym (ap (λ (q : Previous). before_or (previous_of q) (sample_of a.unitsize a.bytes.now 0)) c.in-Nothing.is)
 
 pub before_spec : {M : Type 1} → statement M
 before_spec = tie.close (tie.spec enum-known-previous enum_told get-requires returns returns-2)

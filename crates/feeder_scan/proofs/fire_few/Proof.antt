@@ -12,17 +12,15 @@ of-requires : tie.Need-of-w-requires
 of-requires c κs = search rules
 
 before-requires : tie.Need-before-p-requires
-before-requires c κs = fewer _ _ _ _ c.before.before.requires.0 (omega (arith, c.before.before.requires.1))
+before-requires c κs = fewer _ _ _ _ c.requires.0 (omega (arith, c.requires.1))
 
 fire-in-requires : tie.Need-fire_in-requires
 fire-in-requires c κs = search rules
 
 returns : tie.Need-returns
 returns c =
-    let b = c.before in
-    let s = b.before.before.before in
-    let a = s.args in
-    scanned a.masks (previous_of a.prev) a.bytes.now a.unitsize a.n s.requires.1 _ b.before.of-w.ensures _ b.before-p.ensures _ _ refl c.fire_in.ensures
+    let a = c.args in
+    scanned a.masks (previous_of a.prev) a.bytes.now a.unitsize a.n c.requires.1 _ c.of-w.ensures _ c.before-p.ensures _ _ refl c.fire_in.ensures
 
 pub fire_few_spec : {M : Type 1} → statement M
 fire_few_spec = tie.close (tie.spec of-requires before-requires fire-in-requires returns)

@@ -21,16 +21,16 @@ loop-holds : tie.Need-loop-i-init invariant-loop decreases-loop
 loop-holds c = (search rules, refl)
 
 get-requires : tie.Need-get-v-requires invariant-loop decreases-loop
-get-requires c κs = held _ _ _ _ c.before.before.before.requires.0 (omega arith)
+get-requires c κs = held _ _ _ _ c.requires.0 (omega arith)
 
 met-requires : tie.Need-met-requires invariant-loop decreases-loop
 met-requires c κs = search rules
 
 returns : tie.Need-returns-then-met invariant-loop decreases-loop
 returns c =
-    let p = c.before.before.before.before.loop-i in
-    let a = c.before.before.before.before.before.before.args in
-    sym (fire_here (masks_for a.w) (sample_of a.unitsize a.bytes.now) p.p p.i a.e c.before.before.before.loop-i-test.true (ap (matches (masks_for a.w) p.p) (sym c.before.before.get-v.ensures) ∙ sym c.before.met.ensures ∙ c.if-met.true)) ∙ p.invariant.1
+    let p = c.loop-i in
+    let a = c.args in
+    sym (fire_here (masks_for a.w) (sample_of a.unitsize a.bytes.now) p.p p.i a.e c.loop-i-test.true (ap (matches (masks_for a.w) p.p) (sym c.get-v.ensures) ∙ sym c.met.ensures ∙ c.if-met.true)) ∙ p.invariant.1
 
 add-i : tie.Need-overflow_add-i invariant-loop decreases-loop
 add-i c = search rules
@@ -40,14 +40,14 @@ loop-less c = search rules
 
 loop-again : tie.Need-loop-i-preserved invariant-loop decreases-loop
 loop-again c =
-    let p = c.before.before.before.before.loop-i in
-    let a = c.before.before.before.before.before.before.args in
-    (search rules, ap (λ v. fire_from (masks_for a.w) (sample_of a.unitsize a.bytes.now) v (p.i + 1) a.e) c.before.before.get-v.ensures ∙ sym (fire_on (masks_for a.w) (sample_of a.unitsize a.bytes.now) p.p p.i a.e c.before.before.before.loop-i-test.true (ap (matches (masks_for a.w) p.p) (sym c.before.before.get-v.ensures) ∙ sym c.before.met.ensures ∙ c.if-met.false)) ∙ p.invariant.1)
+    let p = c.loop-i in
+    let a = c.args in
+    (search rules, ap (λ v. fire_from (masks_for a.w) (sample_of a.unitsize a.bytes.now) v (p.i + 1) a.e) c.get-v.ensures ∙ sym (fire_on (masks_for a.w) (sample_of a.unitsize a.bytes.now) p.p p.i a.e c.loop-i-test.true (ap (matches (masks_for a.w) p.p) (sym c.get-v.ensures) ∙ sym c.met.ensures ∙ c.if-met.false)) ∙ p.invariant.1)
 
 returns-2 : tie.Need-returns invariant-loop decreases-loop
 returns-2 c =
-    let p = c.before.loop-i in
-    let a = c.before.before.before.args in
+    let p = c.loop-i in
+    let a = c.args in
     sym (fire_end (masks_for a.w) (sample_of a.unitsize a.bytes.now) p.p p.i a.e c.loop-i-test.false) ∙ p.invariant.1
 
 pub fire_in_spec : {M : Type 1} → statement M

@@ -18,54 +18,49 @@ invariant-loop w prev bytes unitsize n a₀ a =
 abbrev decreases-loop : tie.decreases-loop-a
 decreases-loop w prev bytes unitsize n a₀ a = n - a
 
--- the function's start, from the loop's head
-abbrev start_at : tie.At-loop-a invariant-loop decreases-loop → tie.Start invariant-loop decreases-loop
-start_at p = p.before.before.before.before.before
-
 get-requires : tie.Need-get-requires invariant-loop decreases-loop
-get-requires c κs = held _ _ _ _ c.before.requires.0 (omega arith)
+get-requires c κs = held _ _ _ _ c.requires.0 (omega arith)
 
 met-requires : tie.Need-met-requires invariant-loop decreases-loop
 met-requires c κs = search rules
 
 returns : tie.Need-returns-then-met invariant-loop decreases-loop
 returns c =
-    let a = c.before.before.before.before.args in
+    let a = c.args in
     sym (fire_here (masks_for a.w) (sample_of a.unitsize a.bytes.now) a.prev 0 a.n (omega arith)
-    (ap (matches (masks_for a.w) a.prev) (sym c.before.before.get.ensures) ∙ sym c.before.met.ensures ∙ c.if-met.true))
+    (ap (matches (masks_for a.w) a.prev) (sym c.get.ensures) ∙ sym c.met.ensures ∙ c.if-met.true))
 
 loop-holds : tie.Need-loop-a-init invariant-loop decreases-loop
 loop-holds c =
-    let a = c.before.before.before.before.args in (
+    let a = c.args in (
       search rules,
       search rules,
       sym (fire_on (masks_for a.w) (sample_of a.unitsize a.bytes.now) a.prev 0 a.n (omega arith)
-          (ap (matches (masks_for a.w) a.prev) (sym c.before.before.get.ensures) ∙ sym c.before.met.ensures ∙ c.if-met.false)),
+          (ap (matches (masks_for a.w) a.prev) (sym c.get.ensures) ∙ sym c.met.ensures ∙ c.if-met.false)),
     )
 
 block-end-requires : tie.Need-block_end-e-requires invariant-loop decreases-loop
 block-end-requires c κs = search rules
 
 any-fires-requires : tie.Need-any_fires-requires invariant-loop decreases-loop
-any-fires-requires c κs = (fewer _ _ _ _ (start_at c.before.before).pre.0 (omega arith), search rules, search rules)
+any-fires-requires c κs = (fewer _ _ _ _ c.before.before.requires.0 (omega arith), search rules, search rules)
 
 sub-get : tie.Need-overflow_sub-a invariant-loop decreases-loop
 sub-get c = search rules
 
 get-requires-2 : tie.Need-get-requires-then-any_fires invariant-loop decreases-loop
-get-requires-2 c κs = held _ _ _ _ (start_at c.before.before.before.before).pre.0 (omega arith)
+get-requires-2 c κs = held _ _ _ _ c.before.before.before.before.requires.0 (omega arith)
 
 fire-in-requires : tie.Need-fire_in-requires invariant-loop decreases-loop
-fire-in-requires c κs = (fewer _ _ _ _ (start_at c.before.before.before.before.before).pre.0 (omega arith), search rules)
+fire-in-requires c κs = (fewer _ _ _ _ c.before.before.before.before.before.requires.0 (omega arith), search rules)
 
 returns-2 : tie.Need-returns-then-any_fires invariant-loop decreases-loop
 returns-2 c =
-    let b = c.before.before.before.before in
-    let p = b.before.before.loop-a in
-    let a = (start_at b.before.before).args in
+    let p = c.loop-a in
+    let a = c.args in
     c.fire_in.ensures
-    ∙ ap (λ x. fire_from (masks_for a.w) (sample_of a.unitsize a.bytes.now) x p.a b.block_end-e.result) c.before.get-then-any_fires.ensures
-    ∙ block_hit (masks_for a.w) (sample_of a.unitsize a.bytes.now) p.a b.block_end-e.result a.n _ (omega arith) (omega arith) c.before.before.before.any_fires.ensures c.before.before.if-any_fires.true
+    ∙ ap (λ x. fire_from (masks_for a.w) (sample_of a.unitsize a.bytes.now) x p.a c.block_end-e.result) c.get-then-any_fires.ensures
+    ∙ block_hit (masks_for a.w) (sample_of a.unitsize a.bytes.now) p.a c.block_end-e.result a.n _ (omega arith) (omega arith) c.any_fires.ensures c.if-any_fires.true
     ∙ p.invariant.2
 
 loop-less : tie.Need-loop-a-smaller invariant-loop decreases-loop
@@ -73,19 +68,18 @@ loop-less c = search rules
 
 loop-again : tie.Need-loop-a-preserved invariant-loop decreases-loop
 loop-again c =
-    let b = c.before.before in
-    let p = b.before.before.loop-a in
-    let a = (start_at b.before.before).args in (
+    let p = c.loop-a in
+    let a = c.args in (
       search rules,
       search rules,
-      block_miss (masks_for a.w) (sample_of a.unitsize a.bytes.now) p.a b.block_end-e.result a.n _ (omega arith) (omega arith) c.before.any_fires.ensures c.if-any_fires.false
+      block_miss (masks_for a.w) (sample_of a.unitsize a.bytes.now) p.a c.block_end-e.result a.n _ (omega arith) (omega arith) c.any_fires.ensures c.if-any_fires.false
           ∙ p.invariant.2,
     )
 
 returns-3 : tie.Need-returns invariant-loop decreases-loop
 returns-3 c =
-    let p = c.before.loop-a in
-    let a = (start_at c.before).args in
+    let p = c.loop-a in
+    let a = c.args in
     sym (fire_end (masks_for a.w) (sample_of a.unitsize a.bytes.now) (sample_of a.unitsize a.bytes.now (p.a - 1)) p.a a.n c.loop-a-test.false) ∙ p.invariant.2
 
 pub fire_in_blocks_spec : {M : Type 1} → statement M

@@ -11,7 +11,7 @@ use Rattle.feeder_scan.proofs.first_fire.Tie as tie
 
 returns : tie.Need-returns-then-n-eq0
 returns c =
-    let a = c.before.before.args in
+    let a = c.args in
     none_scanned a.masks (previous_of a.prev) (sample_of a.unitsize a.bytes.now) a.n c.if-n-eq0.true
 
 fire-few-requires : tie.Need-fire_few-requires
@@ -24,28 +24,24 @@ of-requires : tie.Need-of-w-requires
 of-requires c κs = search rules
 
 before-requires : tie.Need-before-p-requires
-before-requires c κs = fewer _ _ _ _ c.before.before.before.before.requires (omega arith)
+before-requires c κs = fewer _ _ _ _ c.requires (omega arith)
 
 fire-in-blocks-requires : tie.Need-fire_in_blocks-requires
-fire-in-blocks-requires c κs = (one_unit _ _ _ _ c.before.before.before.before.before.before.requires c.if-unitsize-eq1.true, omega arith)
+fire-in-blocks-requires c κs = (one_unit _ _ _ _ c.requires c.if-unitsize-eq1.true, omega arith)
 
 fire-in-blocks-requires-2 : tie.Need-fire_in_blocks-requires-else-unitsize-eq1
 fire-in-blocks-requires-2 c κs =
-    let s = c.before.before.before.before.before.before in
-    (one_unit _ _ _ _ s.requires (unit_two s.requires.unit_size c.if-unitsize-eq1.false), omega arith)
+    (one_unit _ _ _ _ c.requires (unit_two c.requires.unit_size c.if-unitsize-eq1.false), omega arith)
 
 returns-3 : tie.Need-returns-then-unitsize-eq1
 returns-3 c =
-    let b = c.before.before in
-    let a = b.before.before.before.before.before.args in
-    scanned a.masks (previous_of a.prev) a.bytes.now a.unitsize a.n (omega arith) _ b.before.of-w.ensures _ b.before-p.ensures 1 _ c.before.if-unitsize-eq1.true c.fire_in_blocks.ensures
+    let a = c.args in
+    scanned a.masks (previous_of a.prev) a.bytes.now a.unitsize a.n (omega arith) _ c.of-w.ensures _ c.before-p.ensures 1 _ c.if-unitsize-eq1.true c.fire_in_blocks.ensures
 
 returns-4 : tie.Need-returns-else-unitsize-eq1
 returns-4 c =
-    let b = c.before.before in
-    let s = b.before.before.before.before.before in
-    let a = s.args in
-    scanned a.masks (previous_of a.prev) a.bytes.now a.unitsize a.n (omega arith) _ b.before.of-w.ensures _ b.before-p.ensures 2 _ (unit_two s.requires.unit_size c.before.if-unitsize-eq1.false) c.fire_in_blocks-else-unitsize-eq1.ensures
+    let a = c.args in
+    scanned a.masks (previous_of a.prev) a.bytes.now a.unitsize a.n (omega arith) _ c.of-w.ensures _ c.before-p.ensures 2 _ (unit_two c.requires.unit_size c.if-unitsize-eq1.false) c.fire_in_blocks-else-unitsize-eq1.ensures
 
 pub first_fire_spec : {M : Type 1} → statement M
 first_fire_spec =

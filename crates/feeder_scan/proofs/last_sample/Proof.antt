@@ -12,18 +12,18 @@ use Rattle.feeder_scan.proofs.last_sample.Tie as tie
 
 returns : tie.Need-returns-then-n-eq0
 returns c =
-    let a = c.before.before.args in
+    let a = c.args in
     last_none (sample_of a.unitsize a.bytes.now) (previous_of a.prev) a.n c.if-n-eq0.true
 
 sub-get : tie.Need-overflow_sub-n
 sub-get c = search rules
 
 get-requires : tie.Need-get-requires
-get-requires c κs = held _ _ _ _ c.before.before.requires (omega arith)
+get-requires c κs = held _ _ _ _ c.requires (omega arith)
 
 returns-2 : tie.Need-returns
 returns-2 c =
-    let a = c.before.before.before.args in
+    let a = c.args in
     ap some c.get.ensures ∙ last_some (sample_of a.unitsize a.bytes.now) (previous_of a.prev) a.n (omega arith)
 
 pub last_sample_spec : {M : Type 1} → statement M

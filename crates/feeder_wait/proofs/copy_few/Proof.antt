@@ -8,12 +8,6 @@ use Rattle.feeder_wait.proofs.Ends.{copied}
 use Rattle.feeder_wait.proofs.copy_few.Statement.{statement}
 use Rattle.feeder_wait.proofs.copy_few.Tie as tie
 
-abbrev start_two : tie.After-shared_slice_known-then-k-lt4-4-1 → tie.Start
-start_two r = r.before.before.before.before.before.before.before
-
-abbrev start_four : tie.After-shared_slice_known-5-1 → tie.Start
-start_four r = r.before.before.before.before.before.before.before
-
 sub-end : tie.Need-overflow_sub-end
 sub-end c = search rules
 
@@ -47,10 +41,8 @@ same_length c = search rules
 returns : tie.Need-returns-then-k-lt4
 unfolding list_from
 returns c =
-    let p = c.before.before.before.before.before.before in
-    let s = start_two p.before.before in
-    let a = s.args in
-    copied a.bytes.now a.at a.k 2 s.pre.held (a.k - 2) 0 (omega arith) (omega arith) (omega arith) a.ring.now s.pre.slots _ _ refl (omega arith) _ _ p.put_two.ensures c.before.before.put_two-then-k-lt4.ensures
+    let a = c.args in
+    copied a.bytes.now a.at a.k 2 c.pre.held (a.k - 2) 0 (omega arith) (omega arith) (omega arith) a.ring.now c.pre.slots _ _ refl (omega arith) _ _ c.put_two.ensures c.put_two-then-k-lt4.ensures
 
 shared-slice-read-a-2 : tie.Need-bounds-bytes-0-2
 shared-slice-read-a-2 c = search rules
@@ -100,10 +92,8 @@ same-length-2 c = search rules
 returns-2 : tie.Need-returns
 unfolding list_from
 returns-2 c =
-    let p = c.before.before.before.before.before.before in
-    let s = start_four p.before.before.before.before.before.before in
-    let a = s.args in
-    copied a.bytes.now a.at a.k 4 s.pre.held 0 (a.k - 4) (omega arith) (omega arith) (omega arith) a.ring.now s.pre.slots _ _ (omega arith) refl _ _ p.put_four.ensures c.before.before.put_four-2.ensures
+    let a = c.args in
+    copied a.bytes.now a.at a.k 4 c.pre.held 0 (a.k - 4) (omega arith) (omega arith) (omega arith) a.ring.now c.pre.slots _ _ (omega arith) refl _ _ c.put_four.ensures c.put_four-2.ensures
 
 pub copy_few_spec : {M : Type 1} → statement M
 copy_few_spec =

@@ -13,14 +13,13 @@ at u v len n e is held most least two_bytes = subst (λ (x : ℕ). Count x len n
 
 returns : tie.Need-returns-then-unitsize-eq1
 returns c =
-    let len = c.before.args.len in
+    let len = c.args.len in
     at _ 1 len len c.if-unitsize-eq1.true (omega arith) (omega arith) (omega arith) (omega arith) (λ h. omega arith)
 
 returns-2 : tie.Need-returns-else-unitsize-eq1
 returns-2 c =
-    let s = c.before in
-    let len = s.args.len in
-    at _ 2 len (len / 2) (unit_two s.requires c.if-unitsize-eq1.false) refl (omega arith) (omega arith) (omega arith) (λ h. omega arith)
+    let len = c.args.len in
+    at _ 2 len (len / 2) (unit_two c.requires c.if-unitsize-eq1.false) refl (omega arith) (omega arith) (omega arith) (λ h. omega arith)
 
 pub count_in_spec : {M : Type 1} → statement M
 count_in_spec = tie.close (tie.spec returns returns-2)

@@ -16,9 +16,6 @@ use Rattle.feeder_numbers.specs.Numbers.{known_in, previous_sample_in, previous_
 use Rattle.feeder_wait.proofs.fires.Statement.{statement}
 use Rattle.feeder_wait.proofs.fires.Tie as tie
 
-abbrev start_at : tie.After-masks_in-masks → tie.Start
-start_at m = m.before.before.before.before.before.before.before
-
 element-copy-out-masks-in : tie.Need-bounds-numbers-8
 element-copy-out-masks-in c = search rules
 
@@ -55,18 +52,18 @@ fire-few-requires c κs = search rules
 returns : tie.Need-returns-then-any_level
 returns c =
     let m = c.before.before.before.before.before.before in
-    let a = (start_at m).args in
+    let a = m.args in
     ap (λ (x : ℕ). ltb x a.n)
     (c.fire_few.ensures
-    ∙ ap₂ (λ (m : Masks) (p : Previous). first_fire (as_masks m) (previous_of p) (units a.unitsize a.n a.bytes.now)) m.masks_in-masks.ensures c.before.previous_in-prev.ensures)
+    ∙ ap₂ (λ (m : Masks) (p : Previous). first_fire (as_masks m) (previous_of p) (units a.unitsize a.n a.bytes.now)) m.masks_in-masks.ensures c.previous_in-prev.ensures)
 
 returns-2 : tie.Need-returns
 returns-2 c =
-    let a = (start_at c.before.before).args in
+    let a = c.args in
     sym
     (ap (λ (x : ℕ). ltb x a.n)
-    (ap (λ (m : Masks). first_fire (as_masks m) (previous_of (previous_in (known_in a.numbers.now) (previous_sample_in a.numbers.now))) (units a.unitsize a.n a.bytes.now)) (sym c.before.before.masks_in-masks.ensures)
-    ∙ c.before.any_level.ensures c.if-any_level.false (previous_of (previous_in (known_in a.numbers.now) (previous_sample_in a.numbers.now)))
+    (ap (λ (m : Masks). first_fire (as_masks m) (previous_of (previous_in (known_in a.numbers.now) (previous_sample_in a.numbers.now))) (units a.unitsize a.n a.bytes.now)) (sym c.masks_in-masks.ensures)
+    ∙ c.any_level.ensures c.if-any_level.false (previous_of (previous_in (known_in a.numbers.now) (previous_sample_in a.numbers.now)))
     ∙ list_length (sample_of a.unitsize a.bytes.now) 0 a.n)
     ∙ le-ltb a.n a.n (omega arith))
 

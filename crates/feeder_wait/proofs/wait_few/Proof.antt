@@ -7,9 +7,6 @@ use Rattle.feeder_wait.proofs.Short.{few_copy, few_went}
 use Rattle.feeder_wait.proofs.wait_few.Statement.{statement}
 use Rattle.feeder_wait.proofs.wait_few.Tie as tie
 
-abbrev start_at : tie.Else-fires → tie.Start
-start_at e = e.before.before.before.before.before
-
 fires-requires : tie.Need-fires-requires
 fires-requires c κs = search rules
 
@@ -30,17 +27,16 @@ sub-get c = search rules
 
 get-requires : tie.Need-get-last-requires
 get-requires c κs =
-    let s = start_at c.before.before.before in
-    held _ s.args.n _ _ (record { unit_size = s.pre.unit_size; room = s.pre.samples }) (omega (arith, s.pre.some_samples))
+    held _ c.args.n _ _ (record { unit_size = c.pre.unit_size; room = c.pre.samples }) (omega (arith, c.pre.some_samples))
 
 mul-copy-few : tie.Need-overflow_mul-place
-mul-copy-few c = record { fits = omega (arith, few_copy _ _ _ _ _ (start_at c.before.before.before.before.before).requires) }
+mul-copy-few c = record { fits = omega (arith, few_copy _ _ _ _ _ c.requires) }
 
 mul-copy-few-2 : tie.Need-overflow_mul-n
 mul-copy-few-2 c = search rules
 
 copy-few-requires : tie.Need-copy_few-requires
-copy-few-requires c κs = few_copy _ _ _ _ _ (start_at c.before.before.before.before.before).requires
+copy-few-requires c κs = few_copy _ _ _ _ _ c.requires
 
 element-write-numbers : tie.Need-bounds-numbers-13
 element-write-numbers c = search rules
@@ -74,11 +70,8 @@ same_length c = search rules
 
 returns-2 : tie.Need-returns
 returns-2 c =
-    let w = c.before.before.before in
-    let i = w.before.before.before.before.before.before in
-    let s = start_at i in
-    let a = s.args in
-    few_went a.numbers.now a.ring.now a.bytes.now a.unitsize a.n _ _ _ s.pre (sym i.before.fires.ensures ∙ i.if-fires.false) w.before.before.get-last.ensures c.lesser.ensures w.copy_few.ensures
+    let a = c.args in
+    few_went a.numbers.now a.ring.now a.bytes.now a.unitsize a.n _ _ _ c.pre (sym c.fires.ensures ∙ c.if-fires.false) c.get-last.ensures c.lesser.ensures c.copy_few.ensures
 
 pub wait_few_spec : {M : Type 1} → statement M
 wait_few_spec =

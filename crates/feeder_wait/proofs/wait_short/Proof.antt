@@ -7,13 +7,6 @@ use Rattle.feeder_wait.proofs.Short.{few_room, short_is}
 use Rattle.feeder_wait.proofs.wait_short.Statement.{statement}
 use Rattle.feeder_wait.proofs.wait_short.Tie as tie
 
--- past the test that it waits
-abbrev waiting_at : tie.Else-pre-place-2 → tie.Else-not-waiting
-waiting_at e = e.before.before.before.before.before.before
-
-abbrev start_at : tie.After-slice_known-1 → tie.Start
-start_at s = s.before.before.before.before.before.before
-
 waits-requires : tie.Need-waits-waiting-requires
 waits-requires c κs = search rules
 
@@ -46,16 +39,13 @@ element-copy-out-unitsize c = search rules
 
 count-in-requires : tie.Need-count_in-n-requires
 count-in-requires c κs =
-    let t = waiting_at c.before in
-    let w = t.before.waits-waiting.ensures (not-false _ t.if-not-waiting.left) in
+    let w = c.waits-waiting.ensures c.if-not-waiting.false in
     w.store.unit_size
 
 wait-few-requires : tie.Need-wait_few-requires
 wait-few-requires c κs =
-    let k = c.before.before in
-    let t = waiting_at k.before.before in
-    let w = t.before.waits-waiting.ensures (not-false _ t.if-not-waiting.left) in
-    let n = k.count_in-n.ensures in
+    let w = c.waits-waiting.ensures c.if-not-waiting.false in
+    let n = c.count_in-n.ensures in
     few_room _ _ _ _ w (omega arith) _ _ refl n.held (omega (arith, n.least)) (n.two_bytes (omega arith)) (omega arith) (omega (arith, n.most))
 
 same_length : tie.Need-shape_of-ring
@@ -63,12 +53,10 @@ same_length c = search rules
 
 returns-6 : tie.Need-returns
 returns-6 c =
-    let k = c.before.before.before.before.before in
-    let t = waiting_at k.before.before in
-    let a = (start_at t.before.before.before.before).args in
-    let w = t.before.waits-waiting.ensures (not-false _ t.if-not-waiting.left) in
-    let n = k.count_in-n.ensures in
-    short_is a.numbers.now _ a.ring.now a.bytes.now w (omega arith) _ _ refl n.is (omega (arith, n.least)) (omega (arith, n.most)) _ _ c.before.before.wait_few.result c.before.before.wait_few.ensures
+    let a = c.args in
+    let w = c.waits-waiting.ensures c.if-not-waiting.false in
+    let n = c.count_in-n.ensures in
+    short_is a.numbers.now _ a.ring.now a.bytes.now w (omega arith) _ _ refl n.is (omega (arith, n.least)) (omega (arith, n.most)) _ _ c.wait_few.result c.wait_few.ensures
 
 pub wait_short_spec : {M : Type 1} → statement M
 wait_short_spec =

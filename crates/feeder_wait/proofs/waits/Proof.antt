@@ -11,10 +11,6 @@ use Rattle.feeder_wait.proofs.Bounds.{slots_fit, waiting_is}
 use Rattle.feeder_wait.proofs.waits.Statement.{statement}
 use Rattle.feeder_wait.proofs.waits.Tie as tie
 
--- past the test of the unit
-abbrev unit_at_lem : tie.Else-memory_short → tie.Else-unit_wrong
-unit_at_lem m = m.before.before.before.before
-
 abbrev start_at : tie.Else-unit_wrong → tie.Start
 start_at k = let i : tie.After-t14-1 = k.before.before.before.before in i.before.before.before.before.before.before
 
@@ -40,7 +36,7 @@ returns-3 : tie.Need-returns-then-capacity-gt-MOST_SAMPLES
 returns-3 c e = absurd (let z : ◌≡◌ {A = ℕ} 0 1 = cc in omega arith)
 
 memory-short-requires : tie.Need-memory_short-requires
-memory-short-requires c κs = let k = c.before.before in record { unit_size = (unit_right _).0 (sym k.before.unit_wrong.ensures ∙ k.if-unit_wrong.false); capacity = c.if-capacity-gt-MOST_SAMPLES.false }
+memory-short-requires c κs = record { unit_size = (unit_right _).0 (sym c.unit_wrong.ensures ∙ c.if-unit_wrong.false); capacity = c.if-capacity-gt-MOST_SAMPLES.false }
 
 returns-4 : tie.Need-returns-then-memory_short
 returns-4 c e = absurd (let z : ◌≡◌ {A = ℕ} 0 1 = cc in omega arith)
@@ -66,8 +62,7 @@ returns-7 c e = absurd (let z : ◌≡◌ {A = ℕ} 0 1 = cc in omega arith)
 mul-if8 : tie.Need-overflow_mul-pre
 mul-if8 c =
     let m = c.before.before.before.before.before.before in
-    let k = unit_at_lem m in
-    record { fits = slots_fit (start_at k).args.numbers.now (sym k.before.unit_wrong.ensures ∙ k.if-unit_wrong.left) m.before.before.if-capacity-gt-MOST_SAMPLES.false c.before.before.if-capacity-pre.false }
+    record { fits = slots_fit (start_at m).args.numbers.now (sym m.unit_wrong.ensures ∙ m.if-unit_wrong.left) m.if-capacity-gt-MOST_SAMPLES.false c.if-capacity-pre.false }
 
 returns-8 : tie.Need-returns-then-ring-pre
 returns-8 c e = absurd (let z : ◌≡◌ {A = ℕ} 0 1 = cc in omega arith)
@@ -83,12 +78,10 @@ element-copy-out-result-3 c = search rules
 
 returns-9 : tie.Need-returns
 returns-9 c e =
-    let l = c.before.before.before in
-    let m = l.before.before.before.before.before.before.before in
-    let k = unit_at_lem m in
-    let a = (start_at k).args in
-    waiting_is a.numbers.now (sym k.before.unit_wrong.ensures ∙ k.if-unit_wrong.left) m.before.before.if-capacity-gt-MOST_SAMPLES.false l.before.before.before.if-capacity-pre.false (lent_of a.samples.now (level_of a.l1.now a.l2.now a.l3.now a.l4.now)) a.ring
-    k.before.before.before.if-numbers-ne1.left (eqb-true _ 0 e) l.before.before.before.before.before.if-capacity-numbers.false l.before.if-pre-numbers.false (sym m.before.memory_short.ensures ∙ m.if-memory_short.false) l.if-ring-pre.false
+    let m = c.before.before.before.before.before.before.before in
+    let a = (start_at m).args in
+    waiting_is a.numbers.now (sym m.unit_wrong.ensures ∙ m.if-unit_wrong.left) m.if-capacity-gt-MOST_SAMPLES.false c.if-capacity-pre.false (lent_of a.samples.now (level_of a.l1.now a.l2.now a.l3.now a.l4.now)) a.ring
+    m.if-numbers-ne1.left (eqb-true _ 0 e) c.if-capacity-numbers.false c.if-pre-numbers.false (sym m.memory_short.ensures ∙ m.if-memory_short.false) c.if-ring-pre.false
 
 pub waits_spec : {M : Type 1} → statement M
 waits_spec =

@@ -9,7 +9,7 @@ use Rattle.find.proofs.few.Statement.{statement}
 use Rattle.find.proofs.few.Tie as tie
 
 returns : tie.Need-returns-then-pos-eq0
-returns c = let a = c.before.args in sym (ap (λ (b : Bool). cond b 0 (min (to_border a.back a.pos) 8)) (eq-eqb (a.pos % 32) 0 c.if-pos-eq0.true))
+returns c = let a = c.args in sym (ap (λ (b : Bool). cond b 0 (min (to_border a.back a.pos) 8)) (eq-eqb (a.pos % 32) 0 c.if-pos-eq0.true))
 
 to-border-requires : tie.Need-to_border-requires
 to-border-requires c κs = search rules
@@ -19,10 +19,10 @@ lesser-requires c κs = search rules
 
 returns-2 : tie.Need-returns
 returns-2 c =
-    let a = c.before.before.before.args in
+    let a = c.args in
     c.lesser.ensures
-    ∙ ap (λ (x : ℕ). min x 8) c.before.to_border.ensures
-    ∙ sym (ap (λ (b : Bool). cond b 0 (min (to_border a.back a.pos) 8)) (ne_eqb (a.pos % 32) 0 c.before.before.if-pos-eq0.false))
+    ∙ ap (λ (x : ℕ). min x 8) c.to_border.ensures
+    ∙ sym (ap (λ (b : Bool). cond b 0 (min (to_border a.back a.pos) 8)) (ne_eqb (a.pos % 32) 0 c.if-pos-eq0.false))
 
 pub few_spec : {M : Type 1} → statement M
 few_spec = tie.close (tie.spec returns to-border-requires lesser-requires returns-2)

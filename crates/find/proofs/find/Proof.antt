@@ -17,71 +17,59 @@ invariant-loop part l1 l2 l3 l4 unitsize base hi back mask start before pos₀ r
 abbrev decreases-loop : tie.decreases-loop-room
 decreases-loop part l1 l2 l3 l4 unitsize base hi back mask start before pos₀ room₀ maxl₀ value₀ count₀ pos room maxl value count = room + maxl
 
--- the function's start, from the loop's head
-abbrev start_at : tie.At-loop-room invariant-loop decreases-loop → tie.Start invariant-loop decreases-loop
-start_at p = p.before.before.before.before.before.before.before
-
 left-requires : tie.Need-left-room-requires invariant-loop decreases-loop
 left-requires c κs = search rules
 
 loop-holds : tie.Need-loop-room-init invariant-loop decreases-loop
 loop-holds c =
-    let s = c.before.before.before.before.before.before in
-    let a = s.args in
-    stands_first a.back a.unitsize a.base a.hi a.part.now (level_of a.l1.now a.l2.now a.l3.now a.l4.now) a.mask a.start c.left-room.result a.before s.requires.1 s.requires.2 s.requires.3 c.left-room.ensures
+    let a = c.args in
+    stands_first a.back a.unitsize a.base a.hi a.part.now (level_of a.l1.now a.l2.now a.l3.now a.l4.now) a.mask a.start c.left-room.result a.before c.requires.1 c.requires.2 c.requires.3 c.left-room.ensures
 
 take-requires : tie.Need-take-t-requires invariant-loop decreases-loop
 take-requires c κs =
-    let x = c.before.loop-room.invariant in
-    ((start_at c.before).pre.0, x.placed.low, x.placed.high, omega (arith, x.placed.room_is), x.going.capped)
+    let x = c.loop-room.invariant in
+    (c.before.requires.0, x.placed.low, x.placed.high, omega (arith, x.placed.room_is), x.going.capped)
 
 mul-d : tie.Need-overflow_mul-d invariant-loop decreases-loop
-mul-d c = omega (arith, turn_most c.before.before.before.loop-room.invariant c.before.take-t.ensures)
+mul-d c = omega (arith, turn_most c.loop-room.invariant c.take-t.ensures)
 
 moved-requires : tie.Need-moved-pos-requires invariant-loop decreases-loop
-moved-requires c κs = turn_moves c.before.before.before.loop-room.invariant c.before.take-t.ensures (omega arith)
+moved-requires c κs = turn_moves c.loop-room.invariant c.take-t.ensures (omega arith)
 
 sub-room : tie.Need-overflow_sub-room invariant-loop decreases-loop
-sub-room c = turn_room c.before.before.before.before.loop-room.invariant c.before.before.take-t.ensures
+sub-room c = turn_room c.loop-room.invariant c.take-t.ensures
 
 add-count : tie.Need-overflow_add-count invariant-loop decreases-loop
-add-count c = let t = c.before.before.before in omega (arith, turn_counts t.before.before.loop-room.invariant t.take-t.ensures)
+add-count c = omega (arith, turn_counts c.loop-room.invariant c.take-t.ensures)
 
 add-count-2 : tie.Need-overflow_add-count-then-t invariant-loop decreases-loop
-add-count-2 c = let t = c.before.before.before.before.before in omega (arith, turn_stops t.before.before.loop-room.invariant t.take-t.ensures c.if-t.true)
+add-count-2 c = omega (arith, turn_stops c.loop-room.invariant c.take-t.ensures c.if-t.true)
 
 returns : tie.Need-returns-then-t-eq0 invariant-loop decreases-loop
 returns c =
-    let t = c.before.before.before.before.before.before.before in
-    turn_found t.before.before.loop-room.invariant t.take-t.ensures c.before.before.before.before.before.moved-pos.ensures c.before.before.if-t.true c.if-t-eq0.true
+    turn_found c.loop-room.invariant c.take-t.ensures c.moved-pos.ensures c.if-t.true c.if-t-eq0.true
 
 sub-maxl : tie.Need-overflow_sub-maxl invariant-loop decreases-loop
 sub-maxl c = omega arith
 
 loop-less : tie.Need-loop-room-smaller-then-t invariant-loop decreases-loop
 loop-less c =
-    let m = c.before.before.before.before.before.before in
-    let t = m.before.before in
-    omega (arith, turn_room t.before.before.loop-room.invariant t.take-t.ensures, t.take-t.ensures.best.below)
+    omega (arith, turn_room c.loop-room.invariant c.take-t.ensures, c.take-t.ensures.best.below)
 
 loop-again : tie.Need-loop-room-preserved-then-t invariant-loop decreases-loop
 loop-again c =
-    let m = c.before.before.before.before.before.before in
-    let t = m.before.before in
-    turn_lower t.before.before.loop-room.invariant t.take-t.ensures m.moved-pos.ensures c.before.before.before.if-t.true c.before.if-t-eq0.false
+    turn_lower c.loop-room.invariant c.take-t.ensures c.moved-pos.ensures c.if-t.true c.if-t-eq0.false
 
 loop-less-2 : tie.Need-loop-room-smaller invariant-loop decreases-loop
 loop-less-2 c =
-    let t = c.before.before.before.before.before in
-    omega (arith, turn_room t.before.before.loop-room.invariant t.take-t.ensures, turn_some t.before.before.loop-room.invariant t.take-t.ensures c.if-t.false)
+    omega (arith, turn_room c.loop-room.invariant c.take-t.ensures, turn_some c.loop-room.invariant c.take-t.ensures c.if-t.false)
 
 loop-again-2 : tie.Need-loop-room-preserved invariant-loop decreases-loop
 loop-again-2 c =
-    let t = c.before.before.before.before.before in
-    turn_past t.before.before.loop-room.invariant t.take-t.ensures c.before.before.before.moved-pos.ensures
+    turn_past c.loop-room.invariant c.take-t.ensures c.moved-pos.ensures
 
 returns-2 : tie.Need-returns invariant-loop decreases-loop
-returns-2 c = stands_last c.before.loop-room.invariant (omega arith)
+returns-2 c = stands_last c.loop-room.invariant (omega arith)
 
 pub find_spec : {M : Type 1} → statement M
 find_spec =

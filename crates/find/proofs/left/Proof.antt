@@ -13,10 +13,10 @@ sub-result-2 : tie.Need-overflow_sub-result-else-back
 sub-result-2 c = search rules
 
 returns : tie.Need-returns-then-back
-returns c = let a = c.before.args in sym (ap (λ (b : Bool). left_in b a.base a.hi a.pos) c.if-back.true)
+returns c = let a = c.args in sym (ap (λ (b : Bool). left_in b a.base a.hi a.pos) c.if-back.true)
 
 returns-2 : tie.Need-returns-else-back
-returns-2 c = let a = c.before.args in sym (ap (λ (b : Bool). left_in b a.base a.hi a.pos) c.if-back.false)
+returns-2 c = let a = c.args in sym (ap (λ (b : Bool). left_in b a.base a.hi a.pos) c.if-back.false)
 
 pub left_spec : {M : Type 1} → statement M
 left_spec = tie.close (tie.spec sub-result sub-result-2 returns returns-2)

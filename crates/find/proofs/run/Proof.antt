@@ -18,20 +18,20 @@ decreases-loop part level unitsize l back from n before mask value₀ k₀ value
 
 loop-holds : tie.Need-loop-k-init invariant-loop decreases-loop
 loop-holds c =
-    let a = c.before.before.args in
+    let a = c.args in
     (zero-le, quiets_none (nth_node a.back (node_at a.unitsize a.part.now a.level.now a.l) a.from) a.mask a.before)
 
 nth-requires : tie.Need-nth-m-requires invariant-loop decreases-loop
-nth-requires c κs = c.before.before.before.before.requires.each c.before.loop-k.k (omega arith)
+nth-requires c κs = c.requires.each c.loop-k.k (omega arith)
 
 quiet-requires : tie.Need-quiet-requires invariant-loop decreases-loop
 quiet-requires c κs = search rules
 
 returns : tie.Need-returns-else-quiet invariant-loop decreases-loop
 returns c =
-    let p = c.before.before.before.before.loop-k in
-    let a = c.before.before.before.before.before.before.before.args in
-    record { most = p.invariant.0; quiets = p.invariant.1; stops = λ _. sym (ap (λ (n : Node). quiet n p.value a.mask) c.before.before.nth-m.ensures) ∙ sym c.before.quiet.ensures ∙ c.if-quiet.false }
+    let p = c.loop-k in
+    let a = c.args in
+    record { most = p.invariant.0; quiets = p.invariant.1; stops = λ _. sym (ap (λ (n : Node). quiet n p.value a.mask) c.nth-m.ensures) ∙ sym c.quiet.ensures ∙ c.if-quiet.false }
 
 add-k : tie.Need-overflow_add-k invariant-loop decreases-loop
 add-k c = omega arith
@@ -41,11 +41,11 @@ loop-less c = omega arith
 
 loop-again : tie.Need-loop-k-preserved invariant-loop decreases-loop
 loop-again c =
-    let p = c.before.before.before.before.loop-k in
-    (omega arith, quiets_more p.invariant.1 (as_node c.before.before.nth-m.result) c.before.before.nth-m.ensures (sym c.before.quiet.ensures ∙ c.if-quiet.true))
+    let p = c.loop-k in
+    (omega arith, quiets_more p.invariant.1 (as_node c.nth-m.result) c.nth-m.ensures (sym c.quiet.ensures ∙ c.if-quiet.true))
 
 returns-2 : tie.Need-returns invariant-loop decreases-loop
-returns-2 c = let p = c.before.loop-k in record { most = p.invariant.0; quiets = p.invariant.1; stops = λ h. absurd (omega arith) }
+returns-2 c = let p = c.loop-k in record { most = p.invariant.0; quiets = p.invariant.1; stops = λ h. absurd (omega arith) }
 
 pub run_spec : {M : Type 1} → statement M
 run_spec = tie.close (tie.spec invariant-loop decreases-loop loop-holds nth-requires quiet-requires add-k loop-less loop-again returns returns-2)

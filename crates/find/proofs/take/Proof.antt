@@ -37,28 +37,22 @@ level-of-requires c κs = search rules
 
 run-requires : tie.Need-run-r-requires
 run-requires c κs =
-    let f = c in
-    let o = f.before.before.before.before.before in
-    let s = o.before.before.before.before.before.before.before in
-    let a = s.args in
-    let w = f.before.before.before.before.span-s in
+    let a = c.args in
+    let w = c.span-s in
     take_held a.back a.unitsize a.base a.hi a.part.now (level_of a.l1.now a.l2.now a.l3.now a.l4.now)
-    a.pos o.before.left-room.result a.maxl o.best_level-l.result w.result f.before.before.lesser-n.result f.before.number-from.result f.level_of-level.result.now
-    o.before.left-room.ensures o.best_level-l.ensures w.ensures.0
-    (f.before.before.lesser-n.ensures ∙ ap (λ (x : ℕ). min x (o.before.left-room.result / w.result)) f.before.before.before.to_border.ensures) f.before.number-from.ensures f.level_of-level.ensures
-    s.requires.0 s.requires.1 s.requires.2 s.requires.4 (omega arith)
+    a.pos c.left-room.result a.maxl c.best_level-l.result w.result c.lesser-n.result c.number-from.result c.level_of-level.result.now
+    c.left-room.ensures c.best_level-l.ensures w.ensures.0
+    (c.lesser-n.ensures ∙ ap (λ (x : ℕ). min x (c.left-room.result / w.result)) c.to_border.ensures) c.number-from.ensures c.level_of-level.ensures
+    c.requires.0 c.requires.1 c.requires.2 c.requires.4 (omega arith)
 
 returns : tie.Need-returns
 returns c =
-    let f = c.before in
-    let o = f.before.before.before.before.before in
-    let s = o.before.before.before.before.before.before.before in
-    let a = s.args in
-    let w = f.before.before.before.before.span-s in
+    let a = c.args in
+    let w = c.span-s in
     taken a.back a.unitsize a.base a.hi a.part.now (level_of a.l1.now a.l2.now a.l3.now a.l4.now)
-    a.pos o.before.left-room.result a.maxl o.best_level-l.result w.result f.before.before.lesser-n.result f.before.number-from.result f.level_of-level.result.now
-    o.before.left-room.ensures o.best_level-l.ensures w.ensures.0
-    (f.before.before.lesser-n.ensures ∙ ap (λ (x : ℕ). min x (o.before.left-room.result / w.result)) f.before.before.before.to_border.ensures) f.before.number-from.ensures f.level_of-level.ensures
+    a.pos c.left-room.result a.maxl c.best_level-l.result w.result c.lesser-n.result c.number-from.result c.level_of-level.result.now
+    c.left-room.ensures c.best_level-l.ensures w.ensures.0
+    (c.lesser-n.ensures ∙ ap (λ (x : ℕ). min x (c.left-room.result / w.result)) c.to_border.ensures) c.number-from.ensures c.level_of-level.ensures
     a.mask a.before c.run-r.result.count c.run-r.result.value c.run-r.ensures
 
 pub take_spec : {M : Type 1} → statement M

@@ -19,10 +19,10 @@ sub-result-2 : tie.Need-overflow_sub-result-else-back
 sub-result-2 c = search rules
 
 returns : tie.Need-returns-then-back
-returns c = sym (ap (λ (b : Bool). to_border b c.before.args.q) c.if-back.true)
+returns c = sym (ap (λ (b : Bool). to_border b c.args.q) c.if-back.true)
 
 returns-2 : tie.Need-returns-else-back
-returns-2 c = sym (ap (λ (b : Bool). to_border b c.before.args.q) c.if-back.false)
+returns-2 c = sym (ap (λ (b : Bool). to_border b c.args.q) c.if-back.false)
 
 pub to_border_spec : {M : Type 1} → statement M
 to_border_spec = tie.close (tie.spec sub-result add-result add-result-2 sub-result-2 returns returns-2)

@@ -12,19 +12,19 @@ picked top p a b e f = sym (ap (λ (t : Bool). cond t (cond (lt p top) p top) no
 returns : tie.Need-returns-then-p-top
 unfolding of_bits
 returns c =
-    let s = c.before.before.args in
-    picked s.top s.p true true c.before.if-p.true c.if-p-top.true
+    let s = c.args in
+    picked s.top s.p true true c.if-p.true c.if-p-top.true
 
 returns-2 : tie.Need-returns-else-p-top
 unfolding of_bits
 returns-2 c =
-    let s = c.before.before.args in
-    picked s.top s.p true false c.before.if-p.true c.if-p-top.false
+    let s = c.args in
+    picked s.top s.p true false c.if-p.true c.if-p-top.false
 
 returns-3 : tie.Need-returns-else-p
 unfolding of_bits
 returns-3 c =
-    let s = c.before.args in
+    let s = c.args in
     picked s.top s.p false (lt s.p s.top) c.if-p.false refl
 
 pub clamped_spec : {M : Type 1} → statement M

@@ -42,23 +42,23 @@ sub-if2 : tie.Need-overflow_sub-hi
 sub-if2 c = search rules
 
 -- 1 ≤ x
-from_one : (c : tie.Then-x) → T (le one c.before.args.x)
+from_one : (c : tie.Then-x) → T (le one c.args.x)
 unfolding of_bits
 from_one c = yes c.if-x.true
 
-over : (c : tie.Then-x) → T (above c.before.args.x)
-over c = above_of_le one c.before.args.x tt (from_one c)
+over : (c : tie.Then-x) → T (above c.args.x)
+over c = above_of_le one c.args.x tt (from_one c)
 
 int-to-float-if2 : tie.Need-int_to_float-hi
 int-to-float-if2 c = castable (room c.before.before) (room_small c.before.before)
 
 -- x < hi - origin
-inside : (c : tie.Then-x-hi) → Under (room c.before.before.before) c.before.before.before.args.x
+inside : (c : tie.Then-x-hi) → Under (room c.before.before.before) c.args.x
 inside c =
     let s = c.before.before.before in
     under s.args.x (of_int binary64 (pos (room s))) (room s) (value s) (over c.before.before) (yes c.if-x-hi.true)
 
-fit : (c : tie.Then-x-hi) → Shiftable 0 c.before.before.before.args.x
+fit : (c : tie.Then-x-hi) → Shiftable 0 c.args.x
 fit c =
     let s = c.before.before.before in
     shiftable 0 (room s) one s.args.x (lit≤ tt) (le_trans (le_of_eq (mul-one (room s))) (room_small s)) (refl, refl) (from_one c.before.before) (inside c)
@@ -76,8 +76,7 @@ add-t12 c = omega (arith, low c)
 
 returns : tie.Need-returns-then-x-hi
 returns c =
-    let s = c.before.before.before.before in
-    ap (λ (n : ℕ). At (n + s.args.origin)) c.shifted.ensures ∙ sym (placed s.args.x s.args.origin s.args.hi (fit c.before).number (inside c.before))
+    ap (λ (n : ℕ). At (n + c.args.origin)) c.shifted.ensures ∙ sym (placed c.args.x c.args.origin c.args.hi (fit c.before).number (inside c.before))
 
 returns-2 : tie.Need-returns-else-x-hi
 returns-2 c =
@@ -94,25 +93,23 @@ zeroth x o h b a l e =
 returns-3 : tie.Need-returns-then-origin-hi
 unfolding of_bits
 returns-3 c =
-    let s = c.before.before.before in
-    zeroth s.args.x s.args.origin s.args.hi true (yes c.before.if-x-2.true) (no c.before.before.if-x.false) (lt-ltb s.args.origin s.args.hi c.if-origin-hi.true)
+    zeroth c.args.x c.args.origin c.args.hi true (yes c.if-x-2.true) (no c.if-x.false) (lt-ltb c.args.origin c.args.hi c.if-origin-hi.true)
 
 returns-4 : tie.Need-returns-else-origin-hi
 unfolding of_bits
 returns-4 c =
-    let s = c.before.before.before in
-    zeroth s.args.x s.args.origin s.args.hi false (yes c.before.if-x-2.true) (no c.before.before.if-x.false) (le-ltb s.args.origin s.args.hi c.if-origin-hi.false)
+    zeroth c.args.x c.args.origin c.args.hi false (yes c.if-x-2.true) (no c.if-x.false) (le-ltb c.args.origin c.args.hi c.if-origin-hi.false)
 
 -- x < 0, or NaN
 int-to-float-if5 : tie.Need-int_to_float-origin
 int-to-float-if5 c = let s = c.before.before.before in castable s.args.origin (small s s.requires.0)
 
-negative : (c : tie.Else-x-2) → T (not (le nought c.before.before.args.x))
+negative : (c : tie.Else-x-2) → T (not (le nought c.args.x))
 unfolding of_bits
 negative c = no c.if-x-2.false
 
 -- −x ≤ origin
-above_zero : (c : tie.Then-y-origin) → T (positive (neg c.before.before.before.before.args.x))
+above_zero : (c : tie.Then-y-origin) → T (positive (neg c.args.x))
 above_zero c =
     let s = c.before.before.before.before in
     size s.args.x (of_int binary64 (pos s.args.origin)) s.args.origin (origin_value s) (negative c.before.before) (yes c.if-y-origin.true)
@@ -136,7 +133,7 @@ returns-5 c =
     let e = c.before.before.before in
     let s = e.before.before in
     ap (λ (n : ℕ). At (s.args.origin - n)) c.ceiling.ensures
-    ∙ sym (back s.args.x (of_int binary64 (pos s.args.origin)) s.args.origin s.args.hi (origin_value s) s.requires.0 (negative e) (yes c.before.if-y-origin.true))
+    ∙ sym (back s.args.x (of_int binary64 (pos s.args.origin)) s.args.origin s.args.hi (origin_value s) s.requires.0 (negative e) (yes c.if-y-origin.true))
 
 returns-6 : tie.Need-returns-else-y-origin
 returns-6 c =

@@ -23,27 +23,25 @@ unfolding most_fraction
 most_upto = lit≤ tt
 
 int-to-float-whole-part : tie.Need-int_to_float-limit
-int-to-float-whole-part c = castable c.before.args.limit (le_trans c.before.requires (lit≤ tt))
+int-to-float-whole-part c = castable c.args.limit (le_trans c.requires (lit≤ tt))
 
 clamped-requires : tie.Need-clamped-requires
 clamped-requires c κs = search rules
 
 -- the number that is passed on is the rule's
-is : (c : tie.After-clamped) → c.clamped.result ≡ clamp most_fraction c.before.before.args.p
-is c = c.clamped.ensures ∙ ap (λ (t : Float). clamp t c.before.before.args.p) most_is
+is : (c : tie.After-clamped) → c.clamped.result ≡ clamp most_fraction c.args.p
+is c = c.clamped.ensures ∙ ap (λ (t : Float). clamp t c.args.p) most_is
 
 whole-part-requires : tie.Need-whole_part-requires
 unfolding times
 whole-part-requires c κs =
-    let s = c.before.before in
-    subst (λ (q : Float). Under (2 ^ 53) (times s.args.limit q)) (sym (is c))
-    (product s.args.limit (2 ^ 53) most_fraction s.args.p (lt_of_le_of_lt s.requires (lit< tt)) (le_trans s.requires (lit≤ tt)) most_upto)
+    subst (λ (q : Float). Under (2 ^ 53) (times c.args.limit q)) (sym (is c))
+    (product c.args.limit (2 ^ 53) most_fraction c.args.p (lt_of_le_of_lt c.requires (lit< tt)) (le_trans c.requires (lit≤ tt)) most_upto)
 
 returns : tie.Need-returns
 unfolding times
 returns c =
-    let s = c.before.before.before in
-    c.whole_part.ensures ∙ ap (λ (q : Float). natural (floor_of (times s.args.limit q))) (is c.before)
+    c.whole_part.ensures ∙ ap (λ (q : Float). natural (floor_of (times c.args.limit q))) (is c.before)
 
 pub fraction_samples_spec : {M : Type 1} → statement M
 fraction_samples_spec = tie.close (tie.spec int-to-float-whole-part clamped-requires whole-part-requires returns)

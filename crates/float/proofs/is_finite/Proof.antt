@@ -25,11 +25,11 @@ float-from-bits-top c = tt
 
 returns : tie.Need-returns-then-x-top
 unfolding of_bits neg
-returns c = lower c.before.args.x c.if-x-top.true
+returns c = lower c.args.x c.if-x-top.true
 
 returns-2 : tie.Need-returns-else-x-top
 unfolding of_bits
-returns-2 c = upper c.before.args.x c.if-x-top.false
+returns-2 c = upper c.args.x c.if-x-top.false
 
 pub is_finite_spec : {M : Type 1} → statement M
 is_finite_spec = tie.close (tie.spec float-from-bits-top returns returns-2)

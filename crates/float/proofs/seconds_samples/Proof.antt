@@ -15,31 +15,29 @@ use Rattle.float.proofs.seconds_samples.Statement.{statement}
 use Rattle.float.proofs.seconds_samples.Tie as tie
 
 int-to-float-nearest : tie.Need-int_to_float-rate
-int-to-float-nearest c = castable c.before.args.rate (le_trans c.before.requires.0 (lit≤ tt))
+int-to-float-nearest c = castable c.args.rate (le_trans c.requires.0 (lit≤ tt))
 
 clamped-requires : tie.Need-clamped-requires
 clamped-requires c κs = search rules
 
-is : (c : tie.After-clamped) → c.clamped.result ≡ clamp one c.before.before.args.t
+is : (c : tie.After-clamped) → c.clamped.result ≡ clamp one c.args.t
 unfolding of_bits
 is c = c.clamped.ensures
 
 nearest-requires : tie.Need-nearest-wanted-requires
 unfolding times
 nearest-requires c κs =
-    let s = c.before.before in
-    subst (λ (q : Float). Under (2 ^ 52) (times s.args.rate q)) (sym (is c))
-    (product s.args.rate (2 ^ 52) one s.args.t (lt_of_le_of_lt s.requires.0 (lit< tt)) (le_trans s.requires.0 (lit≤ tt)) (lit≤ tt))
+    subst (λ (q : Float). Under (2 ^ 52) (times c.args.rate q)) (sym (is c))
+    (product c.args.rate (2 ^ 52) one c.args.t (lt_of_le_of_lt c.requires.0 (lit< tt)) (le_trans c.requires.0 (lit≤ tt)) (lit≤ tt))
 
 div-cap : tie.Need-nonzero_div-cap
 div-cap c = search rules
 
 -- what `nearest` gives is the rule's number
-wanted : (c : tie.After-nearest-wanted) → c.nearest-wanted.result ≡ seconds_of c.before.before.before.args.rate c.before.before.before.args.t
+wanted : (c : tie.After-nearest-wanted) → c.nearest-wanted.result ≡ seconds_of c.args.rate c.args.t
 unfolding times
 wanted c =
-    let s = c.before.before.before in
-    c.nearest-wanted.ensures ∙ ap (λ (q : Float). natural (nearest_of (times s.args.rate q))) (is c.before)
+    c.nearest-wanted.ensures ∙ ap (λ (q : Float). natural (nearest_of (times c.args.rate q))) (is c.before)
 
 kept : (n w cap : ℕ) (b : Bool) → n ≡ w → ltb cap n ≡ b → cond {A = Pre} b (record { samples = cap; was_cut = true }) (record { samples = n; was_cut = false }) ≡ capped w cap
 kept n w cap b e h = ap (λ (t : Bool). cond {A = Pre} t (record { samples = cap; was_cut = true }) (record { samples = n; was_cut = false })) (sym h) ∙ ap (λ (k : ℕ). capped k cap) e
@@ -47,13 +45,13 @@ kept n w cap b e h = ap (λ (t : Bool). cond {A = Pre} t (record { samples = cap
 returns : tie.Need-returns-then-cap-wanted
 returns c =
     let w = c.before in
-    let s = w.before.before.before.args in
+    let s = w.args in
     kept w.nearest-wanted.result (seconds_of s.rate s.t) (ring_cap s.unit) true (wanted w) (lt-ltb (ring_cap s.unit) w.nearest-wanted.result c.if-cap-wanted.true)
 
 returns-2 : tie.Need-returns-else-cap-wanted
 returns-2 c =
     let w = c.before in
-    let s = w.before.before.before.args in
+    let s = w.args in
     kept w.nearest-wanted.result (seconds_of s.rate s.t) (ring_cap s.unit) false (wanted w) (le-ltb (ring_cap s.unit) w.nearest-wanted.result c.if-cap-wanted.false)
 
 pub seconds_samples_spec : {M : Type 1} → statement M

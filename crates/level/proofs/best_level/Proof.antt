@@ -38,15 +38,15 @@ sub-if1 c = omega arith
 
 returns : tie.Need-returns-then-pos-s-ne0 invariant-loop decreases-loop
 returns c =
-    let l = c.before.before.before.loop-l in
-    let a = c.before.before.before.before.args in
-    best_of a.pos a.room a.maxl l.l l.invariant.0 l.invariant.1 (λ _ f. c.if-pos-s-ne0.true (masked a.pos l.l c.before.span-s.result c.before.span-s.ensures.0 ∙ f.aligned))
+    let l = c.loop-l in
+    let a = c.args in
+    best_of a.pos a.room a.maxl l.l l.invariant.0 l.invariant.1 (λ _ f. c.if-pos-s-ne0.true (masked a.pos l.l c.span-s.result c.span-s.ensures.0 ∙ f.aligned))
 
 returns-2 : tie.Need-returns-then-room-s invariant-loop decreases-loop
 returns-2 c =
-    let l = c.before.before.before.before.loop-l in
-    let a = c.before.before.before.before.before.args in
-    let s = c.before.before.span-s in
+    let l = c.loop-l in
+    let a = c.args in
+    let s = c.span-s in
     best_of a.pos a.room a.maxl l.l l.invariant.0 l.invariant.1 (λ _ f. omega (arith, f.small, span_at l.l s.result s.ensures.0))
 
 add-l : tie.Need-overflow_add-l-in-loop-l invariant-loop decreases-loop
@@ -57,21 +57,21 @@ loop-less c = omega arith
 
 loop-again : tie.Need-loop-l-preserved invariant-loop decreases-loop
 loop-again c =
-    let l = c.before.before.before.before.loop-l in
-    let a = c.before.before.before.before.before.args in
-    let s = c.before.before.span-s in (
+    let l = c.loop-l in
+    let a = c.args in
+    let s = c.span-s in (
       omega arith,
       rw (add-one l.l)
           (record {
-            aligned = sym (masked a.pos l.l s.result s.ensures.0) ∙ c.before.if-pos-s-ne0.false;
+            aligned = sym (masked a.pos l.l s.result s.ensures.0) ∙ c.if-pos-s-ne0.false;
             small = omega (arith, span_at l.l s.result s.ensures.0);
           }),
     )
 
 returns-3 : tie.Need-returns invariant-loop decreases-loop
 returns-3 c =
-    let l = c.before.loop-l in
-    let a = c.before.before.args in
+    let l = c.loop-l in
+    let a = c.args in
     best_of a.pos a.room a.maxl l.l l.invariant.0 l.invariant.1 (λ h _. omega arith)
 
 pub best_level_spec : {M : Type 1} → statement M

@@ -18,7 +18,7 @@ div-result : tie.Need-nonzero_div-result
 div-result c = search rules
 
 returns : tie.Need-returns
-returns c = ap (λ (k : ℕ). (c.before.args.len + (k - 1)) / k) c.span-s.ensures.0
+returns c = ap (λ (k : ℕ). (c.args.len + (k - 1)) / k) c.span-s.ensures.0
 
 pub nodes_of_spec : {M : Type 1} → statement M
 nodes_of_spec = tie.close (tie.spec span-requires sub-result add-result div-result returns)

@@ -17,28 +17,26 @@ two : (u i n : ℕ) → Held u i n → (u ≡ 1 → ⊥) → i * 2 + 2 ≤ n
 two u i n h f = room u i n 2 h (unit_two h.unit_size f)
 
 one-byte-requires : tie.Need-one_byte-requires
-one-byte-requires c κs = let a = c.before.before in omega (arith, room _ a.args.i _ 1 a.requires c.if-unitsize-eq1.true)
+one-byte-requires c κs = omega (arith, room _ c.args.i _ 1 c.requires c.if-unitsize-eq1.true)
 
 mul-two-bytes : tie.Need-overflow_mul-i
-mul-two-bytes c = let a = c.before.before in omega (arith, two _ a.args.i _ a.requires c.if-unitsize-eq1.false)
+mul-two-bytes c = omega (arith, two _ c.args.i _ c.requires c.if-unitsize-eq1.false)
 
 two-bytes-requires : tie.Need-two_bytes-requires
-two-bytes-requires c κs = let a = c.before.before in omega (arith, two _ a.args.i _ a.requires c.if-unitsize-eq1.false)
+two-bytes-requires c κs = omega (arith, two _ c.args.i _ c.requires c.if-unitsize-eq1.false)
 
 returns : tie.Need-returns-then-unitsize-eq1
 unfolding sample_of
 returns c =
-    let a = c.before.before.before in
     c.one_byte.ensures
-    ∙ ap (little 1 a.args.bytes.now) (sym (mul-one a.args.i))
-    ∙ ap (λ (u : ℕ). little u a.args.bytes.now (a.args.i * u)) (sym c.before.if-unitsize-eq1.true)
+    ∙ ap (little 1 c.args.bytes.now) (sym (mul-one c.args.i))
+    ∙ ap (λ (u : ℕ). little u c.args.bytes.now (c.args.i * u)) (sym c.if-unitsize-eq1.true)
 
 returns-2 : tie.Need-returns-else-unitsize-eq1
 unfolding sample_of
 returns-2 c =
-    let a = c.before.before.before in
     c.two_bytes.ensures
-    ∙ ap (λ (u : ℕ). little u a.args.bytes.now (a.args.i * u)) (sym (unit_two a.requires.unit_size c.before.if-unitsize-eq1.false))
+    ∙ ap (λ (u : ℕ). little u c.args.bytes.now (c.args.i * u)) (sym (unit_two c.requires.unit_size c.if-unitsize-eq1.false))
 
 pub get_spec : {M : Type 1} → statement M
 get_spec = tie.close (tie.spec one-byte-requires mul-two-bytes two-bytes-requires returns returns-2)

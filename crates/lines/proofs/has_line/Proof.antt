@@ -15,12 +15,11 @@ all : (mask : ℕ) → mask < 65536 → not (eqb mask 0) ≡ has_line 2 mask
 all mask h = ap (λ (x : ℕ). not (eqb x 0)) (sym (and_mask mask 16 ∙ mod-eq_of_lt h))
 
 returns : tie.Need-returns-then-unitsize-eq1
-returns c = ap (λ (u : ℕ). has_line u c.before.args.mask) (sym c.if-unitsize-eq1.true)
+returns c = ap (λ (u : ℕ). has_line u c.args.mask) (sym c.if-unitsize-eq1.true)
 
 returns-2 : tie.Need-returns
 returns-2 c =
-    let s = c.before in
-    all s.args.mask s.ranges.mask.fits ∙ ap (λ (u : ℕ). has_line u s.args.mask) (sym (unit_two s.requires c.if-unitsize-eq1.false))
+    all c.args.mask c.ranges.mask.fits ∙ ap (λ (u : ℕ). has_line u c.args.mask) (sym (unit_two c.requires c.if-unitsize-eq1.false))
 
 pub has_line_spec : {M : Type 1} → statement M
 has_line_spec = tie.close (tie.spec returns returns-2)

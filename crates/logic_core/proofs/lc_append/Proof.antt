@@ -31,12 +31,8 @@ same-length-5 c = search rules
 
 returns : tie.Need-returns
 returns c =
-    let l2 = c.before.before.before.before.before.before.before in
-    let stored = l2.before.before.before.before.before in
-    let read = stored.before.before.before.before.before.before in
-    let known = read.before.before in
-    let a = known.before.before.before.before.before.before.args in
-    appends_told a.bytes.now a.samples.now (level_of a.l1.now a.l2.now a.l3.now a.l4.now) _ _ stored.append-answer.result _ _ _ read.capture_in-c.ensures stored.append-answer.ensures c.appended_code.ensures
+    let a = c.args in
+    appends_told a.bytes.now a.samples.now (level_of a.l1.now a.l2.now a.l3.now a.l4.now) _ _ c.append-answer.result _ _ _ c.capture_in-c.ensures c.append-answer.ensures c.appended_code.ensures
 
 pub lc_append_spec : {M : Type 1} → statement M
 lc_append_spec =

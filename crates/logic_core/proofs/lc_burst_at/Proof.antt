@@ -19,9 +19,8 @@ burst-code-requires c κs = search rules
 
 returns : tie.Need-returns
 returns c =
-    let read = c.before.before.before.before in
-    let a = read.before.before.before.before.before.before.args in
-    sought_by burst_numbers burst_as (λ (x : Capture). burst_of x a.samples.now (level_of a.l1.now a.l2.now a.l3.now a.l4.now) a.mask a.sample a.max_gap a.tolerance a.budget) c.before.before.before.burst_at-answer.result read.capture_in.ensures c.before.before.before.burst_at-answer.ensures c.burst_code.ensures
+    let a = c.args in
+    sought_by burst_numbers burst_as (λ (x : Capture). burst_of x a.samples.now (level_of a.l1.now a.l2.now a.l3.now a.l4.now) a.mask a.sample a.max_gap a.tolerance a.budget) c.burst_at-answer.result c.capture_in.ensures c.burst_at-answer.ensures c.burst_code.ensures
 
 pub lc_burst_at_spec : {M : Type 1} → statement M
 lc_burst_at_spec = tie.close (tie.spec capture-in-requires burst-at-requires burst-code-requires returns)

@@ -21,9 +21,8 @@ changes-code-requires c κs = search rules
 
 returns : tie.Need-returns
 returns c =
-    let read = c.before.before.before in
-    let a = read.before.before.before.before.before.before.args in
-    told_by number plain changes_of (λ (x : Capture). changes_for x a.samples.now (level_of a.l1.now a.l2.now a.l3.now a.l4.now) a.a a.b) c.before.before.density-answer.result _ _ _ read.capture_in.ensures c.before.before.density-answer.ensures c.changes_code.ensures
+    let a = c.args in
+    told_by number plain changes_of (λ (x : Capture). changes_for x a.samples.now (level_of a.l1.now a.l2.now a.l3.now a.l4.now) a.a a.b) c.density-answer.result _ _ _ c.capture_in.ensures c.density-answer.ensures c.changes_code.ensures
 
 pub lc_density_spec : {M : Type 1} → statement M
 lc_density_spec = tie.close (tie.spec capture-in-requires density-requires changes-code-requires returns)

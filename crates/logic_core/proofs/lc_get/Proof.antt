@@ -21,9 +21,8 @@ got-code-requires c κs = search rules
 
 returns : tie.Need-returns
 returns c =
-    let read = c.before.before.before in
-    let a = read.before.before.before.before.before.before.args in
-    told_by number plain got_of (λ (x : Capture). got_for x a.samples.now (level_of a.l1.now a.l2.now a.l3.now a.l4.now) a.i) c.before.before.get-answer.result _ _ _ read.capture_in.ensures c.before.before.get-answer.ensures c.got_code.ensures
+    let a = c.args in
+    told_by number plain got_of (λ (x : Capture). got_for x a.samples.now (level_of a.l1.now a.l2.now a.l3.now a.l4.now) a.i) c.get-answer.result _ _ _ c.capture_in.ensures c.get-answer.ensures c.got_code.ensures
 
 pub lc_get_spec : {M : Type 1} → statement M
 lc_get_spec = tie.close (tie.spec capture-in-requires get-requires got-code-requires returns)

@@ -14,7 +14,7 @@ needed-code-requires : tie.Need-needed_code-requires
 needed-code-requires c κs = search rules
 
 returns : tie.Need-returns
-returns c = told lent_numbers plain needed_of c.before.before.needs-answer.result _ _ _ c.before.before.needs-answer.ensures c.needed_code.ensures
+returns c = told lent_numbers plain needed_of c.needs-answer.result _ _ _ c.needs-answer.ensures c.needed_code.ensures
 
 pub lc_needs_spec : {M : Type 1} → statement M
 lc_needs_spec = tie.close (tie.spec needs-requires needed-code-requires returns)

@@ -19,9 +19,8 @@ found-code-requires c κs = search rules
 
 returns : tie.Need-returns
 returns c =
-    let read = c.before.before.before.before in
-    let a = read.before.before.before.before.before.before.args in
-    sought_by number found_of (λ (x : Capture). previous_of x a.samples.now (level_of a.l1.now a.l2.now a.l3.now a.l4.now) a.mask a.from) c.before.before.before.prev_change-answer.result read.capture_in.ensures c.before.before.before.prev_change-answer.ensures c.found_code.ensures
+    let a = c.args in
+    sought_by number found_of (λ (x : Capture). previous_of x a.samples.now (level_of a.l1.now a.l2.now a.l3.now a.l4.now) a.mask a.from) c.prev_change-answer.result c.capture_in.ensures c.prev_change-answer.ensures c.found_code.ensures
 
 pub lc_prev_change_spec : {M : Type 1} → statement M
 lc_prev_change_spec = tie.close (tie.spec capture-in-requires prev-change-requires found-code-requires returns)

@@ -17,8 +17,8 @@ raw-part-requires c κs = search rules
 
 returns : tie.Need-returns
 returns c =
-    let a = c.before.before.before.before.before.before.before.args in
-    subst (λ (x : Capture). RawLies (store_of x) a.samples.now (level_of a.l1.now a.l2.now a.l3.now a.l4.now) a.chunk c.raw_part-part.result.from c.raw_part-part.result.to) c.before.capture_in.ensures c.raw_part-part.ensures
+    let a = c.args in
+    subst (λ (x : Capture). RawLies (store_of x) a.samples.now (level_of a.l1.now a.l2.now a.l3.now a.l4.now) a.chunk c.raw_part-part.result.from c.raw_part-part.result.to) c.capture_in.ensures c.raw_part-part.ensures
 
 pub lc_raw_spec : {M : Type 1} → statement M
 lc_raw_spec =

@@ -19,9 +19,8 @@ same_length c = search rules
 
 returns : tie.Need-returns
 returns c =
-    let read = c.before.before.before.before.before.before in
-    let a = read.before.before.before.before.before.before.before.args in
-    copies_told a.samples.now (level_of a.l1.now a.l2.now a.l3.now a.l4.now) a.start a.count _ _ c.before.before.before.before.samples-answer.result _ _ _ read.capture_in.ensures c.before.before.before.before.samples-answer.ensures c.copied_code.ensures
+    let a = c.args in
+    copies_told a.samples.now (level_of a.l1.now a.l2.now a.l3.now a.l4.now) a.start a.count _ _ c.samples-answer.result _ _ _ c.capture_in.ensures c.samples-answer.ensures c.copied_code.ensures
 
 pub lc_samples_spec : {M : Type 1} → statement M
 lc_samples_spec =

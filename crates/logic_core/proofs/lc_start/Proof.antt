@@ -14,7 +14,7 @@ started-code-requires : tie.Need-started_code-requires
 started-code-requires c κs = search rules
 
 returns : tie.Need-returns
-returns c = told store_numbers plain started_of c.before.before.start-answer.result _ _ _ c.before.before.start-answer.ensures c.started_code.ensures
+returns c = told store_numbers plain started_of c.start-answer.result _ _ _ c.start-answer.ensures c.started_code.ensures
 
 pub lc_start_spec : {M : Type 1} → statement M
 lc_start_spec = tie.close (tie.spec start-requires started-code-requires returns)

@@ -24,11 +24,10 @@ summed-code-requires c κs = search rules
 
 returns : tie.Need-returns
 returns c =
-    let read = c.before.before.before.before in
-    let a = read.before.before.before.before.before.before.args in
+    let a = c.args in
     let asked : Capture → Answer (Option Node) = λ x. summed_for x a.samples.now (level_of a.l1.now a.l2.now a.l3.now a.l4.now) a.a a.b in
-    let f = c.before.before.before.summary-answer in
-    (told_by node_numbers perhaps summed_of asked f.result _ _ _ read.capture_in.ensures f.ensures c.summed_code.ensures.0, told_by count_number perhaps summed_of asked f.result _ _ _ read.capture_in.ensures f.ensures c.summed_code.ensures.1)
+    let f = c.summary-answer in
+    (told_by node_numbers perhaps summed_of asked f.result _ _ _ c.capture_in.ensures f.ensures c.summed_code.ensures.0, told_by count_number perhaps summed_of asked f.result _ _ _ c.capture_in.ensures f.ensures c.summed_code.ensures.1)
 
 pub lc_summary_spec : {M : Type 1} → statement M
 lc_summary_spec = tie.close (tie.spec capture-in-requires summary-requires summed-code-requires returns)

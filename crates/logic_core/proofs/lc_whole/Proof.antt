@@ -21,9 +21,8 @@ checked-code-requires c κs = search rules
 
 returns : tie.Need-returns
 returns c =
-    let read = c.before.before.before.before in
-    let a = read.before.before.before.before.before.before.args in
-    (told_by place_level fault checked_of (λ (x : Capture). wrong_for x a.samples.now (level_of a.l1.now a.l2.now a.l3.now a.l4.now)) c.before.before.before.whole-answer.result _ _ _ read.capture_in.ensures c.before.before.before.whole-answer.ensures c.checked_code.ensures.0, told_by place_number fault checked_of (λ (x : Capture). wrong_for x a.samples.now (level_of a.l1.now a.l2.now a.l3.now a.l4.now)) c.before.before.before.whole-answer.result _ _ _ read.capture_in.ensures c.before.before.before.whole-answer.ensures c.checked_code.ensures.1)
+    let a = c.args in
+    (told_by place_level fault checked_of (λ (x : Capture). wrong_for x a.samples.now (level_of a.l1.now a.l2.now a.l3.now a.l4.now)) c.whole-answer.result _ _ _ c.capture_in.ensures c.whole-answer.ensures c.checked_code.ensures.0, told_by place_number fault checked_of (λ (x : Capture). wrong_for x a.samples.now (level_of a.l1.now a.l2.now a.l3.now a.l4.now)) c.whole-answer.result _ _ _ c.capture_in.ensures c.whole-answer.ensures c.checked_code.ensures.1)
 
 pub lc_whole_spec : {M : Type 1} → statement M
 lc_whole_spec = tie.close (tie.spec capture-in-requires whole-requires checked-code-requires returns)

@@ -8,7 +8,7 @@ difference-requires : tie.Need-difference-requires
 difference-requires c κs = (omega (arith, c.requires.1), omega (arith, c.requires.0))
 
 returns : tie.Need-returns
-returns c = difference_back c.before.args.i c.before.args.origin (omega (arith, c.before.requires.1)) (omega (arith, c.before.requires.0)) _ c.difference.ensures
+returns c = difference_back c.args.i c.args.origin (omega (arith, c.requires.1)) (omega (arith, c.requires.0)) _ c.difference.ensures
 
 pub counted_from_spec : {M : Type 1} → statement M
 counted_from_spec = tie.close (tie.spec difference-requires returns)

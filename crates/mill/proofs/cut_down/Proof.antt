@@ -38,17 +38,15 @@ loop-less c = omega arith
 
 loop-again : tie.Need-loop-i-preserved invariant-loop decreases-loop
 loop-again c =
-    let s = c.before.before.before in
-    let l = c.before.before.loop-i in
-    (omega arith, length-set l.output l.i _ ∙ l.invariant.1, cut_turn s.args.grant l.i s.args.output.now l.output (omega arith) l.invariant.2)
+    let l = c.loop-i in
+    (omega arith, length-set l.output l.i _ ∙ l.invariant.1, cut_turn c.args.grant l.i c.args.output.now l.output (omega arith) l.invariant.2)
 
 same_length : tie.Need-shape_of-output invariant-loop decreases-loop
-same_length c = c.before.loop-i.invariant.1
+same_length c = c.loop-i.invariant.1
 
 returns : tie.Need-returns invariant-loop decreases-loop
 returns c =
-    let s = c.before.before in
-    c.before.loop-i.invariant.2 ∙ ap (λ (k : ℕ). cut_first s.args.grant k s.args.output.now) (le_antisymm c.before.loop-i.invariant.0 c.loop-i-test.false)
+    c.loop-i.invariant.2 ∙ ap (λ (k : ℕ). cut_first c.args.grant k c.args.output.now) (le_antisymm c.loop-i.invariant.0 c.loop-i-test.false)
 
 pub cut_down_spec : {M : Type 1} → statement M
 cut_down_spec =

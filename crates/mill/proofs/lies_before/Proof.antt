@@ -11,19 +11,18 @@ use Rattle.mill.proofs.lies_before.Statement.{statement}
 use Rattle.mill.proofs.lies_before.Tie as tie
 
 -- how far p is from 0, of p itself
-far_is : (m : tie.After-magnitude-n) → m.magnitude-n.result ≡ mag m.before.args.p
-far_is m = m.magnitude-n.ensures ∙ ap mag (read_is m.before.args.p m.before.ranges.p)
+far_is : (m : tie.After-magnitude-n) → m.magnitude-n.result ≡ mag m.args.p
+far_is m = m.magnitude-n.ensures ∙ ap mag (read_is m.args.p m.ranges.p)
 
 magnitude-requires : tie.Need-magnitude-n-requires
 magnitude-requires c κs = search rules
 
 returns : tie.Need-returns-then-p-lt0
 returns c =
-    let s = c.before.before in
-    ap (λ (n : ℕ). leb s.args.origin n) (far_is c.before) ∙ before_is s.args.origin s.args.p (sign_is s.args.p s.ranges.p true c.if-p-lt0.true)
+    ap (λ (n : ℕ). leb c.args.origin n) (far_is c.before) ∙ before_is c.args.origin c.args.p (sign_is c.args.p c.ranges.p true c.if-p-lt0.true)
 
 returns-2 : tie.Need-returns
-returns-2 c = let s = c.before.before in not_before s.args.origin s.args.p (sign_is s.args.p s.ranges.p false c.if-p-lt0.false)
+returns-2 c = not_before c.args.origin c.args.p (sign_is c.args.p c.ranges.p false c.if-p-lt0.false)
 
 pub lies_before_spec : {M : Type 1} → statement M
 lies_before_spec = tie.close (tie.spec magnitude-requires returns returns-2)

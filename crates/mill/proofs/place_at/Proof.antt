@@ -11,32 +11,29 @@ use Rattle.mill.proofs.place_at.Statement.{statement}
 use Rattle.mill.proofs.place_at.Tie as tie
 
 -- how far p is from 0, of p itself
-far_is : (m : tie.After-magnitude-n) → m.magnitude-n.result ≡ mag m.before.args.p
-far_is m = m.magnitude-n.ensures ∙ ap mag (read_is m.before.args.p m.before.ranges.p)
+far_is : (m : tie.After-magnitude-n) → m.magnitude-n.result ≡ mag m.args.p
+far_is m = m.magnitude-n.ensures ∙ ap mag (read_is m.args.p m.ranges.p)
 
 magnitude-requires : tie.Need-magnitude-n-requires
 magnitude-requires c κs = search rules
 
 add-result : tie.Need-overflow_add-result
-add-result c = let s = c.before.before in omega (arith, far_is c.before, mag_small s.args.p s.ranges.p)
+add-result c = omega (arith, far_is c.before, mag_small c.args.p c.ranges.p)
 
 sub-result : tie.Need-overflow_sub-result
 sub-result c =
-    let s = c.before.before in
-    omega (arith, far_is c.before, room_below s.args.origin s.args.p (sign_is s.args.p s.ranges.p true c.if-p-lt0.true) s.requires.1)
+    omega (arith, far_is c.before, room_below c.args.origin c.args.p (sign_is c.args.p c.ranges.p true c.if-p-lt0.true) c.requires.1)
 
 returns : tie.Need-returns-then-p-lt0
 returns c =
-    let s = c.before.before in
-    ap (λ (n : ℕ). s.args.origin - (n + 1)) (far_is c.before) ∙ place_below s.args.origin s.args.p (sign_is s.args.p s.ranges.p true c.if-p-lt0.true)
+    ap (λ (n : ℕ). c.args.origin - (n + 1)) (far_is c.before) ∙ place_below c.args.origin c.args.p (sign_is c.args.p c.ranges.p true c.if-p-lt0.true)
 
 add-result-2 : tie.Need-overflow_add-result-2
-add-result-2 c = let s = c.before.before in omega (arith, far_is c.before, mag_small s.args.p s.ranges.p, s.requires.0)
+add-result-2 c = omega (arith, far_is c.before, mag_small c.args.p c.ranges.p, c.requires.0)
 
 returns-2 : tie.Need-returns
 returns-2 c =
-    let s = c.before.before in
-    ap (λ (n : ℕ). s.args.origin + n) (far_is c.before) ∙ place_from s.args.origin s.args.p (sign_is s.args.p s.ranges.p false c.if-p-lt0.false)
+    ap (λ (n : ℕ). c.args.origin + n) (far_is c.before) ∙ place_from c.args.origin c.args.p (sign_is c.args.p c.ranges.p false c.if-p-lt0.false)
 
 pub place_at_spec : {M : Type 1} → statement M
 place_at_spec = tie.close (tie.spec magnitude-requires add-result sub-result returns add-result-2 returns-2)

@@ -24,10 +24,10 @@ flag-requires : tie.Need-flag-requires
 flag-requires c κs = search rules
 
 returns : tie.Need-returns-in-Refused
-returns c = (coded first_place (λ (x : Bounded). plain (bounded_of x)) _ _ _ c.before.before.answer-1.given.1 c.code.ensures refl, coded end_place (λ (x : Bounded). plain (bounded_of x)) _ _ _ c.before.before.answer-1.given.1 c.code.ensures refl, coded marked_number (λ (x : Bounded). plain (bounded_of x)) _ _ _ c.before.before.answer-1.given.1 c.code.ensures refl)
+returns c = (coded first_place (λ (x : Bounded). plain (bounded_of x)) _ _ _ c.in-Refused.is c.code.ensures refl, coded end_place (λ (x : Bounded). plain (bounded_of x)) _ _ _ c.in-Refused.is c.code.ensures refl, coded marked_number (λ (x : Bounded). plain (bounded_of x)) _ _ _ c.in-Refused.is c.code.ensures refl)
 
 returns-2 : tie.Need-returns-in-Run
-returns-2 c = (coded first_place (λ (x : Bounded). plain (bounded_of x)) _ _ _ c.before.before.before.before.answer-in-Run-1.given.1 refl (to_z-of_z w64 _ (record { sfits = c.before.before.struct_told-1.given.0.1 })), coded end_place (λ (x : Bounded). plain (bounded_of x)) _ _ _ c.before.before.before.before.answer-in-Run-1.given.1 refl (to_z-of_z w64 _ (record { sfits = c.before.struct_told-in-Run-1.given.1.0.1 })), coded marked_number (λ (x : Bounded). plain (bounded_of x)) _ _ _ c.before.before.before.before.answer-in-Run-1.given.1 refl c.flag.ensures)
+returns-2 c = (coded first_place (λ (x : Bounded). plain (bounded_of x)) _ _ _ c.in-Run.is refl (to_z-of_z w64 _ (record { sfits = c.struct_told-1.given.0.1 })), coded end_place (λ (x : Bounded). plain (bounded_of x)) _ _ _ c.in-Run.is refl (to_z-of_z w64 _ (record { sfits = c.struct_told-in-Run-1.given.1.0.1 })), coded marked_number (λ (x : Bounded). plain (bounded_of x)) _ _ _ c.in-Run.is refl c.flag.ensures)
 
 pub bounded_code_spec : {M : Type 1} → statement M
 bounded_code_spec =

@@ -35,13 +35,13 @@ burst_told : (r r' : Bursts) {code : ℕ} {first first' last last' : ℤ} {jumps
 burst_told r r' {code} {first} {first'} {last} {last'} {jumps} {jumps'} {read} {read'} e o = subst⁻¹ (λ (x : Bursts). BurstOut (burst_as x) code first first' last last' jumps jumps' read read') e o
 
 returns : tie.Need-returns-in-Refused
-returns c = burst_told _ _ c.before.before.answer-1.given.1 (record { first_is = record { code_is = c.code.ensures; value_is = refl }; last_is = record { code_is = c.code.ensures; value_is = refl }; jumps_are = record { find = record { code_is = c.code.ensures; value_is = refl }; count = record { code_is = c.code.ensures; value_is = refl } } })
+returns c = burst_told _ _ c.in-Refused.is (record { first_is = record { code_is = c.code.ensures; value_is = refl }; last_is = record { code_is = c.code.ensures; value_is = refl }; jumps_are = record { find = record { code_is = c.code.ensures; value_is = refl }; count = record { code_is = c.code.ensures; value_is = refl } } })
 
 returns-2 : tie.Need-returns-in-At
-returns-2 c = burst_told _ _ c.before.before.before.answer-in-At-1.given.1 (record { first_is = record { code_is = refl; value_is = to_z-of_z w64 _ (record { sfits = c.before.struct_told-1.given.0.1 }) }; last_is = record { code_is = refl; value_is = to_z-of_z w64 _ (record { sfits = c.struct_told-in-At-1.given.1.0.1 }) }; jumps_are = record { find = record { code_is = refl; value_is = refl }; count = record { code_is = refl; value_is = refl } } })
+returns-2 c = burst_told _ _ c.in-At.is (record { first_is = record { code_is = refl; value_is = to_z-of_z w64 _ (record { sfits = c.struct_told-1.given.0.1 }) }; last_is = record { code_is = refl; value_is = to_z-of_z w64 _ (record { sfits = c.struct_told-in-At-1.given.1.0.1 }) }; jumps_are = record { find = record { code_is = refl; value_is = refl }; count = record { code_is = refl; value_is = refl } } })
 
 returns-3 : tie.Need-returns-in-Nothing
-returns-3 c = burst_told _ _ c.before.answer-in-Nothing-1.given.1 (record { first_is = record { code_is = refl; value_is = refl }; last_is = record { code_is = refl; value_is = refl }; jumps_are = record { find = record { code_is = refl; value_is = refl }; count = record { code_is = refl; value_is = refl } } })
+returns-3 c = burst_told _ _ c.in-Nothing.is (record { first_is = record { code_is = refl; value_is = refl }; last_is = record { code_is = refl; value_is = refl }; jumps_are = record { find = record { code_is = refl; value_is = refl }; count = record { code_is = refl; value_is = refl } } })
 
 pub burst_code_spec : {M : Type 1} → statement M
 burst_code_spec =

@@ -22,13 +22,13 @@ enum-known-answer-3 : tie.Need-enum_known-answer-in-Nothing-1
 enum-known-answer-3 c = search rules
 
 returns : tie.Need-returns-in-Refused
-returns c = sought_coded place found_of c.before.before.answer-1.given.1 (record { find = record { code_is = c.code.ensures; value_is = refl }; count = record { code_is = c.code.ensures; value_is = refl } })
+returns c = sought_coded place found_of c.in-Refused.is (record { find = record { code_is = c.code.ensures; value_is = refl }; count = record { code_is = c.code.ensures; value_is = refl } })
 
 returns-2 : tie.Need-returns-in-At
-returns-2 c = sought_coded place found_of c.before.answer-in-At-1.given.1 (record { find = record { code_is = refl; value_is = to_z-of_z w64 _ (record { sfits = c.known_told-in-At-1.given.0.1 }) }; count = record { code_is = refl; value_is = refl } })
+returns-2 c = sought_coded place found_of c.in-At.is (record { find = record { code_is = refl; value_is = to_z-of_z w64 _ (record { sfits = c.known_told-in-At-1.given.0.1 }) }; count = record { code_is = refl; value_is = refl } })
 
 returns-3 : tie.Need-returns-in-Nothing
-returns-3 c = sought_coded place found_of c.before.answer-in-Nothing-1.given.1 (record { find = record { code_is = refl; value_is = refl }; count = record { code_is = refl; value_is = refl } })
+returns-3 c = sought_coded place found_of c.in-Nothing.is (record { find = record { code_is = refl; value_is = refl }; count = record { code_is = refl; value_is = refl } })
 
 pub found_code_spec : {M : Type 1} → statement M
 found_code_spec =

@@ -35,13 +35,13 @@ enum_told : tie.Need-enum_told-1
 enum_told c = search rules
 
 returns : tie.Need-returns-in-Refused
-returns c = coded lines_numbers said _ _ _ c.before.before.answer-1.given.1 c.code.ensures refl
+returns c = coded lines_numbers said _ _ _ c.in-Refused.is c.code.ensures refl
 
 returns-2 : tie.Need-returns-in-Lines
-returns-2 c = coded lines_numbers said _ _ _ c.before.answer-in-Lines-1.given.1 refl refl
+returns-2 c = coded lines_numbers said _ _ _ c.in-Lines.is refl refl
 
 returns-3 : tie.Need-returns-in-Nothing
-returns-3 c = coded lines_numbers said _ c.before.before.args.node.now _ c.enum_told-1.given.1 refl refl
+returns-3 c = coded lines_numbers said _ c.args.node.now _ c.in-Nothing.is refl refl
 
 pub shown_code_spec : {M : Type 1} → statement M
 shown_code_spec =

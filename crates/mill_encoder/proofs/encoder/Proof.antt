@@ -28,16 +28,13 @@ st s = store_of s.args.c
 abbrev lent : tie.Start → Lent
 lent s = lent_of s.args.samples.now (levels s)
 
-abbrev start : tie.After-refusal-number → tie.Start
-start f = f.before.before.before.before.before.before
-
 -- rows 1, 2 and 14 pass
-sound : (c : tie.Else-number-ne0) → let s = start c.before in Sound (st s) (lent s) × Pair s.args.a s.args.b
-sound c = let s = start c.before in passed (st s) (lent s) s.args.a s.args.b (sym c.before.refusal-number.ensures ∙ c.if-number-ne0.false)
+sound : (c : tie.Else-number-ne0) → let s = c.before in Sound (st s) (lent s) × Pair s.args.a s.args.b
+sound c = let s = c.before in passed (st s) (lent s) s.args.a s.args.b (sym c.refusal-number.ensures ∙ c.if-number-ne0.false)
 
 -- whether a line is beyond the grant, as the code found out
-told : (c : tie.After-beyond) (t : Bool) → c.beyond.result ≡ t → let s = start c.before.before.before in beyond s.args.grant (pair_mask s.args.a s.args.b) ≡ t
-told c t e = let s = start c.before.before.before in ap (beyond s.args.grant) (sym c.before.pair_mask.ensures) ∙ sym c.beyond.ensures ∙ e
+told : (c : tie.After-beyond) (t : Bool) → c.beyond.result ≡ t → beyond c.args.grant (pair_mask c.args.a c.args.b) ≡ t
+told c t e = ap (beyond c.args.grant) (sym c.pair_mask.ensures) ∙ sym c.beyond.ensures ∙ e
 
 refusal-requires : tie.Need-refusal-number-requires
 refusal-requires c κs = search rules
@@ -45,8 +42,8 @@ refusal-requires c κs = search rules
 returns : tie.Need-returns-then-number-ne0
 unfolding encoder_of
 returns c =
-    let s = start c.before in
-    refused_is _ (refused_first (st s) (lent s) s.args.grant s.args.a s.args.b c.before.refusal-number.ensures c.if-number-ne0.true) c.if-number-ne0.true
+    let s = c.before in
+    refused_is _ (refused_first (st s) (lent s) s.args.grant s.args.a s.args.b c.refusal-number.ensures c.if-number-ne0.true) c.if-number-ne0.true
 
 cast-pair-mask : tie.Need-overflow_cast-a
 cast-pair-mask c = record { fits = omega (arith, (sound c).1.a_most) }
@@ -61,11 +58,10 @@ beyond-requires : tie.Need-beyond-requires
 beyond-requires c κs = search rules
 
 -- 12, or no row
-decided : (c : tie.After-beyond) (t : Bool) → c.beyond.result ≡ t → let s = start c.before.before.before in (n : ℕ) → n ≡ cond t 12 0 → n ≡ mill_encoder_refusal (st s) (lent s) s.args.grant s.args.a s.args.b
+decided : (c : tie.After-beyond) (t : Bool) → c.beyond.result ≡ t → let s = c.before.before.before in (n : ℕ) → n ≡ cond t 12 0 → n ≡ mill_encoder_refusal (st s) (lent s) s.args.grant s.args.a s.args.b
 decided c t e n d =
-    let f = c.before.before in
-    let s = start f.before in
-    d ∙ beyond_decides (st s) (lent s) s.args.grant s.args.a s.args.b f.before.refusal-number.ensures f.if-number-ne0.false t (told c t e)
+    let s = c.before in
+    d ∙ beyond_decides (st s) (lent s) s.args.grant s.args.a s.args.b c.refusal-number.ensures c.if-number-ne0.false t (told c t e)
 
 returns-2 : tie.Need-returns-then-beyond
 unfolding encoder_of
@@ -74,12 +70,12 @@ returns-2 c = refused_is _ (decided c.before true c.if-beyond.true 12 refl) (λ 
 turns-in-requires : tie.Need-turns_in-requires
 turns-in-requires c κs =
     let f = c.before.before.before in
-    let s = start f.before in
+    let s = f.before in
     (stored_of s.args.c s.args.samples.now (levels s) (sound f).0, (sound f).1.a_most, (sound f).1.b_most)
 
 returns-3 : tie.Need-returns
 unfolding encoder_of
-returns-3 c = given_is _ (decided c.before.before false c.before.if-beyond.false 0 refl) refl c.turns_in.ensures
+returns-3 c = given_is _ (decided c.before.before false c.if-beyond.false 0 refl) refl c.turns_in.ensures
 
 pub encoder_spec : {M : Type 1} → statement M
 encoder_spec = tie.close (tie.spec refusal-requires returns cast-pair-mask cast-pair-mask-2 pair-mask-requires beyond-requires returns-2 turns-in-requires returns-3)

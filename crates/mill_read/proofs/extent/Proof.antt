@@ -33,7 +33,7 @@ module _ (f : tie.After-refusal-number) where
 
 -- the origin and len are small
 small : (o : tie.After-origin-base) → (o.origin-base.result ≤ most_samples) × ((s o.before.before).args.c.len ≤ most_samples)
-small o = let t = let_pass o.before.before o.before.if-number-ne0.false in (omega (arith, t.origin_small, o.origin-base.ensures), omega (arith, t.sound.len_most, t.sound.capacity_most))
+small o = let t = let_pass o.before.before o.if-number-ne0.false in (omega (arith, t.origin_small, o.origin-base.ensures), omega (arith, t.sound.len_most, t.sound.capacity_most))
 
 -- a place up to len, counted
 counts : (o : tie.After-origin-base) (i : ℕ) → i ≤ (s o.before.before).args.c.len → (r : ℤ) → r ≡ mill_place o.origin-base.result i → to_z w64 (of_z w64 r) ≡ mill_place (origin_in (s o.before.before).args.c) i
@@ -43,7 +43,7 @@ refusal-requires : tie.Need-refusal-number-requires
 refusal-requires c κs = search rules
 
 returns : tie.Need-returns-then-number-ne0
-returns c = refused_is _ c.before.refusal-number.ensures c.if-number-ne0.true
+returns c = refused_is _ c.refusal-number.ensures c.if-number-ne0.true
 
 origin-requires : tie.Need-origin-base-requires
 origin-requires c κs = search rules
@@ -61,9 +61,9 @@ returns-2 : tie.Need-returns
 returns-2 c =
     let o = c.before.before.before in
     let f = o.before.before in
-    let first = counts o 0 (omega arith) c.before.before.counted_from.result c.before.before.counted_from.ensures in
-    let end = counts o (s f).args.c.len (omega arith) c.before.counted_from-2.result c.before.counted_from-2.ensures in
-    given_is _ f.refusal-number.ensures o.before.if-number-ne0.false (λ i. record { first = first i; end = end i; marked = c.has_mark.ensures i })
+    let first = counts o 0 (omega arith) c.counted_from.result c.counted_from.ensures in
+    let end = counts o (s f).args.c.len (omega arith) c.counted_from-2.result c.counted_from-2.ensures in
+    given_is _ f.refusal-number.ensures o.if-number-ne0.false (λ i. record { first = first i; end = end i; marked = c.has_mark.ensures i })
 
 pub extent_spec : {M : Type 1} → statement M
 extent_spec =

@@ -61,7 +61,7 @@ origin-requires : tie.Need-origin-requires
 origin-requires c κs = search rules
 
 place-at-requires : tie.Need-place_at-i-requires
-place-at-requires c κs = first_placed (let_pass c.before.before c.before.if-number-ne0.false) _ c.origin.ensures
+place-at-requires c κs = first_placed (let_pass c.before.before c.if-number-ne0.false) _ c.origin.ensures
 
 get-requires : tie.Need-get-requires
 get-requires c κs = search rules
@@ -72,13 +72,13 @@ granted-requires c κs = search rules
 returns-2 : tie.Need-returns
 returns-2 c =
     let f = c.before.before.before.before.before in
-    let a = f.before.before.before.before.before.before.args in
-    let i-is = c.before.before.place_at-i.ensures ∙ ap (λ (o : ℕ). place_at o (p f)) c.before.before.before.origin.ensures in
+    let a = f.args in
+    let i-is = c.place_at-i.ensures ∙ ap (λ (o : ℕ). place_at o (p f)) c.origin.ensures in
     let grant : ℕ → ℕ = λ v. bit_and v a.grant in
     answered f _
     (c.granted.ensures
-    ∙ ap (seen grant) (c.before.get.ensures ∙ ap (λ (i : ℕ). unless (get_refusal (st f) (lent f) i) (sample_of a.c.unitsize a.samples.now i)) i-is)
-    ∙ under_given (st f) (lent f) false (p f) (pos 0) f.refusal-number.ensures (own f) grant (sample_of a.c.unitsize a.samples.now (place_at (origin_in a.c) (p f))) c.before.before.before.before.if-number-ne0.false)
+    ∙ ap (seen grant) (c.get.ensures ∙ ap (λ (i : ℕ). unless (get_refusal (st f) (lent f) i) (sample_of a.c.unitsize a.samples.now i)) i-is)
+    ∙ under_given (st f) (lent f) false (p f) (pos 0) f.refusal-number.ensures (own f) grant (sample_of a.c.unitsize a.samples.now (place_at (origin_in a.c) (p f))) c.if-number-ne0.false)
 
 pub get_spec : {M : Type 1} → statement M
 get_spec =

@@ -61,7 +61,7 @@ module _ (g : tie.After-samples-copied) where
   service : Copies (st called) (s called).args.bytes.now (levels called) i (s called).args.count (s called).args.output.now g.samples-copied.result left
   service =
       subst (λ (x : ℕ). Copies (st called) (s called).args.bytes.now (levels called) x (s called).args.count (s called).args.output.now g.samples-copied.result left)
-      (g.before.before.place_at-i.ensures ∙ ap (λ (o : ℕ). place_at o (p called)) g.before.before.before.origin.ensures)
+      (g.place_at-i.ensures ∙ ap (λ (o : ℕ). place_at o (p called)) g.origin.ensures)
       g.samples-copied.ensures
 
 refusal-requires : tie.Need-refusal-number-requires
@@ -70,14 +70,14 @@ refusal-requires c κs = search rules
 returns : tie.Need-returns-then-number-ne0
 returns c =
     let f = c.before in
-    let a = f.before.before.before.before.before.before.before.args in
+    let a = f.args in
     answered f _ _ (copies_refused (st f) a.bytes.now (levels f) a.grant (p f) a.count a.output.now f.refusal-number.ensures c.if-number-ne0.true)
 
 origin-requires : tie.Need-origin-requires
 origin-requires c κs = search rules
 
 place-at-requires : tie.Need-place_at-i-requires
-place-at-requires c κs = first_placed (let_pass c.before.before c.before.if-number-ne0.false) _ c.origin.ensures
+place-at-requires c κs = first_placed (let_pass c.before.before c.if-number-ne0.false) _ c.origin.ensures
 
 samples-requires : tie.Need-samples-copied-requires
 samples-requires c κs = search rules
@@ -95,26 +95,25 @@ returns-2 : tie.Need-returns-in_default
 returns-2 c =
     let g = c.before.before.before.before in
     let f = called g in
-    let a = f.before.before.before.before.before.before.before.args in
-    answered f _ _ (copies_none (st f) a.bytes.now (levels f) a.grant (p f) a.count a.output.now f.refusal-number.ensures g.before.before.before.before.if-number-ne0.false g.samples-copied.result (left g) (service g) _ c.enum_told-1.given.1)
+    let a = f.args in
+    answered f _ _ (copies_none (st f) a.bytes.now (levels f) a.grant (p f) a.count a.output.now f.refusal-number.ensures g.if-number-ne0.false g.samples-copied.result (left g) (service g) _ c.in_default.is)
 
 cut-down-requires : tie.Need-cut_down-requires
 cut-down-requires c κs =
     let g = c.before.before.before.before.before.before in
     let f = called g in
-    let a = f.before.before.before.before.before.before.before.args in
-    omega (arith, copies_room (st f) a.bytes.now (levels f) a.grant (p f) a.count a.output.now f.refusal-number.ensures g.before.before.before.before.if-number-ne0.false g.samples-copied.result (left g) (service g) _ c.before.before.copied-1.given.1)
+    let a = f.args in
+    omega (arith, copies_room (st f) a.bytes.now (levels f) a.grant (p f) a.count a.output.now f.refusal-number.ensures g.if-number-ne0.false g.samples-copied.result (left g) (service g) _ c.in-Count.is)
 
 same-length-2 : tie.Need-shape_of-output
 same-length-2 c = search rules
 
 returns-3 : tie.Need-returns
 returns-3 c =
-    let m = c.before.before.before.before.before in
-    let g = m.before.before.before.before in
+    let g = c.before.before.before.before in
     let f = called g in
-    let a = f.before.before.before.before.before.before.before.args in
-    answered f _ _ (copies_count (st f) a.bytes.now (levels f) a.grant (p f) a.count a.output.now f.refusal-number.ensures g.before.before.before.before.if-number-ne0.false g.samples-copied.result (left g) (service g) _ m.copied-1.given.1 _ c.before.before.cut_down.ensures)
+    let a = f.args in
+    answered f _ _ (copies_count (st f) a.bytes.now (levels f) a.grant (p f) a.count a.output.now f.refusal-number.ensures g.if-number-ne0.false g.samples-copied.result (left g) (service g) _ c.in-Count.is _ c.cut_down.ensures)
 
 pub samples_spec : {M : Type 1} → statement M
 samples_spec =

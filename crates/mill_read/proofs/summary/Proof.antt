@@ -69,28 +69,27 @@ origin-requires : tie.Need-origin-base-requires
 origin-requires c κs = search rules
 
 place-at-requires : tie.Need-place_at-i-requires
-place-at-requires c κs = first_placed (let_pass c.before.before c.before.if-number-ne0.false) _ c.origin-base.ensures
+place-at-requires c κs = first_placed (let_pass c.before.before c.if-number-ne0.false) _ c.origin-base.ensures
 
 place-at-requires-2 : tie.Need-place_at-j-requires
-place-at-requires-2 c κs = let o = c.before in second_placed (let_pass o.before.before o.before.if-number-ne0.false) _ o.origin-base.ensures
+place-at-requires-2 c κs = second_placed (let_pass c.before.before c.if-number-ne0.false) _ c.origin-base.ensures
 
 summed-in-requires : tie.Need-summed_in-requires
-summed-in-requires c κs = let o = c.before.before in (let_pass o.before.before o.before.if-number-ne0.false).sound
+summed-in-requires c κs = (let_pass c.before.before c.if-number-ne0.false).sound
 
 cut-summed-requires : tie.Need-cut_summed-requires
 cut-summed-requires c κs = search rules
 
 returns-2 : tie.Need-returns
 returns-2 c =
-    let o = c.before.before.before.before in
-    let f = o.before.before in
-    let a = f.before.before.before.before.before.before.args in
-    let i-is = c.before.before.before.place_at-i.ensures ∙ ap (λ (x : ℕ). place_at x (p f)) o.origin-base.ensures in
-    let j-is = c.before.before.place_at-j.ensures ∙ ap (λ (x : ℕ). place_at x (q f)) o.origin-base.ensures in
+    let f = c.before.before in
+    let a = f.args in
+    let i-is = c.place_at-i.ensures ∙ ap (λ (x : ℕ). place_at x (p f)) c.origin-base.ensures in
+    let j-is = c.place_at-j.ensures ∙ ap (λ (x : ℕ). place_at x (q f)) c.origin-base.ensures in
     answered f _
     (c.cut_summed.ensures
-    ∙ ap (seen (cut_summary a.grant)) (c.before.summed_in.ensures ∙ ap₂ (λ (i j : ℕ). given (summed_at f i j)) i-is j-is ∙ given_under (st f) (lent f) false (p f) (q f) f.refusal-number.ensures (summed_at f (place_at (origin_in a.c) (p f)) (place_at (origin_in a.c) (q f))) o.before.if-number-ne0.false)
-    ∙ under_given (st f) (lent f) false (p f) (q f) f.refusal-number.ensures [] (cut_summary a.grant) (summed_at f (place_at (origin_in a.c) (p f)) (place_at (origin_in a.c) (q f))) o.before.if-number-ne0.false)
+    ∙ ap (seen (cut_summary a.grant)) (c.summed_in.ensures ∙ ap₂ (λ (i j : ℕ). given (summed_at f i j)) i-is j-is ∙ given_under (st f) (lent f) false (p f) (q f) f.refusal-number.ensures (summed_at f (place_at (origin_in a.c) (p f)) (place_at (origin_in a.c) (q f))) c.if-number-ne0.false)
+    ∙ under_given (st f) (lent f) false (p f) (q f) f.refusal-number.ensures [] (cut_summary a.grant) (summed_at f (place_at (origin_in a.c) (p f)) (place_at (origin_in a.c) (q f))) c.if-number-ne0.false)
 
 pub summary_spec : {M : Type 1} → statement M
 summary_spec =

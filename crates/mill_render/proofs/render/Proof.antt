@@ -42,16 +42,15 @@ module _ (f : tie.After-refusal-n) where
 
 -- the number that view_refusal gave is the call's
 number_is : (v : tie.After-view_refusal-k) → let f = v.before.before in v.view_refusal-k.result ≡ first_of (store_rows (st f) (lent f) (own f))
-number_is v = let f = v.before.before in rows_decide (st f) (lent f) (own f) f.refusal-n.ensures v.before.if-n-ne0.false _ v.view_refusal-k.ensures
+number_is v = let f = v.before.before in rows_decide (st f) (lent f) (own f) f.refusal-n.ensures v.if-n-ne0.false _ v.view_refusal-k.ensures
 
 -- past it the view can be drawn
 ready : (c : tie.After-origin-from) → let f = c.before.before.before.before in Drawable (st f) (lent f) c.origin-from.result (s f).args.width (length (s f).args.output.now)
 ready c =
-    let v = c.before.before in
-    let f = v.before.before in
+    let f = c.before.before in
     let a = (s f).args in
-    drawable (st f) (lent f) (view_as a.view) a.width (length a.output.now) (let_in f.refusal-n.ensures v.before.if-n-ne0.false) c.origin-from.result
-    (omega (arith, c.origin-from.ensures, origin_stored (st f) (lent f) f.refusal-n.ensures v.before.if-n-ne0.false)) (sym v.view_refusal-k.ensures ∙ c.before.if-k-ne0.false)
+    drawable (st f) (lent f) (view_as a.view) a.width (length a.output.now) (let_in f.refusal-n.ensures c.if-n-ne0.false) c.origin-from.result
+    (omega (arith, c.origin-from.ensures, origin_stored (st f) (lent f) f.refusal-n.ensures c.if-n-ne0.false)) (sym c.view_refusal-k.ensures ∙ c.if-k-ne0.false)
 
 refusal-requires : tie.Need-refusal-n-requires
 refusal-requires c κs = search rules
@@ -82,22 +81,19 @@ mul-cut-down c = omega (arith, (ready c.before.before.before.before.before).most
 
 cut-down-requires : tie.Need-cut_down-requires
 cut-down-requires c κs =
-    let d = c.before.before.before in
-    let o = d.before.before in
+    let o = c.before.before in
     let f = o.before.before.before.before in
     let a = (s f).args in
-    drawn_room a.grant (node_at f) (range_from o.origin-from.result (view_as a.view) a.c.len) a.width a.output.now _ (ready o).room d.draw.ensures
+    drawn_room a.grant (node_at f) (range_from o.origin-from.result (view_as a.view) a.c.len) a.width a.output.now _ (ready o).room c.draw.ensures
 
 same_length : tie.Need-shape_of-output
 same_length c = search rules
 
 returns-3 : tie.Need-returns
 returns-3 c =
-    let d = c.before.before.before.before.before.before in
-    let o = d.before.before in
-    let f = o.before.before.before.before in
+    let f = c.before.before.before.before in
     let a = (s f).args in
-    draws_done (node_at f) (st f) (lent f) a.grant (view_as a.view) a.width a.output.now (number_is o.before.before) o.before.if-k-ne0.false o.origin-from.result _ _ o.origin-from.ensures d.draw.ensures c.before.before.cut_down.ensures
+    draws_done (node_at f) (st f) (lent f) a.grant (view_as a.view) a.width a.output.now (number_is c.before.before) c.if-k-ne0.false c.origin-from.result _ _ c.origin-from.ensures c.draw.ensures c.cut_down.ensures
 
 pub render_spec : {M : Type 1} → statement M
 render_spec = tie.close (tie.spec refusal-requires returns view-refusal-requires returns-2 origin-requires draw-requires mul-cut-down cut-down-requires same_length returns-3)

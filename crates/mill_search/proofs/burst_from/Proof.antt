@@ -24,37 +24,35 @@ enum-known-found-2 c = search rules
 
 counted-from-requires : tie.Need-counted_from-requires
 counted-from-requires c κs =
-    let s = c.before.before.before in
-    let small = s.requires.1 _ _ (ap burst_as c.before.found-in-At-1.given.1) in
-    (omega (arith, s.requires.0), omega (arith, small.0, small.1))
+    let small = c.requires.1 _ _ (ap burst_as c.in-At.is) in
+    (omega (arith, c.requires.0), omega (arith, small.0, small.1))
 
 counted-from-requires-2 : tie.Need-counted_from-requires-in-At
 counted-from-requires-2 c κs =
-    let s = c.before.before.before.before in
-    let small = s.requires.1 _ _ (ap burst_as c.before.before.found-in-At-1.given.1) in
-    (omega (arith, s.requires.0), omega (arith, small.0, small.1))
+    let small = c.requires.1 _ _ (ap burst_as c.in-At.is) in
+    (omega (arith, c.requires.0), omega (arith, small.0, small.1))
 
 enum-known-found-3 : tie.Need-enum_known-found-in-Nothing-1
 enum-known-found-3 c = search rules
 
 returns : tie.Need-returns-in-Refused
 unfolding shown
-returns c = sym (ap (shown c.before.before.before) c.before.found-1.given.1)
+returns c = sym (ap (shown c.before.before.before) c.in-Refused.is)
 
 returns-2 : tie.Need-returns-in-At
 unfolding shown
 returns-2 c =
     let s = c.before.before.before.before.before in
-    let b = c.before.before.before.found-in-At-1.given.0.0 in
-    let b_is = c.before.before.before.found-in-At-1.given.1 in
+    let b = c.in-At.b in
+    let b_is = c.in-At.is in
     let small = s.requires.1 _ _ (ap burst_as b_is) in
-    let first = counted_back s.args.from b.first s.requires.0 small.0 c.before.counted_from.result c.before.counted_from.ensures in
+    let first = counted_back s.args.from b.first s.requires.0 small.0 c.counted_from.result c.counted_from.ensures in
     let last = counted_back s.args.from b.last s.requires.0 small.1 c.counted_from-in-At.result c.counted_from-in-At.ensures in
-    (λ i. given (record { found = some (record { first = first i; last = last i; jumps_end = b.jumps_end; jumps_start = b.jumps_start }); steps = c.before.before.before.found-in-At-1.given.0.1.0 })) ∙ sym (ap (shown s) b_is)
+    (λ i. given (record { found = some (record { first = first i; last = last i; jumps_end = b.jumps_end; jumps_start = b.jumps_start }); steps = c.in-At.n })) ∙ sym (ap (shown s) b_is)
 
 returns-3 : tie.Need-returns-in-Nothing
 unfolding shown
-returns-3 c = sym (ap (shown c.before.before.before) c.before.found-in-Nothing-1.given.1)
+returns-3 c = sym (ap (shown c.before.before.before) c.in-Nothing.is)
 
 pub burst_from_spec : {M : Type 1} → statement M
 burst_from_spec =

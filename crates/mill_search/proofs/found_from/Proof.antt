@@ -21,7 +21,7 @@ enum-known-place : tie.Need-enum_known-place
 enum-known-place c = search rules
 
 counted-from-requires : tie.Need-counted_from-requires
-counted-from-requires c κs = let s = c.before.before.before in (omega (arith, s.requires.0), omega (arith, s.requires.1 _ _ (ap (λ (p : Place). given (place_of p)) c.before.place-1.given.1)))
+counted-from-requires c κs = (omega (arith, c.requires.0), omega (arith, c.requires.1 _ _ (ap (λ (p : Place). given (place_of p)) c.in-At.is)))
 
 enum-known-place-2 : tie.Need-enum_known-place-in-Nothing-1
 enum-known-place-2 c = search rules
@@ -30,12 +30,12 @@ returns : tie.Need-returns-in-At
 unfolding shown
 returns c =
     let s = c.before.before.before.before in
-    let i-is = c.before.before.place-1.given.1 in
-    ap (λ (z : ℤ). given (record { found = some z; steps = c.before.before.place-1.given.0.1.0 })) (counted_back s.args.from c.before.before.place-1.given.0.0 s.requires.0 (s.requires.1 _ _ (ap (λ (p : Place). given (place_of p)) i-is)) c.counted_from.result c.counted_from.ensures) ∙ sym (ap (shown s) i-is)
+    let i-is = c.in-At.is in
+    ap (λ (z : ℤ). given (record { found = some z; steps = c.in-At.n })) (counted_back s.args.from c.in-At.i s.requires.0 (s.requires.1 _ _ (ap (λ (p : Place). given (place_of p)) i-is)) c.counted_from.result c.counted_from.ensures) ∙ sym (ap (shown s) i-is)
 
 returns-2 : tie.Need-returns-in-Nothing
 unfolding shown
-returns-2 c = sym (ap (shown c.before.before.before) c.before.place-in-Nothing-1.given.1)
+returns-2 c = sym (ap (shown c.before.before.before) c.in-Nothing.is)
 
 pub found_from_spec : {M : Type 1} → statement M
 found_from_spec = tie.close (tie.spec enum-known-place counted-from-requires enum-known-place-2 returns returns-2)

@@ -13,8 +13,7 @@ change-requires c κs = search rules
 
 returns : tie.Need-returns
 returns c =
-    let s = c.before.before.before.before.before.before in
-    c.change.ensures ∙ ap (λ (z : ℤ). previous_of s.args.c s.args.samples.now (level_of s.args.l1.now s.args.l2.now s.args.l3.now s.args.l4.now) s.args.grant s.args.mask z) (read_is s.args.from s.ranges.from)
+    c.change.ensures ∙ ap (λ (z : ℤ). previous_of c.args.c c.args.samples.now (level_of c.args.l1.now c.args.l2.now c.args.l3.now c.args.l4.now) c.args.grant c.args.mask z) (read_is c.args.from c.ranges.from)
 
 pub prev_change_spec : {M : Type 1} → statement M
 prev_change_spec = tie.close (tie.spec change-requires returns)

@@ -6,10 +6,10 @@ use Rattle.node.proofs.border.Statement.{statement}
 use Rattle.node.proofs.border.Tie as tie
 
 returns : tie.Need-returns-then-x-y
-returns c = let a = c.before.args in rw (eq-eqb a.x a.y c.if-x-y.true) (refl, omega arith)
+returns c = let a = c.args in rw (eq-eqb a.x a.y c.if-x-y.true) (refl, omega arith)
 
 returns-2 : tie.Need-returns-else-x-y
-returns-2 c = let a = c.before.args in rw (ne_eqb a.x a.y c.if-x-y.false) (refl, omega arith)
+returns-2 c = let a = c.args in rw (ne_eqb a.x a.y c.if-x-y.false) (refl, omega arith)
 
 pub border_spec : {M : Type 1} → statement M
 border_spec = tie.close (tie.spec returns returns-2)

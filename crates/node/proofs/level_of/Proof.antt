@@ -10,15 +10,15 @@ returns c = simp (le-leb _ _ c.if-level-le1.true)
 
 returns-2 : tie.Need-returns-then-level-eq2
 unfolding level_of
-returns-2 c = simp (lt-leb _ _ c.before.if-level-le1.false, eq-eqb _ _ c.if-level-eq2.true)
+returns-2 c = simp (lt-leb _ _ c.if-level-le1.false, eq-eqb _ _ c.if-level-eq2.true)
 
 returns-3 : tie.Need-returns-then-level-eq3
 unfolding level_of
-returns-3 c = simp (lt-leb _ _ c.before.before.if-level-le1.false, ne_eqb _ _ c.before.if-level-eq2.false, eq-eqb _ _ c.if-level-eq3.true)
+returns-3 c = simp (lt-leb _ _ c.if-level-le1.false, ne_eqb _ _ c.if-level-eq2.false, eq-eqb _ _ c.if-level-eq3.true)
 
 returns-4 : tie.Need-returns
 unfolding level_of
-returns-4 c = simp (lt-leb _ _ c.before.before.if-level-le1.false, ne_eqb _ _ c.before.if-level-eq2.false, ne_eqb _ _ c.if-level-eq3.false)
+returns-4 c = simp (lt-leb _ _ c.if-level-le1.false, ne_eqb _ _ c.if-level-eq2.false, ne_eqb _ _ c.if-level-eq3.false)
 
 pub level_of_spec : {M : Type 1} → statement M
 level_of_spec = tie.close (tie.spec returns returns-2 returns-3 returns-4)

@@ -57,7 +57,7 @@ count-of-requires c κs = search rules
 
 returns : tie.Need-returns
 returns c =
-    let a = c.before.before.before.before.before.before.before.args in
+    let a = c.args in
     let level = a.level.now in
     let at = a.j * node_size in
     ap (λ (n : ℕ). record { first = get_or level at 0; last = get_or level (at + 1) 0; toggles = get_or level (at + 2) 0; count = n }) c.count_of.ensures

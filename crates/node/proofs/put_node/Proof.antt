@@ -88,8 +88,8 @@ same_length c = search rules
 returns : tie.Need-returns
 unfolding put_node
 returns c =
-    let a = c.before.before.before.args in
-    five a.level.now (a.j * node_size) a.n.first a.n.last a.n.mask _ _ _ _ c.before.low_of.ensures c.high_of.ensures
+    let a = c.args in
+    five a.level.now (a.j * node_size) a.n.first a.n.last a.n.mask _ _ _ _ c.low_of.ensures c.high_of.ensures
 
 pub put_node_spec : {M : Type 1} → statement M
 put_node_spec =

@@ -29,8 +29,8 @@ abbrev levels : Start → ℕ → List ℕ
 levels s = level_of s.args.l1.now s.args.l2.now s.args.l3.now s.args.l4.now
 
 -- a run stays within the chunk
-reach : (c : tie.After-take-t invariant-loop decreases-loop) → let p = c.before.before.loop-pos in c.take-t.result.count * c.take-t.result.s ≤ (start_at c.before.before).args.hi - p.pos
-reach c = let s = start_at c.before.before in run_reach s.args.unitsize s.args.base s.args.hi s.args.part.now (levels s) s.args.mask c.before.loop-pos-test.true c.take-t.ensures
+reach : (c : tie.After-take-t invariant-loop decreases-loop) → let p = c.loop-pos in c.take-t.result.count * c.take-t.result.s ≤ (start_at c.before.before).args.hi - p.pos
+reach c = let s = start_at c.before.before in run_reach s.args.unitsize s.args.base s.args.hi s.args.part.now (levels s) s.args.mask c.loop-pos-test.true c.take-t.ensures
 
 loop-holds : tie.Need-loop-pos-init invariant-loop decreases-loop
 loop-holds c = (search rules, search rules, search rules, left_starts _ _ _ _ _ _ _ _)
@@ -38,42 +38,42 @@ loop-holds c = (search rules, search rules, search rules, left_starts _ _ _ _ _ 
 take-requires : tie.Need-take-t-requires invariant-loop decreases-loop
 take-requires c κs =
     let s = start_at c.before in
-    let x = c.before.loop-pos.invariant in
-    (s.pre.0, omega (arith, s.pre.1, x.0), x.1, omega (arith, c.loop-pos-test.true), x.2)
+    let x = c.loop-pos.invariant in
+    (s.requires.0, omega (arith, s.requires.1, x.0), x.1, omega (arith, c.loop-pos-test.true), x.2)
 
 mul-pos : tie.Need-overflow_mul-pos invariant-loop decreases-loop
 mul-pos c = record { fits = omega (arith, reach c.before, (start_at c.before.before.before).ranges.hi.fits) }
 
 add-pos : tie.Need-overflow_add-pos invariant-loop decreases-loop
-add-pos c = record { fits = omega (arith, reach c.before, c.before.before.before.loop-pos.invariant.1, (start_at c.before.before.before).ranges.hi.fits) }
+add-pos c = record { fits = omega (arith, reach c.before, c.loop-pos.invariant.1, (start_at c.before.before.before).ranges.hi.fits) }
 
 returns : tie.Need-returns-then-t-le1 invariant-loop decreases-loop
 returns c =
     let t = c.before.before.before.before.before in
-    let p = t.before.before.loop-pos in
+    let p = t.loop-pos in
     let s = start_at t.before.before in (
-      left_stops s.args.unitsize s.args.base s.args.hi s.args.part.now (levels s) s.args.mask t.before.loop-pos-test.true t.take-t.ensures p.invariant.3 c.before.before.if-t.true (omega (arith, c.if-t-le1.true)),
+      left_stops s.args.unitsize s.args.base s.args.hi s.args.part.now (levels s) s.args.mask t.loop-pos-test.true t.take-t.ensures p.invariant.3 c.if-t.true (omega (arith, c.if-t-le1.true)),
       omega (arith, p.invariant.0),
       omega (arith, p.invariant.1, reach t),
     )
 
 sub-maxl : tie.Need-overflow_sub-maxl invariant-loop decreases-loop
-sub-maxl c = omega (arith, c.before.if-t-le1.false)
+sub-maxl c = omega (arith, c.if-t-le1.false)
 
 loop-less : tie.Need-loop-pos-smaller-then-t invariant-loop decreases-loop
 loop-less c =
     let t = c.before.before.before.before.before.before in
-    omega (arith, reach t, t.take-t.ensures.best.below, c.before.if-t-le1.false)
+    omega (arith, reach t, t.take-t.ensures.best.below, c.if-t-le1.false)
 
 loop-again : tie.Need-loop-pos-preserved-then-t invariant-loop decreases-loop
 loop-again c =
     let t = c.before.before.before.before.before.before in
-    let p = t.before.before.loop-pos in
+    let p = t.loop-pos in
     let s = start_at t.before.before in (
       omega (arith, p.invariant.0),
       omega (arith, p.invariant.1, reach t),
       omega (arith, p.invariant.2, t.take-t.ensures.best.below),
-      left_lower s.args.unitsize s.args.base s.args.hi s.args.part.now (levels s) s.args.mask t.before.loop-pos-test.true t.take-t.ensures p.invariant.3 c.before.before.before.if-t.true (λ h. omega (arith, h, c.before.if-t-le1.false)),
+      left_lower s.args.unitsize s.args.base s.args.hi s.args.part.now (levels s) s.args.mask t.loop-pos-test.true t.take-t.ensures p.invariant.3 c.if-t.true (λ h. omega (arith, h, c.if-t-le1.false)),
     )
 
 loop-less-2 : tie.Need-loop-pos-smaller invariant-loop decreases-loop
@@ -83,23 +83,23 @@ loop-less-2 c =
     omega (
       arith,
       reach t,
-      run_moves s.args.unitsize s.args.base s.args.hi s.args.part.now (levels s) s.args.mask t.before.loop-pos-test.true t.take-t.ensures
-          (omega (arith, c.if-t.false, run_some s.args.unitsize s.args.base s.args.hi s.args.part.now (levels s) s.args.mask t.before.loop-pos-test.true t.take-t.ensures)),
+      run_moves s.args.unitsize s.args.base s.args.hi s.args.part.now (levels s) s.args.mask t.loop-pos-test.true t.take-t.ensures
+          (omega (arith, c.if-t.false, run_some s.args.unitsize s.args.base s.args.hi s.args.part.now (levels s) s.args.mask t.loop-pos-test.true t.take-t.ensures)),
     )
 
 loop-again-2 : tie.Need-loop-pos-preserved invariant-loop decreases-loop
 loop-again-2 c =
     let t = c.before.before.before in
-    let p = t.before.before.loop-pos in
+    let p = t.loop-pos in
     let s = start_at t.before.before in (
       omega (arith, p.invariant.0),
       omega (arith, p.invariant.1, reach t),
       p.invariant.2,
-      left_past s.args.unitsize s.args.base s.args.hi s.args.part.now (levels s) s.args.mask t.before.loop-pos-test.true t.take-t.ensures p.invariant.3 (λ h. omega (arith, h, c.if-t.false)),
+      left_past s.args.unitsize s.args.base s.args.hi s.args.part.now (levels s) s.args.mask t.loop-pos-test.true t.take-t.ensures p.invariant.3 (λ h. omega (arith, h, c.if-t.false)),
     )
 
 returns-2 : tie.Need-returns invariant-loop decreases-loop
-returns-2 c = let x = c.before.loop-pos.invariant in (left_ends _ _ _ _ _ _ x.3 (omega (arith, c.loop-pos-test.false)), x.0, x.1)
+returns-2 c = let x = c.loop-pos.invariant in (left_ends _ _ _ _ _ _ x.3 (omega (arith, c.loop-pos-test.false)), x.0, x.1)
 
 pub pass_spec : {M : Type 1} → statement M
 pass_spec =

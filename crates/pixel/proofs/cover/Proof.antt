@@ -13,7 +13,7 @@ use Rattle.pixel.proofs.cover.Tie as tie
 
 returns : tie.Need-returns-then-len-eq0
 returns c =
-    let s = c.before.args in
+    let s = c.args in
     sym (ap (λ (t : Bool). cond {A = Option Range} t none (ended_by s.a s.b s.len)) (eq-eqb s.len 0 c.if-len-eq0.true))
 
 enum_told : tie.Need-enum_told-1
@@ -37,21 +37,18 @@ ended a b len n e h = h ∙ ap (λ (q : Place). ended_by a q len) (sym e) ∙ sy
 
 returns-2 : tie.Need-returns-in-Below
 returns-2 c =
-    let e = c.before.before in
-    let s = e.before.args in
-    ended s.a s.b s.len e.if-len-eq0.false c.enum_told-1.given.1 refl
+    let s = c.args in
+    ended s.a s.b s.len c.if-len-eq0.false c.in-Below.is refl
 
 returns-3 : tie.Need-returns-in-At
 returns-3 c =
-    let e = c.before.before.before.before in
-    let s = e.before.args in
-    ended s.a s.b s.len e.if-len-eq0.false c.before.before.b-1.given.1 c.spanned.ensures
+    let s = c.args in
+    ended s.a s.b s.len c.if-len-eq0.false c.in-At.is c.spanned.ensures
 
 returns-4 : tie.Need-returns-in-Beyond
 returns-4 c =
-    let e = c.before.before.before in
-    let s = e.before.args in
-    ended s.a s.b s.len e.if-len-eq0.false c.before.enum_told-in-Beyond-1.given.1 c.spanned-in-Beyond.ensures
+    let s = c.args in
+    ended s.a s.b s.len c.if-len-eq0.false c.in-Beyond.is c.spanned-in-Beyond.ensures
 
 pub cover_spec : {M : Type 1} → statement M
 cover_spec = tie.close (tie.spec returns enum_told enum-known-b spanned-requires enum-told-2 spanned-requires-2 returns-2 returns-3 returns-4)

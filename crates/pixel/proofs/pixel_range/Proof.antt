@@ -25,12 +25,12 @@ cover-requires c κs = search rules
 
 returns : tie.Need-returns
 returns c =
-    let s = c.before.before.before.args in
+    let s = c.args in
     let a = moved (pos s.origin) (pixel_edge (view_as s.v) s.px) in
     let b = moved (pos s.origin) (pixel_edge (view_as s.v) (s.px + 1)) in
     c.cover.ensures
-    ∙ ap (λ (p : Place). cover_by p c.before.edge_in-b.result s.len) c.before.before.edge_in-a.ensures
-    ∙ ap (λ (p : Place). cover_by (place_of a s.len) p s.len) c.before.edge_in-b.ensures
+    ∙ ap (λ (p : Place). cover_by p c.edge_in-b.result s.len) c.edge_in-a.ensures
+    ∙ ap (λ (p : Place). cover_by (place_of a s.len) p s.len) c.edge_in-b.ensures
     ∙ covers a b s.len
 
 pub pixel_range_spec : {M : Type 1} → statement M

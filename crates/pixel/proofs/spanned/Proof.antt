@@ -33,19 +33,18 @@ ending n e = ap (λ (k : ℕ). some (record { from = n; to = k })) e
 
 returns : tie.Need-returns-in-Below
 returns c =
-    let s = c.before.before.before.args in
-    from s.b s.len c.before.enum_told-1.given.1 (ending 0 c.end_of.ensures)
+    let s = c.args in
+    from s.b s.len c.in-Below.is (ending 0 c.end_of.ensures)
 
 returns-2 : tie.Need-returns-in-At
 returns-2 c =
-    let e = c.before.before in
-    let s = e.before.before.args in
-    from s.b s.len e.a-1.given.1 (ending e.a-1.given.0.0 c.end_of-in-At.ensures)
+    let s = c.args in
+    from s.b s.len c.in-At.is (ending c.in-At.n c.end_of-in-At.ensures)
 
 returns-3 : tie.Need-returns-in-Beyond
 returns-3 c =
-    let s = c.before.before.args in
-    from s.b s.len c.enum_told-in-Beyond-1.given.1 refl
+    let s = c.args in
+    from s.b s.len c.in-Beyond.is refl
 
 pub spanned_spec : {M : Type 1} → statement M
 spanned_spec = tie.close (tie.spec enum_told end-of-requires enum-known-a end-of-requires-2 enum-told-2 returns returns-2 returns-3)

@@ -18,7 +18,7 @@ cast-sum : tie.Need-overflow_cast-sum invariant-loop decreases-loop
 cast-sum c = search rules
 
 loop-holds : tie.Need-loop-i-init invariant-loop decreases-loop
-loop-holds c = let s = c.before.before in counting_starts _ _ _ _ s.requires.0 (search rules)
+loop-holds c = counting_starts _ _ _ _ c.requires.0 (search rules)
 
 node-in-requires : tie.Need-node_in-m-requires invariant-loop decreases-loop
 node-in-requires c κs = search rules
@@ -37,16 +37,16 @@ loop-less c = search rules
 
 loop-again : tie.Need-loop-i-preserved invariant-loop decreases-loop
 loop-again c =
-    let p = c.before.before.before.loop-i in
-    counting_on _ _ _ _ p.sum _ p.i (as_node c.before.node_in-m.result) _ p.invariant c.before.before.loop-i-test.true c.before.node_in-m.ensures c.changes_to-sum.ensures.0 c.changes_to-sum.ensures.1
+    let p = c.loop-i in
+    counting_on _ _ _ _ p.sum _ p.i (as_node c.node_in-m.result) _ p.invariant c.loop-i-test.true c.node_in-m.ensures c.changes_to-sum.ensures.0 c.changes_to-sum.ensures.1
 
 capped-requires : tie.Need-capped-requires invariant-loop decreases-loop
 capped-requires c κs = search rules
 
 returns : tie.Need-returns invariant-loop decreases-loop
 returns c =
-    let p = c.before.before.loop-i in
-    c.capped.ensures ∙ counting_ends _ _ _ _ p.sum _ p.i p.invariant c.before.loop-i-test.false
+    let p = c.loop-i in
+    c.capped.ensures ∙ counting_ends _ _ _ _ p.sum _ p.i p.invariant c.loop-i-test.false
 
 pub count_on_spec : {M : Type 1} → statement M
 count_on_spec =

@@ -19,9 +19,7 @@ count-on-requires c κs = search rules
 
 returns : tie.Need-returns-then-counted
 returns c =
-    let n = c.before in
-    let s = n.before.before.before in
-    λ _. c.count_on.ensures ∙ ap (λ (x : Node). x.count) (over_all (node_in s.args.below.now) s.args.a s.args.b _ s.requires.0 n.node_in.ensures)
+    λ _. c.count_on.ensures ∙ ap (λ (x : Node). x.count) (over_all (node_in c.args.below.now) c.args.a c.args.b _ c.requires.0 c.node_in.ensures)
 
 returns-2 : tie.Need-returns
 returns-2 c = λ z. absurd (false≢true (sym c.if-counted.false ∙ z))

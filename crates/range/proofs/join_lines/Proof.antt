@@ -18,9 +18,7 @@ lines-on-requires c κs = search rules
 
 returns : tie.Need-returns
 returns c =
-    let n = c.before in
-    let s = n.before.before in
-    told_on false _ _ _ c.lines_on.ensures (over_all (node_in s.args.below.now) s.args.a s.args.b _ s.requires.0 n.node_in.ensures)
+    told_on false _ _ _ c.lines_on.ensures (over_all (node_in c.args.below.now) c.args.a c.args.b _ c.requires.0 c.node_in.ensures)
 
 pub join_lines_spec : {M : Type 1} → statement M
 join_lines_spec = tie.close (tie.spec node-in-requires add-lines-on lines-on-requires returns)

@@ -16,8 +16,8 @@ with-count-requires c κs = search rules
 
 returns : tie.Need-returns
 returns c = is_told _ _ (record {
-  lines = c.with_count.ensures.0 ∙ c.before.before.lines_on-lines.ensures.lines;
-  count = λ _. c.with_count.ensures.1 ∙ c.before.count_on.ensures;
+  lines = c.with_count.ensures.0 ∙ c.lines_on-lines.ensures.lines;
+  count = λ _. c.with_count.ensures.1 ∙ c.count_on.ensures;
 })
 
 pub join_on_spec : {M : Type 1} → statement M

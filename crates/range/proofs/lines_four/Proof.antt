@@ -33,9 +33,7 @@ join-lines-requires-3 c κs = search rules
 
 add-node-in-3 : tie.Need-overflow_add-i-3
 add-node-in-3 c =
-    let j1 = c.before.before.before.before in
-    let s = j1.before.before.before in
-    record { fits = omega (arith, s.requires, s.ranges) }
+    record { fits = omega (arith, c.requires, c.ranges) }
 
 node-in-requires-4 : tie.Need-node_in-requires-4
 node-in-requires-4 c κs = search rules
@@ -45,15 +43,12 @@ join-lines-requires-4 c κs = search rules
 
 returns : tie.Need-returns
 returns c =
-    let j3 = c.before.before in
-    let j2 = j3.before.before in
-    let j1 = j2.before.before in
-    let a = j1.before.before.before.args in
+    let a = c.args in
     let nodes = node_in a.below.now in
-    let r1 = join_one false (as_node a.n) nodes a.i _ _ j1.before.node_in.ensures j1.join_lines-n1.ensures in
-    let r2 = join_next false (as_node a.n) nodes a.i 1 _ _ _ r1 j2.before.node_in-2.ensures j2.join_lines-n2.ensures in
-    let r3 = join_next false (as_node a.n) nodes a.i 2 _ _ _ r2 j3.before.node_in-3.ensures j3.join_lines-n3.ensures in
-    join_next false (as_node a.n) nodes a.i 3 _ _ _ r3 c.before.node_in-4.ensures c.join_lines.ensures
+    let r1 = join_one false (as_node a.n) nodes a.i _ _ c.node_in.ensures c.join_lines-n1.ensures in
+    let r2 = join_next false (as_node a.n) nodes a.i 1 _ _ _ r1 c.node_in-2.ensures c.join_lines-n2.ensures in
+    let r3 = join_next false (as_node a.n) nodes a.i 2 _ _ _ r2 c.node_in-3.ensures c.join_lines-n3.ensures in
+    join_next false (as_node a.n) nodes a.i 3 _ _ _ r3 c.node_in-4.ensures c.join_lines.ensures
 
 pub lines_four_spec : {M : Type 1} → statement M
 lines_four_spec =

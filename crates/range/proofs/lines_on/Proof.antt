@@ -16,7 +16,7 @@ abbrev decreases-loop : tie.decreases-loop-i
 decreases-loop below from b acc₀ i₀ acc i = b - i
 
 loop-holds : tie.Need-loop-i-init invariant-loop decreases-loop
-loop-holds c = joining_starts _ _ _ _ _ c.before.requires.0
+loop-holds c = joining_starts _ _ _ _ _ c.requires.0
 
 add-loop : tie.Need-overflow_add-i invariant-loop decreases-loop
 add-loop c = search rules
@@ -32,14 +32,14 @@ loop-less c = search rules
 
 loop-again : tie.Need-loop-i-preserved invariant-loop decreases-loop
 loop-again c =
-    let p = c.before.before.loop-i in
-    joining_on _ _ _ _ _ (as_node p.acc) p.i p.invariant 4 _ (omega (arith, c.before.loop-i-test.true)) c.lines_four-acc.ensures
+    let p = c.loop-i in
+    joining_on _ _ _ _ _ (as_node p.acc) p.i p.invariant 4 _ (omega (arith, c.loop-i-test.true)) c.lines_four-acc.ensures
 
 lines-rest-requires : tie.Need-lines_rest-requires invariant-loop decreases-loop
 lines-rest-requires c κs = search rules
 
 returns : tie.Need-returns invariant-loop decreases-loop
-returns c = told_trans _ _ _ _ c.lines_rest.ensures c.before.before.loop-i.invariant.same
+returns c = told_trans _ _ _ _ c.lines_rest.ensures c.loop-i.invariant.same
 
 pub lines_on_spec : {M : Type 1} → statement M
 lines_on_spec =

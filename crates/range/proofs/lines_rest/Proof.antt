@@ -15,7 +15,7 @@ abbrev decreases-loop : tie.decreases-loop-i
 decreases-loop below from b acc₀ i₀ acc i = b - i
 
 loop-holds : tie.Need-loop-i-init invariant-loop decreases-loop
-loop-holds c = joining_starts _ _ _ _ _ c.before.requires.0
+loop-holds c = joining_starts _ _ _ _ _ c.requires.0
 
 node-in-requires : tie.Need-node_in-requires invariant-loop decreases-loop
 node-in-requires c κs = search rules
@@ -31,13 +31,13 @@ loop-less c = search rules
 
 loop-again : tie.Need-loop-i-preserved invariant-loop decreases-loop
 loop-again c =
-    let p = c.before.before.before.loop-i in
-    let a = c.before.before.before.before.before.args in
+    let p = c.loop-i in
+    let a = c.args in
     let nodes = node_in a.below.now in
-    joining_on _ _ _ _ _ (as_node p.acc) p.i p.invariant 1 _ (omega (arith, c.before.before.loop-i-test.true)) (join_one false (as_node p.acc) nodes p.i _ _ c.before.node_in.ensures c.join_lines-acc.ensures)
+    joining_on _ _ _ _ _ (as_node p.acc) p.i p.invariant 1 _ (omega (arith, c.loop-i-test.true)) (join_one false (as_node p.acc) nodes p.i _ _ c.node_in.ensures c.join_lines-acc.ensures)
 
 returns : tie.Need-returns invariant-loop decreases-loop
-returns c = let p = c.before.loop-i in joining_end _ _ _ _ _ (as_node p.acc) p.i p.invariant c.loop-i-test.false
+returns c = let p = c.loop-i in joining_end _ _ _ _ _ (as_node p.acc) p.i p.invariant c.loop-i-test.false
 
 pub lines_rest_spec : {M : Type 1} → statement M
 lines_rest_spec =

@@ -22,24 +22,24 @@ abbrev decreases-loop : tie.decreases-loop-i
 decreases-loop part unitsize a b last₀ count₀ i₀ last count i = b - i
 
 get-requires : tie.Need-get-last-requires invariant-loop decreases-loop
-get-requires c κs = let s = c.before in held s.args.unitsize s.args.a s.args.b _ s.args.a s.requires s.requires.some
+get-requires c κs = held c.args.unitsize c.args.a c.args.b _ c.args.a c.requires c.requires.some
 
 add-i : tie.Need-overflow_add-i invariant-loop decreases-loop
 add-i c = search rules
 
 loop-holds : tie.Need-loop-i-init invariant-loop decreases-loop
-loop-holds c = let s = c.before.before in scan_starts _ s.args.a s.args.b _ s.requires.some c.get-last.ensures
+loop-holds c = scan_starts _ c.args.a c.args.b _ c.requires.some c.get-last.ensures
 
 get-requires-2 : tie.Need-get-v-requires invariant-loop decreases-loop
-get-requires-2 c κs = let s = c.before.before.before.before in held s.args.unitsize s.args.a s.args.b _ c.before.loop-i.i s.requires c.loop-i-test.true
+get-requires-2 c κs = held c.args.unitsize c.args.a c.args.b _ c.loop-i.i c.requires c.loop-i-test.true
 
 border-requires : tie.Need-border-count-requires invariant-loop decreases-loop
 border-requires c κs = search rules
 
 add-count : tie.Need-overflow_add-count invariant-loop decreases-loop
 add-count c =
-    let p = c.before.before.before.loop-i in
-    record { fits = omega (arith, c.border-count.ensures.1, scan_few _ _ _ _ _ _ p.invariant, c.before.before.before.before.before.before.ranges) }
+    let p = c.loop-i in
+    record { fits = omega (arith, c.border-count.ensures.1, scan_few _ _ _ _ _ _ p.invariant, c.ranges) }
 
 add-i-2 : tie.Need-overflow_add-i-in-loop-i invariant-loop decreases-loop
 add-i-2 c = search rules
@@ -49,16 +49,16 @@ loop-less c = search rules
 
 loop-again : tie.Need-loop-i-preserved invariant-loop decreases-loop
 loop-again c =
-    let p = c.before.before.before.loop-i in
-    scan_on _ _ _ p.last p.count p.i _ _ p.invariant c.before.before.loop-i-test.true c.before.get-v.ensures c.border-count.ensures.0
+    let p = c.loop-i in
+    scan_on _ _ _ p.last p.count p.i _ _ p.invariant c.loop-i-test.true c.get-v.ensures c.border-count.ensures.0
 
 capped-requires : tie.Need-capped-requires invariant-loop decreases-loop
 capped-requires c κs = search rules
 
 returns : tie.Need-returns invariant-loop decreases-loop
 returns c =
-    let p = c.before.before.loop-i in
-    c.capped.ensures ∙ scan_ends _ _ _ p.last p.count p.i p.invariant c.before.loop-i-test.false
+    let p = c.loop-i in
+    c.capped.ensures ∙ scan_ends _ _ _ p.last p.count p.i p.invariant c.loop-i-test.false
 
 pub raw_count_spec : {M : Type 1} → statement M
 raw_count_spec =

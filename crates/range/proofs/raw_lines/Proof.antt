@@ -15,24 +15,21 @@ room u a b n k h e = subst (λ (v : ℕ). b * v ≤ n) e h.room
 
 raw-one-requires : tie.Need-raw_one-requires
 raw-one-requires c κs =
-    let s = c.before.before in
-    (s.requires.some, omega (arith, room _ _ s.args.b _ 1 s.requires c.if-unitsize-eq1.true))
+    (c.requires.some, omega (arith, room _ _ c.args.b _ 1 c.requires c.if-unitsize-eq1.true))
 
 raw-two-requires : tie.Need-raw_two-requires
 raw-two-requires c κs =
-    let s = c.before.before in
-    (s.requires.some, room _ _ s.args.b _ 2 s.requires (unit_two s.requires.unit_size c.if-unitsize-eq1.false))
+    (c.requires.some, room _ _ c.args.b _ 2 c.requires (unit_two c.requires.unit_size c.if-unitsize-eq1.false))
 
 returns : tie.Need-returns-then-unitsize-eq1
 returns c =
-    let a = c.before.before.before.args in
-    c.raw_one.ensures ∙ ap (λ (u : ℕ). lines_of (node_of (sample_of u a.part.now) a.a a.b)) (sym c.before.if-unitsize-eq1.true)
+    let a = c.args in
+    c.raw_one.ensures ∙ ap (λ (u : ℕ). lines_of (node_of (sample_of u a.part.now) a.a a.b)) (sym c.if-unitsize-eq1.true)
 
 returns-2 : tie.Need-returns-else-unitsize-eq1
 returns-2 c =
-    let s = c.before.before.before in
     c.raw_two.ensures
-    ∙ ap (λ (u : ℕ). lines_of (node_of (sample_of u s.args.part.now) s.args.a s.args.b)) (sym (unit_two s.requires.unit_size c.before.if-unitsize-eq1.false))
+    ∙ ap (λ (u : ℕ). lines_of (node_of (sample_of u c.args.part.now) c.args.a c.args.b)) (sym (unit_two c.requires.unit_size c.if-unitsize-eq1.false))
 
 pub raw_lines_spec : {M : Type 1} → statement M
 raw_lines_spec = tie.close (tie.spec raw-one-requires raw-two-requires returns returns-2)

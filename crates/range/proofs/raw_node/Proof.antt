@@ -16,12 +16,12 @@ with-count-requires c κs = search rules
 
 returns : tie.Need-returns-then-counted
 returns c = record {
-  lines = c.with_count.ensures.0 ∙ c.before.before.before.raw_lines-lines.ensures;
-  count = λ _. c.with_count.ensures.1 ∙ c.before.raw_count.ensures;
+  lines = c.with_count.ensures.0 ∙ c.raw_lines-lines.ensures;
+  count = λ _. c.with_count.ensures.1 ∙ c.raw_count.ensures;
 }
 
 returns-2 : tie.Need-returns
-returns-2 c = record { lines = c.before.raw_lines-lines.ensures; count = λ z. absurd (false≢true (sym c.if-counted.false ∙ z)) }
+returns-2 c = record { lines = c.raw_lines-lines.ensures; count = λ z. absurd (false≢true (sym c.if-counted.false ∙ z)) }
 
 pub raw_node_spec : {M : Type 1} → statement M
 raw_node_spec = tie.close (tie.spec raw-lines-requires raw-count-requires with-count-requires returns returns-2)

@@ -20,7 +20,7 @@ shared-slice-read-first c = search rules
 
 loop-holds : tie.Need-loop-i-init invariant-loop decreases-loop
 loop-holds c =
-    let a = c.before.before.args in
+    let a = c.args in
     (search rules, search rules, sym (apart_none (sample_of 1 a.part.now) a.a))
 
 shared-slice-read-mask : tie.Need-bounds-part-i invariant-loop decreases-loop
@@ -34,8 +34,8 @@ loop-less c = search rules
 
 loop-again : tie.Need-loop-i-preserved invariant-loop decreases-loop
 loop-again c =
-    let p = c.before.before.loop-i in
-    let a = c.before.before.before.before.before.args in
+    let p = c.loop-i in
+    let a = c.args in
     (search rules, search rules, apart_turn (sample_of 1 a.part.now) a.a p.i p.mask _ _ p.invariant.0 p.invariant.2 (byte_sample a.part.now p.i) (byte_sample a.part.now a.a))
 
 wide-requires : tie.Need-wide-requires invariant-loop decreases-loop
@@ -55,12 +55,10 @@ wide-requires-3 c κs = search rules
 
 returns : tie.Need-returns invariant-loop decreases-loop
 returns c =
-    let w = c.before.before.before in
-    let p = w.before.before.loop-i in
-    let s = w.before.before.before.before.before in
-    let part = s.args.part.now in
-    scanned (sample_of 1 part) s.args.a s.args.b p.i _ s.requires.0 (le_antisymm p.invariant.1 w.before.loop-i-test.false)
-    (w.wide.ensures.0 ∙ byte_sample part s.args.a) (c.before.wide-2.ensures.0 ∙ byte_sample part (s.args.b - 1)) (c.wide-3.ensures.0 ∙ p.invariant.2)
+    let p = c.loop-i in
+    let part = c.args.part.now in
+    scanned (sample_of 1 part) c.args.a c.args.b p.i _ c.requires.0 (le_antisymm p.invariant.1 c.loop-i-test.false)
+    (c.wide.ensures.0 ∙ byte_sample part c.args.a) (c.wide-2.ensures.0 ∙ byte_sample part (c.args.b - 1)) (c.wide-3.ensures.0 ∙ p.invariant.2)
 
 pub raw_one_spec : {M : Type 1} → statement M
 raw_one_spec =

@@ -19,7 +19,7 @@ get-requires c κs = search rules
 
 loop-holds : tie.Need-loop-i-init invariant-loop decreases-loop
 loop-holds c =
-    let a = c.before.before.args in
+    let a = c.args in
     (search rules, search rules, sym (apart_none (sample_of 2 a.part.now) a.a))
 
 get-requires-2 : tie.Need-get-requires invariant-loop decreases-loop
@@ -33,10 +33,9 @@ loop-less c = search rules
 
 loop-again : tie.Need-loop-i-preserved invariant-loop decreases-loop
 loop-again c =
-    let p = c.before.before.loop-i in
-    let g = c.before.before.before in
-    let a = g.before.before.args in
-    (search rules, search rules, apart_turn (sample_of 2 a.part.now) a.a p.i p.mask _ _ p.invariant.0 p.invariant.2 c.get.ensures g.get-first.ensures)
+    let p = c.loop-i in
+    let a = c.args in
+    (search rules, search rules, apart_turn (sample_of 2 a.part.now) a.a p.i p.mask _ _ p.invariant.0 p.invariant.2 c.get.ensures c.get-first.ensures)
 
 sub-get : tie.Need-overflow_sub-b invariant-loop decreases-loop
 sub-get c = search rules
@@ -46,10 +45,8 @@ get-requires-3 c κs = search rules
 
 returns : tie.Need-returns invariant-loop decreases-loop
 returns c =
-    let p = c.before.before.loop-i in
-    let g = c.before.before.before in
-    let s = g.before.before in
-    scanned (sample_of 2 s.args.part.now) s.args.a s.args.b p.i _ s.requires.0 (le_antisymm p.invariant.1 c.before.loop-i-test.false) g.get-first.ensures c.get-2.ensures p.invariant.2
+    let p = c.loop-i in
+    scanned (sample_of 2 c.args.part.now) c.args.a c.args.b p.i _ c.requires.0 (le_antisymm p.invariant.1 c.loop-i-test.false) c.get-first.ensures c.get-2.ensures p.invariant.2
 
 pub raw_two_spec : {M : Type 1} → statement M
 raw_two_spec =

@@ -20,61 +20,50 @@ end a = omega arith
 
 both-requires : tie.Need-both-halves-requires
 both-requires c κs =
-    let s = c.before in
-    (omega (arith, s.requires.0), range_part s.requires.1 s.args.a (s.args.a + s.args.half + 16) (omega arith) (omega (arith, s.requires.0)))
+    (omega (arith, c.requires.0), range_part c.requires.1 c.args.a (c.args.a + c.args.half + 16) (omega arith) (omega (arith, c.requires.0)))
 
 add-get : tie.Need-overflow_add-a
-add-get c = record { fits = omega (arith, range_places c.before.before.requires.1) }
+add-get c = record { fits = omega (arith, range_places c.requires.1) }
 
 get-requires : tie.Need-get-requires
 get-requires c κs =
-    let s = c.before.before in
-    held_in s.requires.1 _ (omega arith)
+    held_in c.requires.1 _ (omega arith)
 
 add-get-2 : tie.Need-overflow_add-a-2
-add-get-2 c = record { fits = omega (arith, range_places c.before.before.before.requires.1) }
+add-get-2 c = record { fits = omega (arith, range_places c.requires.1) }
 
 get-requires-2 : tie.Need-get-requires-2
 get-requires-2 c κs =
-    let s = c.before.before.before in
-    held_in s.requires.1 _ (omega arith)
+    held_in c.requires.1 _ (omega arith)
 
 border-requires : tie.Need-border-twice-requires
 border-requires c κs = search rules
 
 get-requires-3 : tie.Need-get-requires-3
 get-requires-3 c κs =
-    let s = c.before.before.before.before.before in
-    held_in s.requires.1 _ (omega arith)
+    held_in c.requires.1 _ (omega arith)
 
 add-get-3 : tie.Need-overflow_add-a-3
-add-get-3 c = record { fits = omega (arith, range_places c.before.before.before.before.before.before.requires.1) }
+add-get-3 c = record { fits = omega (arith, range_places c.requires.1) }
 
 get-requires-4 : tie.Need-get-requires-4
 get-requires-4 c κs =
-    let s = c.before.before.before.before.before.before in
-    held_in s.requires.1 _ (omega arith)
+    held_in c.requires.1 _ (omega arith)
 
 sub-capped : tie.Need-overflow_sub-halves
 sub-capped c =
-    let w = c.before.before.before in
-    let h = w.before.before.before in
-    let s = h.before.before in
-    let a = s.args in
-    (halves (sample_of a.unitsize a.part.now) a.a a.half h.both-halves.result.mask h.both-halves.result.count _ _ _ s.requires.0 h.both-halves.ensures w.before.get-2.ensures w.before.before.get.ensures w.border-twice.ensures.0).0
+    let a = c.args in
+    (halves (sample_of a.unitsize a.part.now) a.a a.half c.both-halves.result.mask c.both-halves.result.count _ _ _ c.requires.0 c.both-halves.ensures c.get-2.ensures c.get.ensures c.border-twice.ensures.0).0
 
 capped-requires : tie.Need-capped-requires
 capped-requires c κs = search rules
 
 returns : tie.Need-returns
 returns c =
-    let w = c.before.before.before.before in
-    let h = w.before.before.before in
-    let s = h.before.before in
-    let a = s.args in
+    let a = c.args in
     run_node (sample_of a.unitsize a.part.now) a.a (a.a + 32) _ _ _ 31
-    (halves (sample_of a.unitsize a.part.now) a.a a.half h.both-halves.result.mask h.both-halves.result.count _ _ _ s.requires.0 h.both-halves.ensures w.before.get-2.ensures w.before.before.get.ensures w.border-twice.ensures.0).1
-    (omega arith) c.before.before.before.get-3.ensures (c.before.before.get-4.ensures ∙ ap (sample_of a.unitsize a.part.now) (end a.a)) refl c.capped.ensures
+    (halves (sample_of a.unitsize a.part.now) a.a a.half c.both-halves.result.mask c.both-halves.result.count _ _ _ c.requires.0 c.both-halves.ensures c.get-2.ensures c.get.ensures c.border-twice.ensures.0).1
+    (omega arith) c.get-3.ensures (c.get-4.ensures ∙ ap (sample_of a.unitsize a.part.now) (end a.a)) refl c.capped.ensures
 
 pub raw_whole_spec : {M : Type 1} → statement M
 raw_whole_spec =

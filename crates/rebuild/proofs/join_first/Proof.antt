@@ -19,9 +19,8 @@ sub-raw-node-2 c = search rules
 
 raw-node-requires : tie.Need-raw_node-n-requires
 raw-node-requires c κs =
-    let s = c.before.before.before in
-    let a = s.args in
-    join_room a.unitsize a.base a.len a.top _ _ c.end_of-b.result s.requires c.end_of-b.ensures
+    let a = c.args in
+    join_room a.unitsize a.base a.len a.top _ _ c.end_of-b.result c.requires c.end_of-b.ensures
 
 put-running-requires : tie.Need-put_running-requires
 put-running-requires c κs = search rules
@@ -31,13 +30,9 @@ same_length c = search rules
 
 returns : tie.Need-returns
 returns c =
-    let p = c.before.before in
-    let n = p.before.before in
-    let b = n.before in
-    let s = b.before.before.before in
-    let a = s.args in
-    first_joins a.unitsize a.part.now a.level.now _ a.base a.len a.top b.end_of-b.result _ s.requires.from s.requires.some b.end_of-b.ensures
-    (is_told _ _ n.raw_node-n.ensures) p.put_running.ensures
+    let a = c.args in
+    first_joins a.unitsize a.part.now a.level.now _ a.base a.len a.top c.end_of-b.result _ c.requires.from c.requires.some c.end_of-b.ensures
+    (is_told _ _ c.raw_node-n.ensures) c.put_running.ensures
 
 pub join_first_spec : {M : Type 1} → statement M
 join_first_spec =

@@ -7,13 +7,9 @@ use Rattle.rebuild.proofs.Running.{Steps, steps, above_joins}
 use Rattle.rebuild.proofs.rebuild_above.Statement.{statement}
 use Rattle.rebuild.proofs.rebuild_above.Tie as tie
 
--- the function's start
-abbrev start : tie.After-span-w → tie.Start
-start c = c.before.before.before
-
 -- the room of each step
-steps_at : (c : tie.After-span-w) → Steps (start c).args.l (start c).args.len (start c).args.top c.span-w.result (length (start c).args.below.now) (length (start c).args.level.now)
-steps_at c = let s = start c in steps s.args.l s.args.len s.args.top c.span-w.result _ _ s.pre c.span-w.ensures.0
+steps_at : (c : tie.After-span-w) → Steps c.args.l c.args.len c.args.top c.span-w.result (length c.args.below.now) (length c.args.level.now)
+steps_at c = steps c.args.l c.args.len c.args.top c.span-w.result _ _ c.requires c.span-w.ensures.0
 
 span-requires : tie.Need-span-w-requires
 span-requires c κs = search rules
@@ -53,15 +49,9 @@ same_length c = search rules
 
 returns : tie.Need-returns
 returns c =
-    let r = c.before.before in
-    let p = r.before.before.before.before in
-    let o = p.before.before in
-    let b = o.before in
-    let s = b.before in
-    let e = start s in
-    let a = e.args in
-    above_joins a.l a.len a.top s.span-w.result a.below.now a.level.now _ _ (as_node a.n) _ b.end_of.result s.span-w.ensures.0 e.pre
-    b.end_of.ensures o.join_on-all.ensures p.put_running.ensures r.rebuild_level.ensures
+    let a = c.args in
+    above_joins a.l a.len a.top c.span-w.result a.below.now a.level.now _ _ (as_node a.n) _ c.end_of.result c.span-w.ensures.0 c.requires
+    c.end_of.ensures c.join_on-all.ensures c.put_running.ensures c.rebuild_level.ensures
 
 pub rebuild_above_spec : {M : Type 1} → statement M
 rebuild_above_spec =

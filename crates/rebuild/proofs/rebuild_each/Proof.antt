@@ -34,9 +34,8 @@ sub-raw-node-2 c = search rules
 
 raw-node-requires : tie.Need-raw_node-requires invariant-loop decreases-loop
 raw-node-requires c κs =
-    let s = c.before.before.before.before.before.before in
-    let p = c.before.before.before.loop-j in
-    part_room s.args.unitsize s.args.base s.args.first s.args.top _ _ p.j _ c.before.end_of-b.result s.requires p.invariant.from c.before.before.loop-j-test.true refl c.before.end_of-b.ensures
+    let p = c.loop-j in
+    part_room c.args.unitsize c.args.base c.args.first c.args.top _ _ p.j _ c.end_of-b.result c.requires p.invariant.from c.loop-j-test.true refl c.end_of-b.ensures
 
 put-node-requires : tie.Need-put_node-requires invariant-loop decreases-loop
 put-node-requires c κs = search rules
@@ -49,20 +48,17 @@ loop-less c = search rules
 
 loop-again : tie.Need-loop-j-preserved invariant-loop decreases-loop
 loop-again c =
-    let n = c.before.before.before in
-    let e = n.before.before in
-    let p = e.before.before.loop-j in
-    let s = e.before.before.before.before.before in
-    let a = s.args in
-    putting_on _ _ _ _ p.level p.j p.invariant _ _ e.before.loop-j-test.true
-    (part_node_lem a.unitsize a.part.now a.base a.top p.j _ e.end_of-b.result _ (omega (arith, s.requires.from, p.invariant.from)) (omega (arith, e.before.loop-j-test.true)) refl e.end_of-b.ensures (is_told _ _ n.raw_node.ensures))
-    c.before.before.put_node.ensures
+    let p = c.loop-j in
+    let a = c.args in
+    putting_on _ _ _ _ p.level p.j p.invariant _ _ c.loop-j-test.true
+    (part_node_lem a.unitsize a.part.now a.base a.top p.j _ c.end_of-b.result _ (omega (arith, c.requires.from, p.invariant.from)) (omega (arith, c.loop-j-test.true)) refl c.end_of-b.ensures (is_told _ _ c.raw_node.ensures))
+    c.put_node.ensures
 
 same_length : tie.Need-shape_of-level invariant-loop decreases-loop
 same_length c = search rules
 
 returns : tie.Need-returns invariant-loop decreases-loop
-returns c = putting_end _ _ _ _ c.before.loop-j.level c.before.loop-j.j c.before.loop-j.invariant c.loop-j-test.false
+returns c = putting_end _ _ _ _ c.loop-j.level c.loop-j.j c.loop-j.invariant c.loop-j-test.false
 
 pub rebuild_each_spec : {M : Type 1} → statement M
 rebuild_each_spec =

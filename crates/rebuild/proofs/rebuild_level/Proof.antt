@@ -38,19 +38,17 @@ loop-less c = search rules
 
 loop-again : tie.Need-loop-j-preserved invariant-loop decreases-loop
 loop-again c =
-    let n = c.before.before.before in
-    let e = n.before.before in
-    let p = e.before.before.loop-j in
-    let a = e.before.before.before.before.before.args in
-    putting_on _ _ _ _ p.level p.j p.invariant _ _ e.before.loop-j-test.true
-    (made_at (node_in a.below.now) a.top p.j _ e.end_of-b.result _ e.before.loop-j-test.true refl e.end_of-b.ensures n.join_nodes.ensures)
-    c.before.before.put_node.ensures
+    let p = c.loop-j in
+    let a = c.args in
+    putting_on _ _ _ _ p.level p.j p.invariant _ _ c.loop-j-test.true
+    (made_at (node_in a.below.now) a.top p.j _ c.end_of-b.result _ c.loop-j-test.true refl c.end_of-b.ensures c.join_nodes.ensures)
+    c.put_node.ensures
 
 same_length : tie.Need-shape_of-level invariant-loop decreases-loop
 same_length c = search rules
 
 returns : tie.Need-returns invariant-loop decreases-loop
-returns c = putting_end _ _ _ _ c.before.loop-j.level c.before.loop-j.j c.before.loop-j.invariant c.loop-j-test.false
+returns c = putting_end _ _ _ _ c.loop-j.level c.loop-j.j c.loop-j.invariant c.loop-j-test.false
 
 pub rebuild_level_spec : {M : Type 1} → statement M
 rebuild_level_spec =

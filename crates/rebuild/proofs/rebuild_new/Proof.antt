@@ -10,18 +10,15 @@ rebuild-whole-requires c κs = search rules
 
 rebuild-each-requires : tie.Need-rebuild_each-requires
 rebuild-each-requires c κs =
-    let w = c.before.before.before in
-    let r = w.before.before.before.before.requires in
-    record { unit_size = r.unit_size; fits = r.fits; from = omega (arith, r.from, w.rebuild_whole-rest.ensures.0); samples = r.samples; nodes = omega (arith, r.nodes) }
+    let r = c.requires in
+    record { unit_size = r.unit_size; fits = r.fits; from = omega (arith, r.from, c.rebuild_whole-rest.ensures.0); samples = r.samples; nodes = omega (arith, r.nodes) }
 
 same_length : tie.Need-shape_of-level
 same_length c = search rules
 
 returns : tie.Need-returns
 returns c =
-    let e = c.before.before in
-    let w = e.before.before.before.before in
-    e.rebuild_each.ensures ∙ w.rebuild_whole-rest.ensures.1
+    c.rebuild_each.ensures ∙ c.rebuild_whole-rest.ensures.1
 
 pub rebuild_new_spec : {M : Type 1} → statement M
 rebuild_new_spec = tie.close (tie.spec rebuild-whole-requires rebuild-each-requires same_length returns)

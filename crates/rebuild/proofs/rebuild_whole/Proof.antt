@@ -40,15 +40,12 @@ sub-raw-whole c = search rules
 
 raw-whole-requires : tie.Need-raw_whole-requires invariant-loop decreases-loop
 raw-whole-requires c κs =
-    let t = c.before in
-    let p = t.before.loop-j in
-    let l = t.before.before in
-    let s = l.before.before.before in
-    let a = s.args in
+    let p = c.loop-j in
+    let a = c.args in
     let r =
-    subst (λ (e : ℕ). RangeIn a.unitsize (p.j * 32 - a.base) e (length a.part.now)) (sym (ends (p.j * 32) a.base (omega (arith, s.requires.from, p.invariant.from))))
-    (part_room a.unitsize a.base a.first a.top _ _ p.j (p.j * 32) (p.j * 32 + 32) s.requires p.invariant.from (omega (arith, t.loop-j-test.true)) refl (omega (arith, t.loop-j-test.true))) in
-    (omega (arith, l.lesser-half.ensures, range_places r), r)
+    subst (λ (e : ℕ). RangeIn a.unitsize (p.j * 32 - a.base) e (length a.part.now)) (sym (ends (p.j * 32) a.base (omega (arith, c.requires.from, p.invariant.from))))
+    (part_room a.unitsize a.base a.first a.top _ _ p.j (p.j * 32) (p.j * 32 + 32) c.requires p.invariant.from (omega (arith, c.loop-j-test.true)) refl (omega (arith, c.loop-j-test.true))) in
+    (omega (arith, c.lesser-half.ensures, range_places r), r)
 
 put-node-requires : tie.Need-put_node-requires invariant-loop decreases-loop
 put-node-requires c κs = search rules
@@ -61,22 +58,19 @@ loop-less c = search rules
 
 loop-again : tie.Need-loop-j-preserved invariant-loop decreases-loop
 loop-again c =
-    let n = c.before.before.before in
-    let t = n.before.before in
-    let p = t.before.loop-j in
-    let s = t.before.before.before.before.before in
-    let a = s.args in
-    let h : a.base ≤ p.j * 32 = omega (arith, s.requires.from, p.invariant.from) in
-    putting_on _ _ _ _ p.level p.j p.invariant _ _ (omega (arith, t.loop-j-test.true))
-    (part_node_lem a.unitsize a.part.now a.base a.top p.j (p.j * 32) (p.j * 32 + 32) _ h (omega (arith, t.loop-j-test.true)) refl (omega (arith, t.loop-j-test.true))
-    (n.raw_whole.ensures ∙ ap (node_of (sample_of a.unitsize a.part.now) (p.j * 32 - a.base)) (ends (p.j * 32) a.base h)))
-    c.before.before.put_node.ensures
+    let p = c.loop-j in
+    let a = c.args in
+    let h : a.base ≤ p.j * 32 = omega (arith, c.requires.from, p.invariant.from) in
+    putting_on _ _ _ _ p.level p.j p.invariant _ _ (omega (arith, c.loop-j-test.true))
+    (part_node_lem a.unitsize a.part.now a.base a.top p.j (p.j * 32) (p.j * 32 + 32) _ h (omega (arith, c.loop-j-test.true)) refl (omega (arith, c.loop-j-test.true))
+    (c.raw_whole.ensures ∙ ap (node_of (sample_of a.unitsize a.part.now) (p.j * 32 - a.base)) (ends (p.j * 32) a.base h)))
+    c.put_node.ensures
 
 same_length : tie.Need-shape_of-level invariant-loop decreases-loop
 same_length c = search rules
 
 returns : tie.Need-returns invariant-loop decreases-loop
-returns c = (c.before.loop-j.invariant.from, c.before.loop-j.invariant.same)
+returns c = (c.loop-j.invariant.from, c.loop-j.invariant.same)
 
 pub rebuild_whole_spec : {M : Type 1} → statement M
 rebuild_whole_spec =

@@ -24,70 +24,64 @@ invariant-loop c samples l1 l2 l3 l4 origin view width output₀ px₀ output px
 abbrev decreases-loop : tie.decreases-loop-px
 decreases-loop c samples l1 l2 l3 l4 origin view width output₀ px₀ output px = width - px
 
--- the function's start, from the loop's head
-abbrev start_at : tie.At-loop-px invariant-loop decreases-loop → tie.Start invariant-loop decreases-loop
-start_at p = p.before.before.before.before.before.before.before
-
 loop-holds : tie.Need-loop-px-init invariant-loop decreases-loop
 loop-holds c =
-    let a = c.before.before.before.before.before.before.args in
+    let a = c.args in
     (omega arith, omega arith, drawn_none (summed (level_of a.l1.now a.l2.now a.l3.now a.l4.now) (sample_of a.c.unitsize a.samples.now)) (range_from a.origin (view_as a.view) a.c.len) a.output.now)
 
 pixel-range-requires : tie.Need-pixel_range-requires invariant-loop decreases-loop
 pixel-range-requires c κs =
-    let p = (start_at c.before).pre in
+    let p = c.before.pre in
     (omega (arith, c.loop-px-test.true, p.most), (p.counts, omega (arith, p.sound.len_most, p.sound.capacity_most)))
 
 pixel-node-requires : tie.Need-pixel_node-n-requires invariant-loop decreases-loop
 pixel-node-requires c κs =
-    let s = start_at c.before.before in
-    record { sound = s.pre.sound; inside = subst (λ (r : Option Range). Inside r s.args.c.len) (sym c.pixel_range.ensures) (inside (range_from s.args.origin (view_as s.args.view) s.args.c.len) s.args.c.len (from_stored s.args.origin (view_as s.args.view) s.args.c.len) c.before.before.loop-px.px) }
+    record { sound = c.pre.sound; inside = subst (λ (r : Option Range). Inside r c.args.c.len) (sym c.pixel_range.ensures) (inside (range_from c.args.origin (view_as c.args.view) c.args.c.len) c.args.c.len (from_stored c.args.origin (view_as c.args.view) c.args.c.len) c.loop-px.px) }
 
 mul-output : tie.Need-overflow_mul-output invariant-loop decreases-loop
-mul-output c = omega (arith, c.before.before.loop-px-test.true, (start_at c.before.before.before).pre.most)
+mul-output c = omega (arith, c.loop-px-test.true, c.before.before.before.pre.most)
 
 mul-output-2 : tie.Need-offset_bounds-output-px invariant-loop decreases-loop
-mul-output-2 c = omega (arith, c.before.before.loop-px-test.true, (start_at c.before.before.before).pre.most)
+mul-output-2 c = omega (arith, c.loop-px-test.true, c.before.before.before.pre.most)
 
 slice-write-output : tie.Need-bounds-output-px invariant-loop decreases-loop
-slice-write-output c = omega (arith, c.before.before.loop-px-test.true, (start_at c.before.before.before).pre.room, c.before.before.before.loop-px.invariant.1)
+slice-write-output c = omega (arith, c.loop-px-test.true, c.before.before.before.pre.room, c.loop-px.invariant.1)
 
 mul-output-3 : tie.Need-overflow_mul-output-in-loop-px invariant-loop decreases-loop
-mul-output-3 c = omega (arith, c.before.before.loop-px-test.true, (start_at c.before.before.before).pre.most)
+mul-output-3 c = omega (arith, c.loop-px-test.true, c.before.before.before.pre.most)
 
 add-output : tie.Need-overflow_add-output invariant-loop decreases-loop
-add-output c = omega (arith, c.before.before.loop-px-test.true, (start_at c.before.before.before).pre.most)
+add-output c = omega (arith, c.loop-px-test.true, c.before.before.before.pre.most)
 
 mul-output-4 : tie.Need-offset_bounds-output-px-in-loop-px invariant-loop decreases-loop
-mul-output-4 c = omega (arith, c.before.before.loop-px-test.true, (start_at c.before.before.before).pre.most)
+mul-output-4 c = omega (arith, c.loop-px-test.true, c.before.before.before.pre.most)
 
 slice-write-output-2 : tie.Need-bounds-output-px-in-loop-px invariant-loop decreases-loop
-slice-write-output-2 c = simp length-set (omega (arith, c.before.before.loop-px-test.true, (start_at c.before.before.before).pre.room, c.before.before.before.loop-px.invariant.1))
+slice-write-output-2 c = simp length-set (omega (arith, c.loop-px-test.true, c.before.before.before.pre.room, c.loop-px.invariant.1))
 
 add-px : tie.Need-overflow_add-px invariant-loop decreases-loop
-add-px c = omega (arith, c.before.before.loop-px-test.true, (start_at c.before.before.before).pre.most)
+add-px c = omega (arith, c.loop-px-test.true, c.before.before.before.pre.most)
 
 loop-less : tie.Need-loop-px-smaller invariant-loop decreases-loop
-loop-less c = omega (arith, c.before.before.loop-px-test.true)
+loop-less c = omega (arith, c.loop-px-test.true)
 
 loop-again : tie.Need-loop-px-preserved invariant-loop decreases-loop
 loop-again c =
-    let l = c.before.before.before.loop-px in
-    let s = start_at c.before.before.before in
-    let a = s.args in
+    let l = c.loop-px in
+    let a = c.args in
     let n = summed (level_of a.l1.now a.l2.now a.l3.now a.l4.now) (sample_of a.c.unitsize a.samples.now) in (
-      omega (arith, c.before.before.loop-px-test.true),
+      omega (arith, c.loop-px-test.true),
       simp length-set l.invariant.1,
-      drawn_turn n (range_from a.origin (view_as a.view) a.c.len) l.px (as_node c.pixel_node-n.result) a.output.now l.output (omega (arith, s.pre.room, c.before.before.loop-px-test.true)) l.invariant.2 (c.pixel_node-n.ensures ∙ ap (λ (r : Option Range). lines_of (pixel_node n r)) c.before.pixel_range.ensures),
+      drawn_turn n (range_from a.origin (view_as a.view) a.c.len) l.px (as_node c.pixel_node-n.result) a.output.now l.output (omega (arith, c.pre.room, c.loop-px-test.true)) l.invariant.2 (c.pixel_node-n.ensures ∙ ap (λ (r : Option Range). lines_of (pixel_node n r)) c.pixel_range.ensures),
     )
 
 same_length : tie.Need-shape_of-output invariant-loop decreases-loop
-same_length c = c.before.loop-px.invariant.1
+same_length c = c.loop-px.invariant.1
 
 returns : tie.Need-returns invariant-loop decreases-loop
 returns c =
-    let a = (start_at c.before).args in
-    c.before.loop-px.invariant.2 ∙ ap (λ (k : ℕ). drawn (summed (level_of a.l1.now a.l2.now a.l3.now a.l4.now) (sample_of a.c.unitsize a.samples.now)) (range_from a.origin (view_as a.view) a.c.len) k a.output.now) (le_antisymm c.before.loop-px.invariant.0 c.loop-px-test.false)
+    let a = c.args in
+    c.loop-px.invariant.2 ∙ ap (λ (k : ℕ). drawn (summed (level_of a.l1.now a.l2.now a.l3.now a.l4.now) (sample_of a.c.unitsize a.samples.now)) (range_from a.origin (view_as a.view) a.c.len) k a.output.now) (le_antisymm c.loop-px.invariant.0 c.loop-px-test.false)
 
 pub draw_spec : {M : Type 1} → statement M
 draw_spec =

@@ -11,10 +11,6 @@ use Rattle.render.specs.Render.{pixel_node, Inside}
 use Rattle.render.proofs.pixel_node.Statement.{statement}
 use Rattle.render.proofs.pixel_node.Tie as tie
 
--- the function's start, from where its slices are known
-abbrev start_at : tie.After-shared_slice_known-5-1 → tie.Start
-start_at p = p.before.before.before.before.before
-
 enum_told : tie.Need-enum_told-1
 enum_told c = search rules
 
@@ -26,19 +22,18 @@ enum-known-p c = search rules
 
 summary-in-requires : tie.Need-summary_in-requires
 summary-in-requires c κs =
-    let s = start_at c.before.before.before in
-    let i = subst (λ (p : Pixel). Inside (range_as p) s.args.c.len) c.before.p-1.given.1 s.pre.inside in
-    record { sound = s.pre.sound; order = i.0; stored = i.1 }
+    let i = subst (λ (p : Pixel). Inside (range_as p) c.args.c.len) c.in-Span.is c.pre.inside in
+    record { sound = c.pre.sound; order = i.0; stored = i.1 }
 
 returns : tie.Need-returns-in-Blank
 returns c =
-    let a = (start_at c.before.before.before).args in
-    ap lines_of c.leaf.ensures ∙ sym (ap (λ (p : Pixel). lines_of (pixel_node (summed (level_of a.l1.now a.l2.now a.l3.now a.l4.now) (sample_of a.c.unitsize a.samples.now)) (range_as p))) c.before.enum_told-1.given.1)
+    let a = c.args in
+    ap lines_of c.leaf.ensures ∙ sym (ap (λ (p : Pixel). lines_of (pixel_node (summed (level_of a.l1.now a.l2.now a.l3.now a.l4.now) (sample_of a.c.unitsize a.samples.now)) (range_as p))) c.in-Blank.is)
 
 returns-2 : tie.Need-returns-in-Span
 returns-2 c =
-    let a = (start_at c.before.before.before.before).args in
-    c.summary_in.ensures.lines ∙ sym (ap (λ (p : Pixel). lines_of (pixel_node (summed (level_of a.l1.now a.l2.now a.l3.now a.l4.now) (sample_of a.c.unitsize a.samples.now)) (range_as p))) c.before.before.p-1.given.1)
+    let a = c.args in
+    c.summary_in.ensures.lines ∙ sym (ap (λ (p : Pixel). lines_of (pixel_node (summed (level_of a.l1.now a.l2.now a.l3.now a.l4.now) (sample_of a.c.unitsize a.samples.now)) (range_as p))) c.in-Span.is)
 
 pub pixel_node_spec : {M : Type 1} → statement M
 pixel_node_spec = tie.close (tie.spec enum_told leaf-requires enum-known-p summary-in-requires returns returns-2)

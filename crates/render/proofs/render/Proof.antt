@@ -55,29 +55,25 @@ view-refusal-requires c κs = search rules
 
 returns-2 : tie.Need-returns-then-k-ne0
 returns-2 c =
-    let v = c.before in
-    let f = v.before.before in
+    let f = c.before.before in
     let a = (s f).args in
-    draws_refused (node_at f) (st f) (lent f) (view_as a.view) a.width a.output.now (rows_decide (st f) (lent f) (own f) f.refusal-n.ensures v.before.if-n-ne0.false _ v.view_refusal-k.ensures) c.if-k-ne0.true
+    draws_refused (node_at f) (st f) (lent f) (view_as a.view) a.width a.output.now (rows_decide (st f) (lent f) (own f) f.refusal-n.ensures c.if-n-ne0.false _ c.view_refusal-k.ensures) c.if-k-ne0.true
 
 draw-requires : tie.Need-draw-requires
 draw-requires c κs =
-    let v = c.before.before in
-    let f = v.before.before in
+    let f = c.before.before in
     let a = (s f).args in
-    drawable (st f) (lent f) (view_as a.view) a.width (length a.output.now) (let_in f.refusal-n.ensures v.before.if-n-ne0.false) 0 (omega arith) (sym v.view_refusal-k.ensures ∙ c.before.if-k-ne0.false)
+    drawable (st f) (lent f) (view_as a.view) a.width (length a.output.now) (let_in f.refusal-n.ensures c.if-n-ne0.false) 0 (omega arith) (sym c.view_refusal-k.ensures ∙ c.if-k-ne0.false)
 
 same_length : tie.Need-shape_of-output
 same_length c = search rules
 
 returns-3 : tie.Need-returns
 returns-3 c =
-    let d = c.before.before.before.before in
-    let v = d.before in
-    let f = v.before.before in
+    let f = c.before.before in
     let a = (s f).args in
-    draws_done (node_at f) (st f) (lent f) (view_as a.view) a.width a.output.now (rows_decide (st f) (lent f) (own f) f.refusal-n.ensures v.before.if-n-ne0.false _ v.view_refusal-k.ensures) d.if-k-ne0.false _
-    (c.before.before.draw.ensures ∙ ap (λ (range : ℕ → Option Range). drawn (node_at f) range a.width a.output.now) (fun_ext (from_first (view_as a.view) a.c.len)))
+    draws_done (node_at f) (st f) (lent f) (view_as a.view) a.width a.output.now (rows_decide (st f) (lent f) (own f) f.refusal-n.ensures c.if-n-ne0.false _ c.view_refusal-k.ensures) c.if-k-ne0.false _
+    (c.draw.ensures ∙ ap (λ (range : ℕ → Option Range). drawn (node_at f) range a.width a.output.now) (fun_ext (from_first (view_as a.view) a.c.len)))
 
 pub render_spec : {M : Type 1} → statement M
 render_spec = tie.close (tie.spec refusal-requires returns view-refusal-requires returns-2 draw-requires same_length returns-3)

@@ -11,14 +11,14 @@ use Rattle.render.proofs.view_refusal.Statement.{statement}
 use Rattle.render.proofs.view_refusal.Tie as tie
 
 -- past each test
-start_finite : (c : tie.Else-not-is_finite) → finite c.before.before.args.view.start ≡ true
-start_finite c = sym c.before.is_finite.ensures ∙ not-false _ c.if-not-is_finite.false
+start_finite : (c : tie.Else-not-is_finite) → finite c.args.view.start ≡ true
+start_finite c = sym c.is_finite.ensures ∙ c.if-not-is_finite.false
 
-spp_finite : (c : tie.Else-not-is_finite-2) → finite c.before.before.before.before.args.view.spp ≡ true
-spp_finite c = sym c.before.is_finite-2.ensures ∙ not-false _ c.if-not-is_finite-2.false
+spp_finite : (c : tie.Else-not-is_finite-2) → finite c.args.view.spp ≡ true
+spp_finite c = sym c.is_finite-2.ensures ∙ c.if-not-is_finite-2.false
 
-not_many : (c : tie.Else-width-gt-MOST_PIXELS) → ltb most_pixels c.before.before.before.before.before.args.width ≡ false
-not_many c = le-ltb most_pixels c.before.before.before.before.before.args.width c.if-width-gt-MOST_PIXELS.false
+not_many : (c : tie.Else-width-gt-MOST_PIXELS) → ltb most_pixels c.args.width ≡ false
+not_many c = le-ltb most_pixels c.args.width c.if-width-gt-MOST_PIXELS.false
 
 is-finite-requires : tie.Need-is_finite-requires
 is-finite-requires c κs = search rules
@@ -34,7 +34,7 @@ returns-2 c = search rules
 
 returns-3 : tie.Need-returns-then-width-gt-MOST_PIXELS
 returns-3 c =
-    let a = c.before.before.before.before.before.args in
+    let a = c.args in
     simp (start_finite c.before.before.before, spp_finite c.before, lt-ltb most_pixels a.width c.if-width-gt-MOST_PIXELS.true)
 
 mul-if4 : tie.Need-overflow_mul-width
@@ -43,13 +43,13 @@ mul-if4 c = search rules
 returns-4 : tie.Need-returns-then-output-width
 returns-4 c =
     let d = c.before.before in
-    let a = d.before.before.before.before.args in
+    let a = d.args in
     simp (start_finite d.before.before, spp_finite d, not_many c.before, lt-ltb a.output (2 * a.width) c.if-output-width.true)
 
 returns-5 : tie.Need-returns
 returns-5 c =
     let d = c.before.before in
-    let a = d.before.before.before.before.args in
+    let a = d.args in
     simp (start_finite d.before.before, spp_finite d, not_many c.before, le-ltb a.output (2 * a.width) c.if-output-width.false)
 
 pub view_refusal_spec : {M : Type 1} → statement M

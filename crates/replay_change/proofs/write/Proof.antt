@@ -15,34 +15,6 @@ abbrev decreases-loop : tie.decreases-loop-a
 decreases-loop o line samples₀ l1₀ l2₀ l3₀ l4₀ ring₀ piece₀ a₀ samples l1 l2 l3 l4 ring piece a =
     ahead a.more a.feed-1
 
--- the call of append, and that of push, from the end of a turn
-abbrev appended : tie.After-after_append-a invariant-loop decreases-loop → tie.After-append-r invariant-loop decreases-loop
-appended p =
-    let l3 = p.before.before.before.before in
-    l3.before.before.before.before.before.before.before
-
-abbrev pushed : tie.After-after_push-a invariant-loop decreases-loop → tie.After-push-r invariant-loop decreases-loop
-pushed p =
-    let l3 = p.before.before.before.before.before.before in
-    l3.before.before.before.before.before.before.before
-
--- the piece that each of them is given
-abbrev filled_for_append : tie.After-append-r invariant-loop decreases-loop → tie.After-fill-p invariant-loop decreases-loop
-filled_for_append p =
-    let lent = p.before.before.before.before.before.before.before in
-    lent.before.before.before.before.before.before
-
-abbrev filled_for_push : tie.After-push-r invariant-loop decreases-loop → tie.After-fill-p invariant-loop decreases-loop
-filled_for_push p =
-    let lent = p.before.before.before.before.before.before.before in
-    lent.before.before.before.before.before.before
-
--- the change as it was put, from the loop's head
-abbrev put_at : tie.At-loop-a invariant-loop decreases-loop → tie.After-put invariant-loop decreases-loop
-put_at p =
-    let l4 = p.before.before.before.before.before.before in
-    l4.before.before.before.before.before.before.before
-
 put-requires : tie.Need-put-requires invariant-loop decreases-loop
 put-requires c κs = search rules
 
@@ -75,22 +47,19 @@ after-append-requires c κs = search rules
 
 loop-less : tie.Need-loop-a-smaller-then-o-lt50 invariant-loop decreases-loop
 loop-less c =
-    let filled = filled_for_append (appended c) in
-    piece_falls _ _ _ _ _ _ filled.before.before.before.before.loop-a-test.taken filled.fill-p.ensures.less c.after_append-a.ensures
+    piece_falls _ _ _ _ _ _ c.loop-a-test.taken c.fill-p.ensures.less c.after_append-a.ensures
 
 loop-again : tie.Need-loop-a-preserved-then-o-lt50 invariant-loop decreases-loop
 loop-again c =
-    let sent = appended c in
-    let kept = sent.append-r.kept.1 in
-    let filled = filled_for_append sent in
-    let inv = filled.before.before.before.before.before.loop-a.inv in (
+    let kept = c.append-r.kept.1 in
+    let inv = c.loop-a.inv in (
       kept.0 ∙ inv.0,
       kept.1.0 ∙ inv.1,
       kept.1.1.0 ∙ inv.2,
       kept.1.1.1.0 ∙ inv.3,
       kept.1.1.1.1.0 ∙ inv.4,
       inv.5,
-      filled.fill-p.kept.1.1.0 ∙ inv.6,
+      c.fill-p.kept.1.1.0 ∙ inv.6,
     )
 
 sub-push : tie.Need-slice_bounds-push-count invariant-loop decreases-loop
@@ -110,55 +79,48 @@ after-push-requires c κs = search rules
 
 loop-less-2 : tie.Need-loop-a-smaller invariant-loop decreases-loop
 loop-less-2 c =
-    let filled = filled_for_push (pushed c) in
-    piece_falls _ _ _ _ _ _ filled.before.before.before.before.loop-a-test.taken filled.fill-p.ensures.less c.after_push-a.ensures
+    piece_falls _ _ _ _ _ _ c.loop-a-test.taken c.fill-p.ensures.less c.after_push-a.ensures
 
 loop-again-2 : tie.Need-loop-a-preserved invariant-loop decreases-loop
 loop-again-2 c =
-    let sent = pushed c in
-    let kept = sent.push-r.kept.1 in
-    let filled = filled_for_push sent in
-    let inv = filled.before.before.before.before.before.loop-a.inv in (
+    let kept = c.push-r.kept.1 in
+    let inv = c.loop-a.inv in (
       kept.0 ∙ inv.0,
       kept.1.0 ∙ inv.1,
       kept.1.1.0 ∙ inv.2,
       kept.1.1.1.0 ∙ inv.3,
       kept.1.1.1.1.0 ∙ inv.4,
       kept.1.1.1.1.1.0 ∙ inv.5,
-      filled.fill-p.kept.1.1.0 ∙ inv.6,
+      c.fill-p.kept.1.1.0 ∙ inv.6,
     )
 
 changed-requires : tie.Need-changed-requires invariant-loop decreases-loop
 changed-requires c κs = search rules
 
 same_length : tie.Need-shape_of-samples invariant-loop decreases-loop
-same_length c = c.before.before.loop-a.invariant.0
+same_length c = c.loop-a.invariant.0
 
 same-length-2 : tie.Need-shape_of-l1 invariant-loop decreases-loop
 same-length-2 c =
-    let entered = c.before.before in
-    entered.loop-a.invariant.1 ∙ (put_at entered).put.auto.1.0
+    c.loop-a.invariant.1 ∙ c.put.auto.1.0
 
 same-length-3 : tie.Need-shape_of-l2 invariant-loop decreases-loop
 same-length-3 c =
-    let entered = c.before.before in
-    entered.loop-a.invariant.2 ∙ (put_at entered).put.auto.1.1.0
+    c.loop-a.invariant.2 ∙ c.put.auto.1.1.0
 
 same-length-4 : tie.Need-shape_of-l3 invariant-loop decreases-loop
 same-length-4 c =
-    let entered = c.before.before in
-    entered.loop-a.invariant.3 ∙ (put_at entered).put.auto.1.1.1.0
+    c.loop-a.invariant.3 ∙ c.put.auto.1.1.1.0
 
 same-length-5 : tie.Need-shape_of-l4 invariant-loop decreases-loop
 same-length-5 c =
-    let entered = c.before.before in
-    entered.loop-a.invariant.4 ∙ (put_at entered).put.auto.1.1.1.1.0
+    c.loop-a.invariant.4 ∙ c.put.auto.1.1.1.1.0
 
 same-length-6 : tie.Need-shape_of-ring invariant-loop decreases-loop
-same-length-6 c = c.before.before.loop-a.invariant.5
+same-length-6 c = c.loop-a.invariant.5
 
 same-length-7 : tie.Need-shape_of-piece invariant-loop decreases-loop
-same-length-7 c = c.before.before.loop-a.invariant.6
+same-length-7 c = c.loop-a.invariant.6
 
 returns : tie.Need-returns invariant-loop decreases-loop
 returns c = search rules

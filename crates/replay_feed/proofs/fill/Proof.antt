@@ -56,7 +56,7 @@ same_length c = search rules
 returns : tie.Need-returns invariant-loop decreases-loop
 returns c =
     let done = c.filled_with.ensures in
-    let inv = c.before.before.before.loop-feed.invariant in
+    let inv = c.loop-feed.invariant in
     record {
       within = omega (arith, done.1, inv.0, inv.1);
       less = λ e. rw done.0 (inv.3 (done.2 e));

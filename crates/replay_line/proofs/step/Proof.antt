@@ -4,23 +4,6 @@ use Rattle.replay_line.proofs.Parts.{part_kept}
 use Rattle.replay_line.proofs.step.Statement.{statement}
 use Rattle.replay_line.proofs.step.Tie as tie
 
--- the call, from where all memory is back
-abbrev called : tie.After-slice_known-18-1 → tie.After-over_lent
-called p =
-    let l4 = p.before.before.before.before.before.before.before.before in
-    l4.before.before.before.before.before.before.before.before.before.before
-
--- the lengths of the parts, from the call
-abbrev cut_at : tie.After-over_lent → tie.After-lesser-er
-cut_at p =
-    let l4 = p.before.before.before.before.before in
-    l4.before.before.before.before.before
-
-abbrev start_at : tie.After-lesser-er → tie.Start
-start_at p =
-    let first = p.before.before.before.before.before in
-    first.before.before.before.before.before.before.before.before.before.before.before
-
 lesser-requires : tie.Need-lesser-e-requires
 lesser-requires c κs = search rules
 
@@ -98,48 +81,36 @@ over-lent-requires c κs = search rules
 
 same_length : tie.Need-shape_of-samples
 same_length c =
-    let p = called c in
-    let cut = cut_at p in
-    part_kept (start_at cut).args.samples.now p.over_lent.last.1.1.1.0 cut.before.before.before.before.before.lesser-e.result p.over_lent.kept.1.1.1.0
+    part_kept c.args.samples.now c.over_lent.last.1.1.1.0 c.lesser-e.result c.over_lent.kept.1.1.1.0
 
 same-length-2 : tie.Need-shape_of-l1
 same-length-2 c =
-    let p = called c in
-    let cut = cut_at p in
-    part_kept (start_at cut).args.l1.now p.over_lent.last.1.1.1.1.0 cut.before.before.before.before.lesser-e1.result p.over_lent.kept.1.1.1.1.0
+    part_kept c.args.l1.now c.over_lent.last.1.1.1.1.0 c.lesser-e1.result c.over_lent.kept.1.1.1.1.0
 
 same-length-3 : tie.Need-shape_of-l2
 same-length-3 c =
-    let p = called c in
-    let cut = cut_at p in
-    part_kept (start_at cut).args.l2.now p.over_lent.last.1.1.1.1.1.0 cut.before.before.before.lesser-e2.result p.over_lent.kept.1.1.1.1.1.0
+    part_kept c.args.l2.now c.over_lent.last.1.1.1.1.1.0 c.lesser-e2.result c.over_lent.kept.1.1.1.1.1.0
 
 same-length-4 : tie.Need-shape_of-l3
 same-length-4 c =
-    let p = called c in
-    let cut = cut_at p in
-    part_kept (start_at cut).args.l3.now p.over_lent.last.1.1.1.1.1.1.0 cut.before.before.lesser-e3.result p.over_lent.kept.1.1.1.1.1.1.0
+    part_kept c.args.l3.now c.over_lent.last.1.1.1.1.1.1.0 c.lesser-e3.result c.over_lent.kept.1.1.1.1.1.1.0
 
 same-length-5 : tie.Need-shape_of-l4
 same-length-5 c =
-    let p = called c in
-    let cut = cut_at p in
-    part_kept (start_at cut).args.l4.now p.over_lent.last.1.1.1.1.1.1.1.0 cut.before.lesser-e4.result p.over_lent.kept.1.1.1.1.1.1.1.0
+    part_kept c.args.l4.now c.over_lent.last.1.1.1.1.1.1.1.0 c.lesser-e4.result c.over_lent.kept.1.1.1.1.1.1.1.0
 
 same-length-6 : tie.Need-shape_of-ring
 same-length-6 c =
-    let p = called c in
-    let cut = cut_at p in
-    part_kept (start_at cut).args.ring.now p.over_lent.last.1.1.1.1.1.1.1.1.0 cut.lesser-er.result p.over_lent.kept.1.1.1.1.1.1.1.1.0
+    part_kept c.args.ring.now c.over_lent.last.1.1.1.1.1.1.1.1.0 c.lesser-er.result c.over_lent.kept.1.1.1.1.1.1.1.1.0
 
 same-length-7 : tie.Need-shape_of-output
-same-length-7 c = (called c).over_lent.auto.1.1.1.1.1.1.1.1.1.0
+same-length-7 c = c.over_lent.auto.1.1.1.1.1.1.1.1.1.0
 
 same-length-8 : tie.Need-shape_of-piece
-same-length-8 c = (called c).over_lent.auto.1.1.1.1.1.1.1.1.1.1.0
+same-length-8 c = c.over_lent.auto.1.1.1.1.1.1.1.1.1.1.0
 
 same-length-9 : tie.Need-shape_of-file
-same-length-9 c = (called c).over_lent.auto.1.1.1.1.1.1.1.1.1.1.1.0
+same-length-9 c = c.over_lent.auto.1.1.1.1.1.1.1.1.1.1.1.0
 
 returns : tie.Need-returns
 returns c = search rules

@@ -51,10 +51,7 @@ line-after-requires c κs = search rules
 
 loop-less : tie.Need-loop-at-smaller invariant-loop decreases-loop
 loop-less c =
-    let stepped = c.before.before.before.before in
-    let lent = stepped.before.before.before.before.before.before.before.before in
-    let ended = lent.before.before.before.before.before.before.before in
-    omega (arith, c.line_after-at.ensures, ended.line_end-end.ensures.from, ended.before.loop-at-test.true)
+    omega (arith, c.line_after-at.ensures, c.line_end-end.ensures.from, c.loop-at-test.true)
 
 loop-again : tie.Need-loop-at-preserved invariant-loop decreases-loop
 loop-again c = search rules

@@ -25,10 +25,6 @@ invariant-loop samples l1 l2 l3 l4 unitsize len mask start at₀ left₀ count�
 abbrev decreases-loop : tie.decreases-loop-left
 decreases-loop samples l1 l2 l3 l4 unitsize len mask start at₀ left₀ count₀ at left count = left
 
--- ---- names for what a turn knows
-abbrev start_at : tie.In-loop-left invariant-loop decreases-loop → tie.Start invariant-loop decreases-loop
-start_at t = t.before.before.before.before.before.before.before
-
 abbrev levels_at : tie.Start invariant-loop decreases-loop → ℕ → List ℕ
 levels_at s = let a = s.args in level_of a.l1.now a.l2.now a.l3.now a.l4.now
 
@@ -41,28 +37,27 @@ Stands s count b = AtBorder (reader_at s) s.args.len s.args.mask (previous_from 
 
 -- what the chunk's search told
 told_at : (f : tie.After-in_chunk-p invariant-loop decreases-loop) (r : Place) → f.in_chunk-p.result ≡ r
-    → let s = start_at f.before in
-    let p = f.before.before.loop-left in
+    → let s = f.before.before.before.before.before.before.before.before in
+    let p = f.loop-left in
     place_of r ≡ walk_from ((behind all_levels (reader_at s)).way (p.left - 1)) s.args.mask p.at (reader_at s 0 p.at).first
 told_at f r e = ap place_of (sym e) ∙ f.in_chunk-p.ensures
 
 -- after a chunk without a find, and past the quiet ones before it
 left_at : (f : tie.In-Nothing invariant-loop decreases-loop)
-    → let t = f.before.before.before.before in
-    Stands (start_at t) (t.before.loop-left.count + f.before.p-in-Nothing-1.given.0.0) (t.before.loop-left.left - 1)
+    → let t = f.before.before.before.before.before.before.before.before.before in
+    Stands t (t.loop-left.count + f.in-Nothing.n) (t.loop-left.left - 1)
 left_at f =
-    let p = f.before.before.before.before.before.loop-left in
-    coursing_on p.invariant.0 (p.left - 1) (omega arith) _ (told_at f.before.before.before _ f.before.p-in-Nothing-1.given.1) refl
+    let p = f.loop-left in
+    coursing_on p.invariant.0 (p.left - 1) (omega arith) _ (told_at f.before.before.before _ f.in-Nothing.is) refl
 
 passed_at : (c : tie.After-quiet_chunks-passed invariant-loop decreases-loop)
-    → let t = c.before.before.before.before.before in
-    Stands (start_at t) (t.before.loop-left.count + c.before.before.p-in-Nothing-1.given.0.0 + c.quiet_chunks-passed.result) (t.before.loop-left.left - 1 - c.quiet_chunks-passed.result)
+    → let t = c.before.before.before.before.before.before.before.before.before.before in
+    Stands t (t.loop-left.count + c.in-Nothing.n + c.quiet_chunks-passed.result) (t.loop-left.left - 1 - c.quiet_chunks-passed.result)
 unfolding level_of
 passed_at c =
     let t = c.before.before.before.before.before in
-    let s = start_at t in
-    let ci = t.before.loop-left.left - 1 in
-    quiet_passes s.args.unitsize s.args.len s.args.samples.now (levels_at s) (left_at c.before) (le_refl ci) c.quiet_chunks-passed.ensures (ci - c.quiet_chunks-passed.result) (omega (arith, c.quiet_chunks-passed.ensures.most))
+    let ci = t.loop-left.left - 1 in
+    quiet_passes t.args.unitsize t.args.len t.args.samples.now (levels_at t) (left_at c.before) (le_refl ci) c.quiet_chunks-passed.ensures (ci - c.quiet_chunks-passed.result) (omega (arith, c.quiet_chunks-passed.ensures.most))
 
 -- ---- the needs
 add_left : tie.Need-overflow_add-left invariant-loop decreases-loop
@@ -77,20 +72,20 @@ sub-ci : tie.Need-overflow_sub-ci invariant-loop decreases-loop
 sub-ci c = omega arith
 
 in-chunk-requires : tie.Need-in_chunk-p-requires invariant-loop decreases-loop
-in-chunk-requires c κs = ((start_at c).requires.0, record { low = omega arith; high = omega arith; most = omega arith; stored = omega arith })
+in-chunk-requires c κs = (c.requires.0, record { low = omega arith; high = omega arith; most = omega arith; stored = omega arith })
 
 enum-known-p : tie.Need-enum_known-p invariant-loop decreases-loop
 enum-known-p c = search rules
 
 add-count : tie.Need-overflow_add-count invariant-loop decreases-loop
 add-count c =
-    let p = c.before.before.before.before.before.loop-left in
-    omega (arith, coursing_counts p.invariant.0 (p.left - 1) (omega arith) _ (told_at c.before.before.before _ c.before.p-1.given.1))
+    let p = c.loop-left in
+    omega (arith, coursing_counts p.invariant.0 (p.left - 1) (omega arith) _ (told_at c.before _ c.in-At.is))
 
 returns : tie.Need-returns-in-At invariant-loop decreases-loop
 returns c =
-    let p = c.before.before.before.before.before.loop-left in
-    coursing_found p.invariant.0 (p.left - 1) (omega arith) _ (told_at c.before.before.before _ c.before.p-1.given.1) (λ z. none-ne-some _ (sym z))
+    let p = c.loop-left in
+    coursing_found p.invariant.0 (p.left - 1) (omega arith) _ (told_at c.before _ c.in-At.is) (λ z. none-ne-some _ (sym z))
 
 enum-known-p-2 : tie.Need-enum_known-p-in-Nothing-1 invariant-loop decreases-loop
 enum-known-p-2 c = search rules
@@ -102,9 +97,8 @@ quiet-chunks-requires : tie.Need-quiet_chunks-passed-requires invariant-loop dec
 unfolding level_of
 quiet-chunks-requires c κs =
     let t = c.before.before.before.before in
-    let s = start_at t in
-    let ci = t.before.loop-left.left - 1 in
-    chunks_held s.args.unitsize s.args.len s.args.samples.now (levels_at s) s.pre.0 true ci ci (le_refl ci) (λ _. omega arith) (λ z. absurd (true≢false z))
+    let ci = t.loop-left.left - 1 in
+    chunks_held t.args.unitsize t.args.len t.args.samples.now (levels_at t) t.pre.0 true ci ci (le_refl ci) (λ _. omega arith) (λ z. absurd (true≢false z))
 
 add-count-3 : tie.Need-overflow_add-count-in-loop-left invariant-loop decreases-loop
 add-count-3 c = omega (arith, coursing_fits (passed_at c))
@@ -122,7 +116,7 @@ loop-again : tie.Need-loop-left-preserved invariant-loop decreases-loop
 loop-again c = (passed_at c, omega arith, omega arith, omega arith)
 
 returns-2 : tie.Need-returns invariant-loop decreases-loop
-returns-2 c = coursing_end c.before.loop-left.invariant.0 (omega arith)
+returns-2 c = coursing_end c.loop-left.invariant.0 (omega arith)
 
 pub chunks_back_spec : {M : Type 1} → statement M
 chunks_back_spec =

@@ -24,10 +24,6 @@ invariant-loop samples l1 l2 l3 l4 unitsize len mask from end whole lo₀ ci₀ 
 abbrev decreases-loop : tie.decreases-loop-ci
 decreases-loop samples l1 l2 l3 l4 unitsize len mask from end whole lo₀ ci₀ count₀ lo ci count = chunks_for len - ci
 
--- ---- names for what a turn knows
-abbrev start_at : tie.In-loop-ci invariant-loop decreases-loop → tie.Start invariant-loop decreases-loop
-start_at t = t.before.before.before.before.before.before.before
-
 abbrev levels_at : tie.Start invariant-loop decreases-loop → ℕ → List ℕ
 levels_at s = let a = s.args in level_of a.l1.now a.l2.now a.l3.now a.l4.now
 
@@ -44,29 +40,28 @@ Stands s count b = AtBorder (reader_at s) s.args.len s.args.mask (next_walk all_
 
 -- what the chunk's search told
 told_at : (f : tie.After-in_chunk-p invariant-loop decreases-loop) (r : Place) → f.in_chunk-p.result ≡ r
-    → let s = start_at f.before in
-    let p = f.before.before.loop-ci in
+    → let s = f.before.before.before.before.before.before.before.before in
+    let p = f.loop-ci in
     place_of r ≡ walk_from ((ahead all_levels (reader_at s) s.args.len).way p.ci) s.args.mask p.lo (reader_at s 0 (p.lo - 1)).first
 told_at f r e = ap place_of (sym e) ∙ f.in_chunk-p.ensures
 
 -- after a chunk without a find, and past the quiet ones behind it
 left_at : (f : tie.In-Nothing invariant-loop decreases-loop)
-    → let t = f.before.before.before.before in
-    Stands (start_at t) (t.before.loop-ci.count + f.before.p-in-Nothing-1.given.0.0) (t.before.loop-ci.ci + 1)
+    → let t = f.before.before.before.before.before.before.before.before.before in
+    Stands t (t.loop-ci.count + f.in-Nothing.n) (t.loop-ci.ci + 1)
 left_at f =
     let t = f.before.before.before.before in
-    let p = t.before.loop-ci in
-    coursing_on p.invariant.0 (rest_at (start_at t) (p.ci + 1)) (omega arith) _ (told_at f.before.before.before _ f.before.p-in-Nothing-1.given.1) refl
+    let p = t.loop-ci in
+    coursing_on p.invariant.0 (rest_at t (p.ci + 1)) (omega arith) _ (told_at f.before.before.before _ f.in-Nothing.is) refl
 
 passed_at : (c : tie.After-quiet_chunks-passed invariant-loop decreases-loop)
-    → let t = c.before.before.before.before.before.before in
-    Stands (start_at t) (t.before.loop-ci.count + c.before.before.before.p-in-Nothing-1.given.0.0 + c.quiet_chunks-passed.result) (t.before.loop-ci.ci + 1 + c.quiet_chunks-passed.result)
+    → let t = c.before.before.before.before.before.before.before.before.before.before.before in
+    Stands t (t.loop-ci.count + c.in-Nothing.n + c.quiet_chunks-passed.result) (t.loop-ci.ci + 1 + c.quiet_chunks-passed.result)
 unfolding level_of
 passed_at c =
     let t = c.before.before.before.before.before.before in
-    let s = start_at t in
-    quiet_passes s.args.unitsize s.args.len s.args.samples.now (levels_at s) (left_at c.before.before) (omega arith) c.quiet_chunks-passed.ensures
-    (rest_at s (t.before.loop-ci.ci + 1 + c.quiet_chunks-passed.result)) (omega (arith, c.quiet_chunks-passed.ensures.most))
+    quiet_passes t.args.unitsize t.args.len t.args.samples.now (levels_at t) (left_at c.before.before) (omega arith) c.quiet_chunks-passed.ensures
+    (rest_at t (t.loop-ci.ci + 1 + c.quiet_chunks-passed.result)) (omega (arith, c.quiet_chunks-passed.ensures.most))
 
 -- ---- the needs
 sub-end : tie.Need-overflow_sub-end invariant-loop decreases-loop
@@ -88,8 +83,8 @@ sub-in-chunk c = omega arith
 
 in-chunk-requires : tie.Need-in_chunk-p-requires invariant-loop decreases-loop
 in-chunk-requires c κs =
-    let most : c.before.loop-ci.lo ≤ (start_at c).args.len = c.before.loop-ci.invariant.4 (omega arith) in
-    ((start_at c).requires.0, record { low = omega arith; high = omega arith; most = most; stored = omega (arith, most) })
+    let most : c.loop-ci.lo ≤ c.args.len = c.loop-ci.invariant.4 (omega arith) in
+    (c.requires.0, record { low = omega arith; high = omega arith; most = most; stored = omega (arith, most) })
 
 enum-known-p : tie.Need-enum_known-p invariant-loop decreases-loop
 enum-known-p c = search rules
@@ -97,14 +92,14 @@ enum-known-p c = search rules
 add-count : tie.Need-overflow_add-count invariant-loop decreases-loop
 add-count c =
     let t = c.before.before.before.before in
-    let p = t.before.loop-ci in
-    omega (arith, coursing_counts p.invariant.0 (rest_at (start_at t) (p.ci + 1)) (omega arith) _ (told_at c.before.before.before _ c.before.p-1.given.1))
+    let p = t.loop-ci in
+    omega (arith, coursing_counts p.invariant.0 (rest_at t (p.ci + 1)) (omega arith) _ (told_at c.before.before.before _ c.in-At.is))
 
 returns : tie.Need-returns-in-At invariant-loop decreases-loop
 returns c =
     let t = c.before.before.before.before in
-    let p = t.before.loop-ci in
-    coursing_found p.invariant.0 (rest_at (start_at t) (p.ci + 1)) (omega arith) _ (told_at c.before.before.before _ c.before.p-1.given.1) (λ z. none-ne-some _ (sym z))
+    let p = t.loop-ci in
+    coursing_found p.invariant.0 (rest_at t (p.ci + 1)) (omega arith) _ (told_at c.before.before.before _ c.in-At.is) (λ z. none-ne-some _ (sym z))
 
 enum-known-p-2 : tie.Need-enum_known-p-in-Nothing-1 invariant-loop decreases-loop
 enum-known-p-2 c = search rules
@@ -124,8 +119,8 @@ sub-quiet-chunks c = omega arith
 quiet-chunks-requires : tie.Need-quiet_chunks-passed-requires invariant-loop decreases-loop
 unfolding level_of
 quiet-chunks-requires c κs =
-    let s = start_at c.before.before.before.before.before in
-    chunks_held s.args.unitsize s.args.len s.args.samples.now (levels_at s) s.pre.0 false _ _ (omega arith) (λ z. absurd (false≢true z)) (λ _. omega arith)
+    let s = c.before.before.before.before.before.before.before.before.before.before in
+    chunks_held s.args.unitsize s.args.len s.args.samples.now (levels_at s) s.requires.0 false _ _ (omega arith) (λ z. absurd (false≢true z)) (λ _. omega arith)
 
 add-count-3 : tie.Need-overflow_add-count-in-loop-ci invariant-loop decreases-loop
 add-count-3 c = omega (arith, coursing_fits (passed_at c))
@@ -143,7 +138,7 @@ loop-again : tie.Need-loop-ci-preserved invariant-loop decreases-loop
 loop-again c = (passed_at c, omega arith, omega arith, omega arith, λ h. omega arith)
 
 returns-2 : tie.Need-returns invariant-loop decreases-loop
-returns-2 c = coursing_end c.before.loop-ci.invariant.0 (omega arith)
+returns-2 c = coursing_end c.loop-ci.invariant.0 (omega arith)
 
 pub chunks_fwd_spec : {M : Type 1} → statement M
 chunks_fwd_spec =

@@ -14,10 +14,10 @@ enum-known-place-2 : tie.Need-enum_known-place-in-Nothing-1
 enum-known-place-2 c = search rules
 
 returns : tie.Need-returns-in-At
-returns c = ap (λ (p : Place). given (place_of p)) (sym c.before.place-1.given.1)
+returns c = ap (λ (p : Place). given (place_of p)) (sym c.in-At.is)
 
 returns-2 : tie.Need-returns-in-Nothing
-returns-2 c = ap (λ (p : Place). given (place_of p)) (sym c.before.place-in-Nothing-1.given.1)
+returns-2 c = ap (λ (p : Place). given (place_of p)) (sym c.in-Nothing.is)
 
 pub given_spec : {M : Type 1} → statement M
 given_spec = tie.close (tie.spec enum-known-place enum-known-place-2 returns returns-2)

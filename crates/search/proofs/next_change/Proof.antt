@@ -13,20 +13,19 @@ refusal-requires c κs = search rules
 
 returns : tie.Need-returns-then-number-ne0
 unfolding next_of
-returns c = refused_is _ c.before.refusal-number.ensures c.if-number-ne0.true
+returns c = refused_is _ c.refusal-number.ensures c.if-number-ne0.true
 
 next-in-requires : tie.Need-next_in-requires
 next-in-requires c κs =
-    let f = c.before in
-    let a = f.before.before.before.before.before.before.args in
-    stored_of a.c a.samples.now (level_of a.l1.now a.l2.now a.l3.now a.l4.now) (let_in f.refusal-number.ensures c.if-number-ne0.false)
+    let a = c.args in
+    stored_of a.c a.samples.now (level_of a.l1.now a.l2.now a.l3.now a.l4.now) (let_in c.refusal-number.ensures c.if-number-ne0.false)
 
 given-requires : tie.Need-given-requires
 given-requires c κs = search rules
 
 returns-2 : tie.Need-returns
 unfolding next_of
-returns-2 c = c.given.ensures ∙ given_is _ c.before.before.before.refusal-number.ensures c.before.before.if-number-ne0.false c.before.next_in.ensures
+returns-2 c = c.given.ensures ∙ given_is _ c.refusal-number.ensures c.if-number-ne0.false c.next_in.ensures
 
 pub next_change_spec : {M : Type 1} → statement M
 next_change_spec = tie.close (tie.spec refusal-requires returns next-in-requires given-requires returns-2)

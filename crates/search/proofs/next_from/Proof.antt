@@ -9,14 +9,13 @@ use Rattle.search.proofs.next_from.Tie as tie
 
 get-requires : tie.Need-get-value-requires
 get-requires c κs =
-    let s = c.before.before.before.before.before in
-    bytes_held s.args.unitsize s.args.len s.args.from s.args.samples.now s.requires.0.bytes (omega arith)
+    bytes_held c.args.unitsize c.args.len c.args.from c.args.samples.now c.requires.0.bytes (omega arith)
 
 add-near : tie.Need-overflow_add-from
 add-near c = omega arith
 
 near-requires : tie.Need-near-p-requires
-near-requires c κs = (c.before.before.before.before.before.before.requires.0.bytes, omega arith)
+near-requires c κs = (c.requires.0.bytes, omega arith)
 
 enum-known-p : tie.Need-enum_known-p
 enum-known-p c = search rules
@@ -32,10 +31,8 @@ returns c = c.chunks_fwd.ensures
 
 returns-2 : tie.Need-returns
 returns-2 c =
-    let n = c.before.before.before in
-    let s = n.before.before.before.before.before.before.before in
-    let a = s.args in
-    near_next a.unitsize a.len s.requires.0.most a.samples.now a.l1.now (level_of a.l1.now a.l2.now a.l3.now a.l4.now) a.mask n.before.get-value.result c.before.p-1.given.1 a.from s.requires.1 n.before.get-value.ensures n.near-p.ensures
+    let a = c.args in
+    near_next a.unitsize a.len c.requires.0.most a.samples.now a.l1.now (level_of a.l1.now a.l2.now a.l3.now a.l4.now) a.mask c.get-value.result c.in-At.is a.from c.requires.1 c.get-value.ensures c.near-p.ensures
 
 pub next_from_spec : {M : Type 1} → statement M
 next_from_spec = tie.close (tie.spec get-requires add-near near-requires enum-known-p enum_told chunks-fwd-requires returns returns-2)

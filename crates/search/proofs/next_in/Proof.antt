@@ -8,13 +8,13 @@ use Rattle.search.proofs.next_in.Statement.{statement}
 use Rattle.search.proofs.next_in.Tie as tie
 
 returns : tie.Need-returns-then-len-from
-returns c = let a = c.before.before.before.before.before.before.args in next_nothing all_levels (reader_of a.unitsize a.samples.now (level_of a.l1.now a.l2.now a.l3.now a.l4.now)) a.len a.mask a.from (omega arith)
+returns c = let a = c.args in next_nothing all_levels (reader_of a.unitsize a.samples.now (level_of a.l1.now a.l2.now a.l3.now a.l4.now)) a.len a.mask a.from (omega arith)
 
 add-if2 : tie.Need-overflow_add-from
 add-if2 c = search rules
 
 returns-2 : tie.Need-returns-then-len-from-2
-returns-2 c = let a = c.before.before.before.before.before.before.before.args in next_nothing all_levels (reader_of a.unitsize a.samples.now (level_of a.l1.now a.l2.now a.l3.now a.l4.now)) a.len a.mask a.from (omega arith)
+returns-2 c = let a = c.args in next_nothing all_levels (reader_of a.unitsize a.samples.now (level_of a.l1.now a.l2.now a.l3.now a.l4.now)) a.len a.mask a.from (omega arith)
 
 next-from-requires : tie.Need-next_from-requires
 next-from-requires c κs = search rules

@@ -8,7 +8,7 @@ use Rattle.search.proofs.prev_in.Statement.{statement}
 use Rattle.search.proofs.prev_in.Tie as tie
 
 returns : tie.Need-returns-then-len-eq0
-returns c = let a = c.before.before.before.before.before.before.args in previous_nothing all_levels (reader_of a.unitsize a.samples.now (level_of a.l1.now a.l2.now a.l3.now a.l4.now)) a.len a.mask a.from c.if-len-eq0.true
+returns c = let a = c.args in previous_nothing all_levels (reader_of a.unitsize a.samples.now (level_of a.l1.now a.l2.now a.l3.now a.l4.now)) a.len a.mask a.from c.if-len-eq0.true
 
 sub-lesser : tie.Need-overflow_sub-len
 sub-lesser c = search rules
@@ -21,9 +21,8 @@ prev-from-requires c κs = search rules
 
 returns-2 : tie.Need-returns
 returns-2 c =
-    let known = c.before.before.before in
-    let a = known.before.before.before.before.before.args in
-    c.prev_from.ensures ∙ previous_something all_levels (reader_of a.unitsize a.samples.now (level_of a.l1.now a.l2.now a.l3.now a.l4.now)) a.len a.mask a.from c.before.before.if-len-eq0.false c.before.lesser.result c.before.lesser.ensures
+    let a = c.args in
+    c.prev_from.ensures ∙ previous_something all_levels (reader_of a.unitsize a.samples.now (level_of a.l1.now a.l2.now a.l3.now a.l4.now)) a.len a.mask a.from c.if-len-eq0.false c.lesser.result c.lesser.ensures
 
 pub prev_in_spec : {M : Type 1} → statement M
 prev_in_spec = tie.close (tie.spec returns sub-lesser lesser-requires prev-from-requires returns-2)

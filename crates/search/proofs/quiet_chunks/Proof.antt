@@ -19,12 +19,12 @@ loop-holds : tie.Need-loop-k-init invariant-loop decreases-loop
 loop-holds c = (omega arith, below_none _)
 
 quiet-nth-requires : tie.Need-quiet_nth-requires invariant-loop decreases-loop
-quiet-nth-requires c κs = c.before.before.before.before.requires.each c.before.loop-k.k (omega arith)
+quiet-nth-requires c κs = c.requires.each c.loop-k.k (omega arith)
 
 returns : tie.Need-returns-then-not-quiet_nth invariant-loop decreases-loop
 returns c =
-    let p = c.before.before.before.loop-k in
-    record { most = p.invariant.0; each = p.invariant.1; stops = λ _. sym c.before.quiet_nth.ensures ∙ not-true _ c.if-not-quiet_nth.true }
+    let p = c.loop-k in
+    record { most = p.invariant.0; each = p.invariant.1; stops = λ _. sym c.quiet_nth.ensures ∙ c.if-not-quiet_nth.true }
 
 add-k : tie.Need-overflow_add-k invariant-loop decreases-loop
 add-k c = omega arith
@@ -34,11 +34,11 @@ loop-less c = omega arith
 
 loop-again : tie.Need-loop-k-preserved invariant-loop decreases-loop
 loop-again c =
-    let p = c.before.before.before.loop-k in
-    (omega arith, below_more _ p.k p.invariant.1 (sym c.before.quiet_nth.ensures ∙ not-false _ c.if-not-quiet_nth.false))
+    let p = c.loop-k in
+    (omega arith, below_more _ p.k p.invariant.1 (sym c.quiet_nth.ensures ∙ c.if-not-quiet_nth.false))
 
 returns-2 : tie.Need-returns invariant-loop decreases-loop
-returns-2 c = let p = c.before.loop-k in record { most = p.invariant.0; each = p.invariant.1; stops = λ h. absurd (omega arith) }
+returns-2 c = let p = c.loop-k in record { most = p.invariant.0; each = p.invariant.1; stops = λ h. absurd (omega arith) }
 
 pub quiet_chunks_spec : {M : Type 1} → statement M
 quiet_chunks_spec = tie.close (tie.spec invariant-loop decreases-loop loop-holds quiet-nth-requires returns add-k loop-less loop-again returns-2)

@@ -12,31 +12,28 @@ use Rattle.search.proofs.quiet_nth.Statement.{statement}
 use Rattle.search.proofs.quiet_nth.Tie as tie
 
 moved-requires : tie.Need-moved-requires
-moved-requires c κs = let s = c.before.before in (λ z. omega (arith, s.requires.node.behind z), s.requires.node.ahead)
+moved-requires c κs = (λ z. omega (arith, c.requires.node.behind z), c.requires.node.ahead)
 
 beside-requires : tie.Need-beside-requires
-beside-requires c κs = let s = c.before.before.before in (omega arith, λ z. omega (arith, s.requires.past z))
+beside-requires c κs = (omega arith, λ z. omega (arith, c.requires.past z))
 
 get-requires : tie.Need-get-value-requires
 get-requires c κs =
-    let s = c.before.before.before.before in
-    let a = s.args in
-    subst⁻¹ (λ (x : ℕ). Held a.unitsize x (length a.samples.now)) (c.beside.ensures ∙ ap (beside a.back) c.before.moved.ensures) s.requires.sample
+    let a = c.args in
+    subst⁻¹ (λ (x : ℕ). Held a.unitsize x (length a.samples.now)) (c.beside.ensures ∙ ap (beside a.back) c.moved.ensures) c.requires.sample
 
 nth-requires : tie.Need-nth-m-requires
-nth-requires c κs = c.before.before.before.before.before.requires.node
+nth-requires c κs = c.requires.node
 
 quiet-requires : tie.Need-quiet-requires
 quiet-requires c κs = search rules
 
 returns : tie.Need-returns
 returns c =
-    let v = c.before.before in
-    let m = v.before.before in
-    let a = m.before.before.before.args in
+    let a = c.args in
     c.quiet.ensures
-    ∙ ap₂ (λ (n : Node) (x : ℕ). quiet n x a.mask) c.before.nth-m.ensures
-    (v.get-value.ensures ∙ ap (sample_of a.unitsize a.samples.now) (v.before.beside.ensures ∙ ap (beside a.back) m.moved.ensures))
+    ∙ ap₂ (λ (n : Node) (x : ℕ). quiet n x a.mask) c.nth-m.ensures
+    (c.get-value.ensures ∙ ap (sample_of a.unitsize a.samples.now) (c.beside.ensures ∙ ap (beside a.back) c.moved.ensures))
 
 pub quiet_nth_spec : {M : Type 1} → statement M
 quiet_nth_spec = tie.close (tie.spec moved-requires beside-requires get-requires nth-requires quiet-requires returns)

@@ -21,15 +21,14 @@ cast-result : tie.Need-overflow_cast-result
 cast-result c = search rules
 
 sub-result : tie.Need-overflow_sub-result
-sub-result c = let s = c.before.before.before.before in omega (arith, c.before.before.weigh_block-sum.ensures, weigh_two s.args.block.now s.requires, c.short-one.ensures.0)
+sub-result c = omega (arith, c.weigh_block-sum.ensures, weigh_two c.args.block.now c.requires, c.short-one.ensures.0)
 
 cast-result-2 : tie.Need-overflow_cast-result-2
 cast-result-2 c = search rules
 
 returns : tie.Need-returns
 returns c =
-    let s = c.before.before.before.before in
-    ap (λ (n : ℕ). n % check_modulus) (without_one s.args.block.now s.requires c.before.before.weigh_block-sum.ensures c.short-one.ensures.0)
+    ap (λ (n : ℕ). n % check_modulus) (without_one c.args.block.now c.requires c.weigh_block-sum.ensures c.short-one.ensures.0)
 
 pub check_spec : {M : Type 1} → statement M
 check_spec =

@@ -1,6 +1,7 @@
 -- `shelf_block::good` meets its contract: the tests in order. Assumes nothing.
 use Prim.Native.Nat.{ℕ}
 use mathlib.Core.Path.{ap, ◌∙◌}
+use mathlib.Core.Bool.{not}
 use borrow.Author.Rules.{rules}
 use Rattle.rules.specs.SampleBytes.{sample_bytes}
 use Rattle.rules.specs.Block.{same_bytes, field}
@@ -13,17 +14,14 @@ is-headed-requires c κs = search rules
 
 returns : tie.Need-returns-then-not-is_headed
 returns c =
-    let s = c.before.before.before in
-    wrong_head s.args.number s.args.count s.args.block.now c.before.is_headed.ensures c.if-not-is_headed.true
+    wrong_head c.args.number c.args.count c.args.block.now c.is_headed.ensures (ap not c.if-not-is_headed.true)
 
 is-filled-requires : tie.Need-is_filled-requires
 is-filled-requires c κs = search rules
 
 returns-2 : tie.Need-returns-then-not-is_filled
 returns-2 c =
-    let h = c.before.before in
-    let s = h.before.before.before in
-    wrong_fill s.args.number s.args.count s.args.block.now h.before.is_headed.ensures h.if-not-is_headed.false c.before.is_filled.ensures c.if-not-is_filled.true
+    wrong_fill c.args.number c.args.count c.args.block.now c.is_headed.ensures (ap not c.if-not-is_headed.false) c.is_filled.ensures (ap not c.if-not-is_filled.true)
 
 check-requires : tie.Need-check-requires
 check-requires c κs = search rules
@@ -33,11 +31,8 @@ is-at-requires c κs = search rules
 
 returns-3 : tie.Need-returns
 returns-3 c =
-    let f = c.before.before in
-    let h = f.before.before in
-    let s = h.before.before.before in
-    last_check s.args.number s.args.count s.args.block.now h.before.is_headed.ensures h.if-not-is_headed.false f.before.is_filled.ensures f.if-not-is_filled.false
-    (c.is_at.ensures ∙ ap (λ (n : ℕ). same_bytes (field 0 2 s.args.block.now) (sample_bytes 2 n)) c.before.check.ensures)
+    last_check c.args.number c.args.count c.args.block.now c.is_headed.ensures (ap not c.if-not-is_headed.false) c.is_filled.ensures (ap not c.if-not-is_filled.false)
+    (c.is_at.ensures ∙ ap (λ (n : ℕ). same_bytes (field 0 2 c.args.block.now) (sample_bytes 2 n)) c.check.ensures)
 
 pub good_spec : {M : Type 1} → statement M
 good_spec =

@@ -22,8 +22,7 @@ is-number-requires c κs = search rules
 
 returns : tie.Need-returns
 returns c =
-    let s = c.before.before.before in
-    c.is_number.ensures ∙ ap (λ (n : ℕ). same_bytes (field s.args.from s.args.to s.args.block.now) (sample_bytes n s.args.value)) (part_length s.args.block.now s.args.from s.args.to s.requires.0 s.requires.1)
+    c.is_number.ensures ∙ ap (λ (n : ℕ). same_bytes (field c.args.from c.args.to c.args.block.now) (sample_bytes n c.args.value)) (part_length c.args.block.now c.args.from c.args.to c.requires.0 c.requires.1)
 
 pub is_at_spec : {M : Type 1} → statement M
 is_at_spec =

@@ -13,7 +13,7 @@ is-at-requires : tie.Need-is_at-requires
 is-at-requires c κs = search rules
 
 returns : tie.Need-returns-then-not-is_at
-returns c = rw (← zeros_are 4, sym c.before.is_at.ensures ∙ not-true _ c.if-not-is_at.true)
+returns c = rw (← zeros_are 4, sym c.is_at.ensures ∙ c.if-not-is_at.true)
 
 add-is-at : tie.Need-overflow_add-count
 add-is-at c = search rules
@@ -23,9 +23,8 @@ is-at-requires-2 c κs = search rules
 
 returns-2 : tie.Need-returns
 returns-2 c =
-    let s = c.before.before.before.before in
-    rw (← zeros_are 4, sym c.before.before.is_at.ensures ∙ not-false _ c.before.if-not-is_at.false)
-    (c.is_at-2.ensures ∙ ap (same_bytes (field (payload_at + s.args.count) block_size s.args.block.now)) (padding s.args.count))
+    rw (← zeros_are 4, sym c.is_at.ensures ∙ c.if-not-is_at.false)
+    (c.is_at-2.ensures ∙ ap (same_bytes (field (payload_at + c.args.count) block_size c.args.block.now)) (padding c.args.count))
 
 pub is_filled_spec : {M : Type 1} → statement M
 is_filled_spec = tie.close (tie.spec is-at-requires returns add-is-at is-at-requires-2 returns-2)

@@ -9,13 +9,13 @@ is-at-requires : tie.Need-is_at-requires
 is-at-requires c κs = search rules
 
 returns : tie.Need-returns-then-not-is_at
-returns c = rw (sym c.before.is_at.ensures ∙ not-true _ c.if-not-is_at.true)
+returns c = rw (sym c.is_at.ensures ∙ c.if-not-is_at.true)
 
 is-at-requires-2 : tie.Need-is_at-requires-2
 is-at-requires-2 c κs = search rules
 
 returns-2 : tie.Need-returns
-returns-2 c = rw (sym c.before.before.is_at.ensures ∙ not-false _ c.before.if-not-is_at.false) c.is_at-2.ensures
+returns-2 c = rw (sym c.is_at.ensures ∙ c.if-not-is_at.false) c.is_at-2.ensures
 
 pub is_headed_spec : {M : Type 1} → statement M
 is_headed_spec = tie.close (tie.spec is-at-requires returns is-at-requires-2 returns-2)

@@ -22,7 +22,7 @@ cast-if1 : tie.Need-overflow_cast-left invariant-loop decreases-loop
 cast-if1 c = search rules
 
 returns : tie.Need-returns-then-part-i invariant-loop decreases-loop
-returns c = let p = c.before.before.before.loop-i in holding_fails p.invariant c.before.before.loop-i-test.true c.if-part-i.true
+returns c = let p = c.loop-i in holding_fails p.invariant c.loop-i-test.true c.if-part-i.true
 
 add-i : tie.Need-overflow_add-i invariant-loop decreases-loop
 add-i c = search rules
@@ -31,10 +31,10 @@ loop-less : tie.Need-loop-i-smaller invariant-loop decreases-loop
 loop-less c = search rules
 
 loop-again : tie.Need-loop-i-preserved invariant-loop decreases-loop
-loop-again c = let p = c.before.before.before.loop-i in holding_on p.invariant c.before.before.loop-i-test.true c.if-part-i.false
+loop-again c = let p = c.loop-i in holding_on p.invariant c.loop-i-test.true c.if-part-i.false
 
 returns-2 : tie.Need-returns invariant-loop decreases-loop
-returns-2 c = let p = c.before.loop-i in holding_ends p.invariant c.loop-i-test.false
+returns-2 c = let p = c.loop-i in holding_ends p.invariant c.loop-i-test.false
 
 pub is_number_spec : {M : Type 1} → statement M
 is_number_spec =

@@ -21,8 +21,7 @@ same_length c = search rules
 
 returns : tie.Need-returns
 returns c =
-    let s = c.before.before.before.before.before in
-    put_part s.args.block.now _ s.args.from s.args.to s.args.value s.requires.0 s.requires.1 c.before.before.put_number.ensures
+    put_part c.args.block.now _ c.args.from c.args.to c.args.value c.requires.0 c.requires.1 c.put_number.ensures
 
 pub put_at_spec : {M : Type 1} → statement M
 put_at_spec =

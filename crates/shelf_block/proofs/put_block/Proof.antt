@@ -18,11 +18,7 @@ same_length c = search rules
 
 returns : tie.Need-returns
 returns c =
-    let third = c.before.before in
-    let second = third.before.before.before.before in
-    let first = second.before.before.before.before in
-    let s = first.before.before.before.before in
-    block_put s.args.block.now _ _ _ s.args.number s.args.payload.now s.requires.0 first.put_fields.ensures second.put_payload.ensures third.seal.ensures
+    block_put c.args.block.now _ _ _ c.args.number c.args.payload.now c.requires.0 c.put_fields.ensures c.put_payload.ensures c.seal.ensures
 
 pub put_block_spec : {M : Type 1} → statement M
 put_block_spec =

@@ -18,11 +18,7 @@ same_length c = search rules
 
 returns : tie.Need-returns
 returns c =
-    let third = c.before.before in
-    let second = third.before.before.before.before in
-    let first = second.before.before.before.before in
-    let s = first.before.before.before in
-    fields_put s.args.block.now _ _ _ s.args.number s.args.count s.requires first.put_at.ensures second.put_at-2.ensures third.put_at-3.ensures
+    fields_put c.args.block.now _ _ _ c.args.number c.args.count c.requires c.put_at.ensures c.put_at-2.ensures c.put_at-3.ensures
 
 pub put_fields_spec : {M : Type 1} → statement M
 put_fields_spec =

@@ -30,13 +30,13 @@ loop-less : tie.Need-loop-i-smaller invariant-loop decreases-loop
 loop-less c = search rules
 
 loop-again : tie.Need-loop-i-preserved invariant-loop decreases-loop
-loop-again c = let p = c.before.loop-i in writing_on p.invariant (omega (arith, c.loop-i-test.true, p.invariant.size))
+loop-again c = let p = c.loop-i in writing_on p.invariant (omega (arith, c.loop-i-test.true, p.invariant.size))
 
 same_length : tie.Need-shape_of-part invariant-loop decreases-loop
 same_length c = search rules
 
 returns : tie.Need-returns invariant-loop decreases-loop
-returns c = let p = c.before.loop-i in writing_ends p.invariant (omega (arith, c.loop-i-test.false, p.invariant.size))
+returns c = let p = c.loop-i in writing_ends p.invariant (omega (arith, c.loop-i-test.false, p.invariant.size))
 
 pub put_number_spec : {M : Type 1} → statement M
 put_number_spec =

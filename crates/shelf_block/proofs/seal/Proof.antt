@@ -19,9 +19,7 @@ same_length c = search rules
 
 returns : tie.Need-returns
 returns c =
-    let put = c.before.before in
-    let sum = put.before.before in
-    put.put_at.ensures ∙ ap (λ (n : ℕ). sample_bytes 2 n ++ drop 2 sum.before.before.before.args.block.now) sum.check-sum.ensures
+    c.put_at.ensures ∙ ap (λ (n : ℕ). sample_bytes 2 n ++ drop 2 c.args.block.now) c.check-sum.ensures
 
 pub seal_spec : {M : Type 1} → statement M
 seal_spec = tie.close (tie.spec check-requires put-at-requires same_length returns)

@@ -16,7 +16,7 @@ lesser-requires : tie.Need-lesser-half-requires invariant-loop decreases-loop
 lesser-requires c κs = search rules
 
 loop-holds : tie.Need-loop-i-init invariant-loop decreases-loop
-loop-holds c = let s = c.before.before in weighing_starts s.args.block.now s.requires 256
+loop-holds c = weighing_starts c.args.block.now c.requires 256
 
 shared-slice-read-short : tie.Need-bounds-block-i invariant-loop decreases-loop
 shared-slice-read-short c = search rules
@@ -47,15 +47,12 @@ loop-less c = search rules
 
 loop-again : tie.Need-loop-i-preserved invariant-loop decreases-loop
 loop-again c =
-    let at = c.before.before.before.before.before in
-    let p = at.before.loop-i in
-    let s = at.before.before.before.before in
-    weighing_on s.args.block.now s.requires p.invariant (omega (arith, at.loop-i-test.true, at.before.before.lesser-half.ensures)) c.before.before.before.short.ensures.0 c.before.short-in-loop-i.ensures.0 c.pair-sum.ensures
+    let p = c.loop-i in
+    weighing_on c.args.block.now c.requires p.invariant (omega (arith, c.loop-i-test.true, c.lesser-half.ensures)) c.short.ensures.0 c.short-in-loop-i.ensures.0 c.pair-sum.ensures
 
 returns : tie.Need-returns invariant-loop decreases-loop
 returns c =
-    let s = c.before.before.before.before in
-    weighing_ends s.args.block.now s.requires c.before.loop-i.invariant (omega (arith, c.loop-i-test.false, c.before.before.lesser-half.ensures, s.requires))
+    weighing_ends c.args.block.now c.requires c.loop-i.invariant (omega (arith, c.loop-i-test.false, c.lesser-half.ensures, c.requires))
 
 pub weigh_block_spec : {M : Type 1} → statement M
 weigh_block_spec =

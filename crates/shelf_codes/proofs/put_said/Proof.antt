@@ -29,10 +29,10 @@ element-write-said-6 : tie.Need-bounds-said-3-in-At
 element-write-said-6 c = search rules
 
 returns : tie.Need-returns-in-Absent
-returns c = mark_written c.before.before.args.h _ c.before.before.args.said.now c.enum_told-1.given.1
+returns c = mark_written c.args.h _ c.args.said.now c.in-Absent.is
 
 returns-2 : tie.Need-returns-in-At
-returns-2 c = let a = c.before.before.before.args in mark_written a.h _ a.said.now c.before.mark-1.given.1
+returns-2 c = let a = c.args in mark_written a.h _ a.said.now c.in-At.is
 
 pub put_said_spec : {M : Type 1} → statement M
 put_said_spec =

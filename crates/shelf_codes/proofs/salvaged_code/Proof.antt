@@ -21,12 +21,11 @@ put-counts-requires : tie.Need-put_counts-requires
 put-counts-requires c κs = search rules
 
 returns : tie.Need-returns-in-Refused
-returns c = refused_out c.before.before.answer-1.given.1 refl c.code.ensures
+returns c = refused_out c.in-Refused.is refl c.code.ensures
 
 returns-2 : tie.Need-returns-in-Salvaged
 returns-2 c =
-    let p = c.before.before in
-    given_out p.before.before.before.answer-in-Salvaged-1.given.1 refl p.put_capture.ensures c.put_counts.ensures
+    given_out c.in-Salvaged.is refl c.put_capture.ensures c.put_counts.ensures
 
 pub salvaged_code_spec : {M : Type 1} → statement M
 salvaged_code_spec =

@@ -25,7 +25,7 @@ returns : tie.Need-returns-in-Refused
 returns c = search rules
 
 returns-2 : tie.Need-returns-in-Capture
-returns-2 c = coded said_numbers (λ (x : Says). plain (said_of x)) _ _ _ c.before.before.before.answer-in-Capture-1.given.1 refl c.put_said.ensures
+returns-2 c = coded said_numbers (λ (x : Says). plain (said_of x)) _ _ _ c.in-Capture.is refl c.put_said.ensures
 
 pub says_code_spec : {M : Type 1} → statement M
 says_code_spec =

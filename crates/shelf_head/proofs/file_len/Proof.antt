@@ -12,11 +12,11 @@ use Rattle.shelf_head.proofs.file_len.Statement.{statement}
 use Rattle.shelf_head.proofs.file_len.Tie as tie
 
 -- row 1, by its test
-number_is : (c : tie.After-record_wrong) (t : Bool) → c.record_wrong.result ≡ t → length_refusal (store_of c.before.args.c) ≡ cond t 1 0
+number_is : (c : tie.After-record_wrong) (t : Bool) → c.record_wrong.result ≡ t → length_refusal (store_of c.args.c) ≡ cond t 1 0
 number_is c t e = ap (λ (b : Bool). cond b 1 0) (sym c.record_wrong.ensures ∙ e)
 
-ranged_at : (c : tie.After-struct_known-1) → Ranged (store_of c.before.before.before.args.c)
-ranged_at c = ranged _ (sym c.before.before.record_wrong.ensures ∙ c.before.if-record_wrong.false)
+ranged_at : (c : tie.After-struct_known-1) → Ranged (store_of c.args.c)
+ranged_at c = ranged _ (sym c.record_wrong.ensures ∙ c.if-record_wrong.false)
 
 record-wrong-requires : tie.Need-record_wrong-requires
 record-wrong-requires c κs = search rules
@@ -31,7 +31,7 @@ file-size-requires : tie.Need-file_size-requires
 file-size-requires c κs = omega (arith, bytes_few (ranged_at c))
 
 returns-2 : tie.Need-returns
-returns-2 c = let f = c.before.before.before in given_is _ (sym (number_is f false c.before.before.if-record_wrong.false)) refl c.file_size.ensures
+returns-2 c = let f = c.before.before.before in given_is _ (sym (number_is f false c.if-record_wrong.false)) refl c.file_size.ensures
 
 pub file_len_spec : {M : Type 1} → statement M
 file_len_spec =

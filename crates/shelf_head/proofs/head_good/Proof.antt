@@ -7,7 +7,7 @@ use Rattle.shelf_head.proofs.head_good.Statement.{statement}
 use Rattle.shelf_head.proofs.head_good.Tie as tie
 
 returns : tie.Need-returns-then-file-lt-BLOCK
-returns c = too_short c.before.before.args.file.now c.if-file-lt-BLOCK.true
+returns c = too_short c.args.file.now c.if-file-lt-BLOCK.true
 
 sub-good : tie.Need-slice_bounds-good-count
 sub-good c = search rules
@@ -23,17 +23,14 @@ good-requires c κs = search rules
 
 returns-2 : tie.Need-returns-then-not-good
 returns-2 c =
-    let room = c.before.before.before in
-    block_wrong room.before.before.args.file.now room.if-file-lt-BLOCK.false c.before.good2.ensures c.if-not-good.true
+    block_wrong c.args.file.now c.if-file-lt-BLOCK.false c.before.good2.ensures c.if-not-good.true
 
 mark-right-requires : tie.Need-mark_right-requires
 mark-right-requires c κs = search rules
 
 returns-3 : tie.Need-returns-then-not-mark_right
 returns-3 c =
-    let block = c.before.before in
-    let room = block.before.before.before in
-    mark_wrong_lem room.before.before.args.file.now room.if-file-lt-BLOCK.false block.before.good2.ensures block.if-not-good.false c.before.mark_right.ensures c.if-not-mark_right.true
+    mark_wrong_lem c.args.file.now c.if-file-lt-BLOCK.false c.before.good2.ensures c.if-not-good.false c.mark_right.ensures c.if-not-mark_right.true
 
 heading-in-requires : tie.Need-heading_in-requires
 heading-in-requires c κs = search rules
@@ -43,11 +40,8 @@ heading-wrong-requires c κs = search rules
 
 returns-4 : tie.Need-returns
 returns-4 c =
-    let mark = c.before.before in
-    let block = mark.before.before in
-    let room = block.before.before.before in
-    by_heading room.before.before.args.file.now room.if-file-lt-BLOCK.false block.before.good2.ensures block.if-not-good.false mark.before.mark_right.ensures mark.if-not-mark_right.false
-    (c.heading_wrong.ensures ∙ ap heading_wrong c.before.heading_in.ensures)
+    by_heading c.args.file.now c.if-file-lt-BLOCK.false c.before.good2.ensures c.if-not-good.false c.mark_right.ensures c.if-not-mark_right.false
+    (c.heading_wrong.ensures ∙ ap heading_wrong c.heading_in.ensures)
 
 pub head_good_spec : {M : Type 1} → statement M
 head_good_spec =

@@ -47,13 +47,9 @@ mark-in-requires c κs = search rules
 
 returns : tie.Need-returns
 returns c =
-    let place = c.before in
-    let flag = place.before.before in
-    let len = flag.before.before in
-    let unit = len.before.before in
-    let f = unit.before.before.before.args.file.now in
-    said f _ _ _ _ _ unit.wide.ensures.0 (len.number_in.ensures ∙ number_at f 14) flag.wide-2.ensures.0 (place.number_in-2.ensures ∙ number_at f 22)
-    (ap mark_of c.mark_in.ensures ∙ mark_read flag.wide-2.result place.number_in-2.result)
+    let f = c.args.file.now in
+    said f _ _ _ _ _ c.wide.ensures.0 (c.number_in.ensures ∙ number_at f 14) c.wide-2.ensures.0 (c.number_in-2.ensures ∙ number_at f 22)
+    (ap mark_of c.mark_in.ensures ∙ mark_read c.wide-2.result c.number_in-2.result)
 
 pub heading_in_spec : {M : Type 1} → statement M
 heading_in_spec =

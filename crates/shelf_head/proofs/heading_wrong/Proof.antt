@@ -9,16 +9,16 @@ unit-wrong-requires : tie.Need-unit_wrong-requires
 unit-wrong-requires c κs = search rules
 
 returns : tie.Need-returns-then-unit_wrong
-returns c = simp (sym c.before.unit_wrong.ensures ∙ c.if-unit_wrong.true)
+returns c = simp (sym c.unit_wrong.ensures ∙ c.if-unit_wrong.true)
 
 returns-2 : tie.Need-returns-then-h-gt-MOST_SAMPLES
-returns-2 c = simp (sym c.before.before.before.unit_wrong.ensures ∙ c.before.before.if-unit_wrong.false, lt-ltb _ _ c.if-h-gt-MOST_SAMPLES.true)
+returns-2 c = simp (sym c.unit_wrong.ensures ∙ c.if-unit_wrong.false, lt-ltb _ _ c.if-h-gt-MOST_SAMPLES.true)
 
 mark-wrong-requires : tie.Need-mark_wrong-requires
 mark-wrong-requires c κs = search rules
 
 returns-3 : tie.Need-returns
-returns-3 c = let f = c.before in simp (sym f.before.before.before.unit_wrong.ensures ∙ f.before.before.if-unit_wrong.false, le-ltb _ _ f.if-h-gt-MOST_SAMPLES.false) c.mark_wrong.ensures
+returns-3 c = simp (sym c.unit_wrong.ensures ∙ c.if-unit_wrong.false, le-ltb _ _ c.if-h-gt-MOST_SAMPLES.false) c.mark_wrong.ensures
 
 pub heading_wrong_spec : {M : Type 1} → statement M
 heading_wrong_spec =

@@ -12,13 +12,13 @@ is-at-requires : tie.Need-is_at-requires
 is-at-requires c κs = search rules
 
 returns : tie.Need-returns-then-file-eq0
-returns c = rw (eq-eqb _ _ c.before.if-file-eq0.true, ← zeros_are 8) c.is_at.ensures
+returns c = rw (eq-eqb _ _ c.if-file-eq0.true, ← zeros_are 8) c.is_at.ensures
 
 shared-slice-read-result : tie.Need-bounds-file-13-2
 shared-slice-read-result c = search rules
 
 returns-2 : tie.Need-returns
-returns-2 c = rw (ne_eqb _ _ c.before.if-file-eq0.false)
+returns-2 c = rw (ne_eqb _ _ c.if-file-eq0.false)
 
 pub mark_right_spec : {M : Type 1} → statement M
 mark_right_spec =

@@ -22,7 +22,7 @@ mark-flag-requires : tie.Need-mark_flag-requires
 mark-flag-requires c κs = search rules
 
 cast-put-numbers-2 : tie.Need-overflow_cast-mark_flag
-cast-put-numbers-2 c = record { fits = omega (arith, c.mark_flag.ensures, flag_small (mark_of c.before.before.before.before.args.h.trigger)) }
+cast-put-numbers-2 c = record { fits = omega (arith, c.mark_flag.ensures, flag_small (mark_of c.args.h.trigger)) }
 
 mark-place-requires : tie.Need-mark_place-requires
 mark-place-requires c κs = search rules
@@ -42,15 +42,11 @@ same_length c = search rules
 returns : tie.Need-returns
 unfolding head_bytes
 returns c =
-    let put = c.before.before in
-    let n = put.before.before.before.before in
-    let place = n.before in
-    let flag = place.before in
-    let a = flag.before.before.before.before.args in
-    put.put_block.ensures
+    let a = c.args in
+    c.put_block.ensures
     ∙ ap (block_of 0)
-    (n.put_numbers.ensures
-    ∙ ap₂ (λ (f p : ℕ). a.h.unitsize ∷ f ∷ (sample_bytes 8 a.h.len ++ sample_bytes 8 p)) flag.mark_flag.ensures place.mark_place.ensures)
+    (c.put_numbers.ensures
+    ∙ ap₂ (λ (f p : ℕ). a.h.unitsize ∷ f ∷ (sample_bytes 8 a.h.len ++ sample_bytes 8 p)) c.mark_flag.ensures c.mark_place.ensures)
 
 pub put_head_spec : {M : Type 1} → statement M
 put_head_spec =

@@ -14,20 +14,17 @@ slice-write-head-2 : tie.Need-bounds-head-1
 slice-write-head-2 c = search rules
 
 put-at-requires : tie.Need-put_at-requires
-put-at-requires c κs = (omega arith, simp length-set (omega (arith, c.before.before.requires)))
+put-at-requires c κs = (omega arith, simp length-set (omega (arith, c.requires)))
 
 put-at-requires-2 : tie.Need-put_at-requires-2
-put-at-requires-2 c κs = (omega arith, omega (arith, simp length-set at c.before.before.before.put_at.auto.0, c.before.before.before.before.before.before.requires))
+put-at-requires-2 c κs = (omega arith, omega (arith, simp length-set at c.put_at.auto.0, c.requires))
 
 same_length : tie.Need-shape_of-head
-same_length c = c.before.before.put_at-2.auto.0 ∙ simp length-set at c.before.before.before.before.before.before.put_at.auto.0
+same_length c = c.put_at-2.auto.0 ∙ simp length-set at c.put_at.auto.0
 
 returns : tie.Need-returns
 returns c =
-    let second = c.before.before in
-    let first = second.before.before.before.before in
-    let s = first.before.before.before in
-    numbers_put s.args.head.now _ _ s.args.unit s.args.flag s.args.len s.args.place s.requires first.put_at.ensures second.put_at-2.ensures
+    numbers_put c.args.head.now _ _ c.args.unit c.args.flag c.args.len c.args.place c.requires c.put_at.ensures c.put_at-2.ensures
 
 pub put_numbers_spec : {M : Type 1} → statement M
 put_numbers_spec =

@@ -14,14 +14,14 @@ abbrev decreases-loop : tie.decreases-loop-i
 decreases-loop blocks n k i₀ i = k - i
 
 -- there is a block to test
-inside_at : (l : tie.After-lesser invariant-loop decreases-loop) → l.before.before.before.loop-i.i < blocks_for l.before.before.before.before.before.before.args.n
-inside_at l = omega (arith, l.before.before.loop-i-test.true, l.before.before.before.before.blocks_for-k.ensures)
+inside_at : (l : tie.After-lesser invariant-loop decreases-loop) → l.loop-i.i < blocks_for l.args.n
+inside_at l = omega (arith, l.loop-i-test.true, l.blocks_for-k.ensures)
 
 blocks-for-requires : tie.Need-blocks_for-k-requires invariant-loop decreases-loop
 blocks-for-requires c κs = search rules
 
 loop-holds : tie.Need-loop-i-init invariant-loop decreases-loop
-loop-holds c = let a = c.before.before.args in testing_starts a.n a.blocks.now
+loop-holds c = let a = c.args in testing_starts a.n a.blocks.now
 
 mul_at : tie.Need-overflow_mul-at invariant-loop decreases-loop
 mul_at c = search rules
@@ -56,7 +56,7 @@ good-requires c κs = search rules
 returns : tie.Need-returns-then-not-good invariant-loop decreases-loop
 returns c =
     let l = c.before.before in
-    let p = l.before.before.before.loop-i in
+    let p = l.loop-i in
     testing_fails p.invariant (inside_at l) l.lesser.ensures c.before.good2.ensures c.if-not-good.true
 
 add-i : tie.Need-overflow_add-i-in-loop-i invariant-loop decreases-loop
@@ -68,11 +68,11 @@ loop-less c = search rules
 loop-again : tie.Need-loop-i-preserved invariant-loop decreases-loop
 loop-again c =
     let l = c.before.before in
-    let p = l.before.before.before.loop-i in
+    let p = l.loop-i in
     testing_on p.invariant (inside_at l) l.lesser.ensures c.before.good2.ensures c.if-not-good.false
 
 returns-2 : tie.Need-returns invariant-loop decreases-loop
-returns-2 c = testing_ends c.before.loop-i.invariant (omega (arith, c.loop-i-test.false, c.before.before.blocks_for-k.ensures))
+returns-2 c = testing_ends c.loop-i.invariant (omega (arith, c.loop-i-test.false, c.blocks_for-k.ensures))
 
 pub blocks_good_spec : {M : Type 1} → statement M
 blocks_good_spec =

@@ -23,24 +23,24 @@ left : (n m : ℕ) → n ≡ size m → n - block_size ≡ block_size * blocks_f
 left n m e = omega (arith, e)
 
 abbrev file_at : tie.Else-not-head_good → Bor (List ℕ)
-file_at c = c.before.before.before.args.file
+file_at c = c.args.file
 
 -- block 0 passes
 passes : (c : tie.Else-not-head_good) → head_test (file_at c).now ≡ true
-passes c = sym c.before.head_good.ensures ∙ not-false _ c.if-not-head_good.false
+passes c = sym c.head_good.ensures ∙ c.if-not-head_good.false
 
 -- how many bytes it calls for
-n_is : (c : tie.After-struct_known-1) → c.before.heading_in-h.result.len * c.before.heading_in-h.result.unitsize ≡ bytes_for (heading_in (file_at c.before.before).now)
-n_is c = ap bytes_for c.before.heading_in-h.ensures
+n_is : (c : tie.After-struct_known-1) → c.heading_in-h.result.len * c.heading_in-h.result.unitsize ≡ bytes_for (heading_in (file_at c.before.before).now)
+n_is c = ap bytes_for c.heading_in-h.ensures
 
-n_few : (c : tie.After-struct_known-1) → c.before.heading_in-h.result.len * c.before.heading_in-h.result.unitsize < 2 ^ 32
+n_few : (c : tie.After-struct_known-1) → c.heading_in-h.result.len * c.heading_in-h.result.unitsize < 2 ^ 32
 n_few c = omega (arith, n_is c, bytes_few (file_at c.before.before).now (passes c.before.before))
 
 head-good-requires : tie.Need-head_good-requires
 head-good-requires c κs = search rules
 
 returns : tie.Need-returns-then-not-head_good
-returns c = head_fails c.before.before.before.args.file.now c.before.head_good.ensures c.if-not-head_good.true
+returns c = head_fails c.args.file.now c.head_good.ensures c.if-not-head_good.true
 
 heading-in-requires : tie.Need-heading_in-h-requires
 heading-in-requires c κs = head_room (file_at c).now (passes c)
@@ -55,7 +55,7 @@ returns-2 : tie.Need-returns-then-file-file_size
 returns-2 c =
     let k = c.before.before in
     let t = k.before.before in
-    length_fails (file_at t).now t.before.head_good.ensures t.if-not-head_good.false (λ e. c.if-file-file_size.true (e ∙ sym (c.before.file_size.ensures ∙ ap size (n_is k))))
+    length_fails (file_at t).now t.head_good.ensures t.if-not-head_good.false (λ e. c.if-file-file_size.true (e ∙ sym (c.file_size.ensures ∙ ap size (n_is k))))
 
 sub-blocks-good : tie.Need-slice_bounds-blocks_good-count
 sub-blocks-good c = search rules
@@ -68,15 +68,13 @@ part-blocks-good-end c = search rules
 
 blocks-good-requires : tie.Need-blocks_good-requires
 blocks-good-requires c κs =
-    let k = c.before.before.before in
-    record { few = n_few k; size = behind_length (file_at k.before.before).now ∙ left _ (k.before.heading_in-h.result.len * k.before.heading_in-h.result.unitsize) (c.before.if-file-file_size.false ∙ c.before.before.file_size.ensures) }
+    record { few = n_few k; size = behind_length (file_at c.before.before).now ∙ left _ (c.heading_in-h.result.len * c.heading_in-h.result.unitsize) (c.if-file-file_size.false ∙ c.file_size.ensures) }
 
 returns-3 : tie.Need-returns
 returns-3 c =
-    let z = c.before.before in
-    let k = z.before.before in
+    let k = c.before.before in
     let t = k.before.before in
-    by_blocks (file_at t).now t.before.head_good.ensures t.if-not-head_good.false (z.if-file-file_size.false ∙ z.before.file_size.ensures ∙ ap size (n_is k)) (n_is k) (behind (file_at t).now) c.blocks_good.ensures
+    by_blocks (file_at t).now t.head_good.ensures t.if-not-head_good.false (c.if-file-file_size.false ∙ c.file_size.ensures ∙ ap size (n_is k)) (n_is k) (behind (file_at t).now) c.blocks_good.ensures
 
 pub file_good_spec : {M : Type 1} → statement M
 file_good_spec =

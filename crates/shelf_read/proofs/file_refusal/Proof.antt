@@ -24,7 +24,7 @@ module _ (f : tie.After-capacity_wrong) where
 
 -- the capacity is right
 right_at : (t : tie.Else-capacity_wrong) → wrong t.before ≡ false
-right_at t = sym t.before.capacity_wrong.ensures ∙ t.if-capacity_wrong.false
+right_at t = sym t.capacity_wrong.ensures ∙ t.if-capacity_wrong.false
 
 capacity-wrong-requires : tie.Need-capacity_wrong-requires
 capacity-wrong-requires c κs = search rules
@@ -40,10 +40,9 @@ room-refusal-requires c κs = let t = c.before in let f = t.before in ((capacity
 
 returns-3 : tie.Need-returns
 returns-3 c =
-    let u = c.before in
-    let t = u.before in
+    let t = c.before in
     let f = t.before in
-    row_room (s f).args.number (wrong f) (s f).args.good (short f) (right_at t) u.if-not-good.false c.room_refusal.ensures
+    row_room (s f).args.number (wrong f) (s f).args.good (short f) (right_at t) c.if-not-good.false c.room_refusal.ensures
 
 pub file_refusal_spec : {M : Type 1} → statement M
 file_refusal_spec = tie.close (tie.spec capacity-wrong-requires returns returns-2 room-refusal-requires returns-3)

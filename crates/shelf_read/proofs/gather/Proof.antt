@@ -14,19 +14,15 @@ invariant-loop samples₀ blocks n k i₀ samples i = Gathering n blocks samples
 abbrev decreases-loop : tie.decreases-loop-i
 decreases-loop samples₀ blocks n k i₀ samples i = k - i
 
--- the function's start, from a turn of the loop
-abbrev start_at : tie.After-lesser invariant-loop decreases-loop → tie.Start invariant-loop decreases-loop
-start_at l = l.before.before.before.before.before.before
-
 -- there is a block to empty
-inside_at : (l : tie.After-lesser invariant-loop decreases-loop) → l.before.before.loop-i.i < blocks_for (start_at l).args.n
-inside_at l = omega (arith, l.before.loop-i-test.true, l.before.before.before.blocks_for-k.ensures)
+inside_at : (l : tie.After-lesser invariant-loop decreases-loop) → l.loop-i.i < blocks_for l.args.n
+inside_at l = omega (arith, l.loop-i-test.true, l.blocks_for-k.ensures)
 
 blocks-for-requires : tie.Need-blocks_for-k-requires invariant-loop decreases-loop
 blocks-for-requires c κs = search rules
 
 loop-holds : tie.Need-loop-i-init invariant-loop decreases-loop
-loop-holds c = let a = c.before.before.before.args in gathering_starts a.n a.blocks.now a.samples.now
+loop-holds c = let a = c.args in gathering_starts a.n a.blocks.now a.samples.now
 
 mul-to : tie.Need-overflow_mul-to invariant-loop decreases-loop
 mul-to c = search rules
@@ -58,8 +54,7 @@ part-copy-at-end c = search rules
 copy-at-requires : tie.Need-copy_at-requires invariant-loop decreases-loop
 copy-at-requires c κs =
     let l = c.before.before in
-    let s = start_at l in
-    copy_fits l.before.before.loop-i.invariant (inside_at l) s.pre.0.size s.pre.1 l.lesser.ensures refl
+    copy_fits l.loop-i.invariant (inside_at l) l.pre.0.size l.pre.1 l.lesser.ensures refl
 
 add-i : tie.Need-overflow_add-i invariant-loop decreases-loop
 add-i c = search rules
@@ -69,16 +64,14 @@ loop-less c = search rules
 
 loop-again : tie.Need-loop-i-preserved invariant-loop decreases-loop
 loop-again c =
-    let copied = c.before.before in
-    let l = copied.before.before.before in
-    let s = start_at l in
-    gathering_on l.before.before.loop-i.invariant (inside_at l) s.pre.0.size s.pre.1 l.lesser.ensures refl copied.copy_at.ensures
+    let l = c.before.before.before in
+    gathering_on l.loop-i.invariant (inside_at l) l.pre.0.size l.pre.1 l.lesser.ensures refl c.copy_at.ensures
 
 same_length : tie.Need-shape_of-samples invariant-loop decreases-loop
 same_length c = search rules
 
 returns : tie.Need-returns invariant-loop decreases-loop
-returns c = gathering_ends c.before.loop-i.invariant (omega (arith, c.loop-i-test.false, c.before.before.blocks_for-k.ensures))
+returns c = gathering_ends c.loop-i.invariant (omega (arith, c.loop-i-test.false, c.blocks_for-k.ensures))
 
 pub gather_spec : {M : Type 1} → statement M
 gather_spec =

@@ -16,12 +16,6 @@ use Rattle.shelf_read.proofs.Taken.{take_room, reads_refused, reads_done}
 use Rattle.shelf_read.proofs.read.Statement.{statement}
 use Rattle.shelf_read.proofs.read.Tie as tie
 
--- the call that takes the samples, from where all is lent back
-abbrev taken_at : tie.After-slice_known-10-1 → tie.After-take_samples
-taken_at p =
-    let l2 = p.before.before.before.before.before in
-    l2.before.before.before.before.before
-
 -- the start from the first test's call, and the memory then
 module _ (f : tie.After-file_refusal-wrong) where
   abbrev tested : tie.After-file_good
@@ -48,13 +42,13 @@ entered : (t : tie.Else-wrong-ne0) → LetIn (s t.before).args.capacity (lent_of
 entered t = let_in _ _ _ (sym (refusal_is t.before) ∙ t.if-wrong-ne0.false)
 
 store_is : (n : tie.After-new_store-c) → let f = n.before.before.before in store_of n.new_store-c.result ≡ store_in (s f).args.capacity (heading_in (file f))
-store_is n = n.new_store-c.ensures ∙ ap (store_in (s n.before.before.before).args.capacity) n.before.heading_in.ensures
+store_is n = n.new_store-c.ensures ∙ ap (store_in (s n.before.before.before).args.capacity) n.heading_in.ensures
 
 file-good-requires : tie.Need-file_good-requires
 file-good-requires c κs = search rules
 
 file-refusal-requires : tie.Need-file_refusal-wrong-requires
-file-refusal-requires c κs = λ e. let t = c.before.before.before.before.before in (passed _ (sym t.file_good.ensures ∙ e)).0
+file-refusal-requires c κs = λ e. (passed _ (sym c.file_good.ensures ∙ e)).0
 
 same_length : tie.Need-shape_of-samples-then-wrong-ne0
 same_length c = search rules
@@ -106,11 +100,9 @@ same-length-10 c = search rules
 
 returns-2 : tie.Need-returns
 returns-2 c =
-    let taken = taken_at c in
-    let n = taken.before.before.before.before.before.before in
-    let t = n.before.before in
-    let f = t.before in
-    reads_done (s f).args.capacity (file f) (samples f) (levels f) (refusal_is f) t.if-wrong-ne0.left n.new_store-c.result (store_is n) taken.take_samples.ensures
+    let n = c.before.before.before.before.before.before in
+    let f = n.before in
+    reads_done (s f).args.capacity (file f) (samples f) (levels f) (refusal_is f) n.if-wrong-ne0.left n.new_store-c.result (store_is n) c.take_samples.ensures
 
 pub read_spec : {M : Type 1} → statement M
 read_spec =

@@ -28,7 +28,7 @@ module _ (n : tie.After-new_store-c) where
   lent = lent_of s.args.samples.now (level_of s.args.l1.now s.args.l2.now s.args.l3.now s.args.l4.now)
 
   store_is : store_of n.new_store-c.result ≡ store_in s.args.capacity (heading_in file)
-  store_is = n.new_store-c.ensures ∙ ap (store_in s.args.capacity) n.before.heading_in.ensures
+  store_is = n.new_store-c.ensures ∙ ap (store_in s.args.capacity) n.heading_in.ensures
 
 -- the row by a test of its room
 abbrev row : Bool → ℕ
@@ -38,7 +38,7 @@ told : (t : tie.After-store_short) → let n = t.before in row t.store_short.res
 told t = let n = t.before in ap row (short_is (s n).args.capacity (lent n) (heading_in (file n)) (store_is n) t.store_short.ensures)
 
 heading-in-requires : tie.Need-heading_in-requires
-heading-in-requires c κs = let s = c.before.before.before.before.before.before in head_room s.args.file.now s.requires.1
+heading-in-requires c κs = head_room c.args.file.now c.requires.1
 
 new-store-requires : tie.Need-new_store-c-requires
 new-store-requires c κs = search rules

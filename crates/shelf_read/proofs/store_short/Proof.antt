@@ -11,7 +11,7 @@ memory-short-requires : tie.Need-memory_short-requires
 memory-short-requires c κs = search rules
 
 returns-2 : tie.Need-returns
-returns-2 c = rw (le-ltb _ _ c.before.if-c.false) c.memory_short.ensures
+returns-2 c = rw (le-ltb _ _ c.if-c.false) c.memory_short.ensures
 
 pub store_short_spec : {M : Type 1} → statement M
 store_short_spec = tie.close (tie.spec returns memory-short-requires returns-2)

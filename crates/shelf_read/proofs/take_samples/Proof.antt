@@ -5,12 +5,6 @@ use Rattle.shelf_read.proofs.Taken.{blocks_room, samples_room, behind_length, st
 use Rattle.shelf_read.proofs.take_samples.Statement.{statement}
 use Rattle.shelf_read.proofs.take_samples.Tie as tie
 
--- the function's start, from where the first call's memory is lent
-abbrev start_at : tie.After-struct_known-1 → tie.Start
-start_at k =
-    let m = k.before.before.before.before.before in
-    m.before.before.before.before
-
 sub-gather : tie.Need-slice_bounds-gather-count
 sub-gather c = search rules
 
@@ -24,7 +18,7 @@ mul-gather : tie.Need-overflow_mul-c
 mul-gather c = search rules
 
 gather-requires : tie.Need-gather-requires
-gather-requires c κs = let s = start_at c in (blocks_room s.pre (behind_length s.args.file.now), samples_room s.pre)
+gather-requires c κs = (blocks_room c.pre (behind_length c.args.file.now), samples_room c.pre)
 
 rebuild-levels-requires : tie.Need-rebuild_levels-requires
 rebuild-levels-requires c κs = search rules
@@ -46,12 +40,8 @@ same-length-5 c = search rules
 
 returns : tie.Need-returns
 returns c =
-    let l1 = c.before.before.before.before.before.before.before in
-    let built = l1.before in
-    let lent = built.before.before.before.before.before in
-    let g = lent.before.before.before in
-    let a = (start_at g.before).args in
-    stored_taken a.c.unitsize a.c.len a.file.now a.samples.now _ (level_of a.l1.now a.l2.now a.l3.now a.l4.now) _ g.gather.ensures built.rebuild_levels.ensures
+    let a = c.args in
+    stored_taken a.c.unitsize a.c.len a.file.now a.samples.now _ (level_of a.l1.now a.l2.now a.l3.now a.l4.now) _ c.gather.ensures c.rebuild_levels.ensures
 
 pub take_samples_spec : {M : Type 1} → statement M
 take_samples_spec =

@@ -8,26 +8,21 @@ use Rattle.shelf_salvage.proofs.fill_samples.Statement.{statement}
 use Rattle.shelf_salvage.proofs.fill_samples.Tie as tie
 
 mul-gather-there : tie.Need-overflow_mul-c
-mul-gather-there c = let s = c.before.before.before.before.before in omega (arith, bytes_small s.requires.0)
+mul-gather-there c = omega (arith, bytes_small c.requires.0)
 
 gather-there-requires : tie.Need-gather_there-requires
-gather-there-requires c κs = let s = c.before.before.before.before.before in (head_room s.args.file.now s.requires.0.head, omega (arith, bytes_small s.requires.0), s.requires.0.holds)
+gather-there-requires c κs = (head_room c.args.file.now c.requires.0.head, omega (arith, bytes_small c.requires.0), c.requires.0.holds)
 
 blank-requires : tie.Need-blank-requires
 blank-requires c κs =
-    let g = c.before.before.before in
-    let s = g.before.before.before.before.before.before in
-    blank_room s.requires.0 s.requires.1 g.gather_there.ensures.size
+    blank_room c.requires.0 c.requires.1 c.gather_there.ensures.size
 
 same_length : tie.Need-shape_of-samples
 same_length c = search rules
 
 returns : tie.Need-returns
 returns c =
-    let b = c.before.before in
-    let g = b.before.before.before.before in
-    let s = g.before.before.before.before.before.before in
-    filled_store s.requires.0 s.requires.1 refl g.gather_there.ensures b.blank.ensures
+    filled_store c.requires.0 c.requires.1 refl c.gather_there.ensures c.blank.ensures
 
 pub fill_samples_spec : {M : Type 1} → statement M
 fill_samples_spec =

@@ -7,7 +7,7 @@ use Rattle.shelf_salvage.proofs.fill_store.Statement.{statement}
 use Rattle.shelf_salvage.proofs.fill_store.Tie as tie
 
 fill-samples-requires : tie.Need-fill_samples-requires
-fill-samples-requires c κs = let s = c.before.before.before.before.before.before.before.before in (s.requires.0, s.requires.1)
+fill-samples-requires c κs = (c.requires.0, c.requires.1)
 
 rebuild-levels-requires : tie.Need-rebuild_levels-requires
 rebuild-levels-requires c κs = search rules
@@ -29,13 +29,8 @@ same-length-5 c = search rules
 
 returns : tie.Need-returns
 returns c =
-    let l1 = c.before.before.before.before.before.before.before in
-    let built = l1.before in
-    let lent = built.before.before.before.before.before in
-    let filled = lent.before.before.before in
-    let known = filled.before.before.before.before in
-    let a = known.before.before.before.before.before.args in
-    stored_front a.c.unitsize a.c.len (salvaged_bytes a.file.now) a.samples.now _ (level_of a.l1.now a.l2.now a.l3.now a.l4.now) _ filled.fill_samples.ensures built.rebuild_levels.ensures
+    let a = c.args in
+    stored_front a.c.unitsize a.c.len (salvaged_bytes a.file.now) a.samples.now _ (level_of a.l1.now a.l2.now a.l3.now a.l4.now) _ c.fill_samples.ensures c.rebuild_levels.ensures
 
 pub fill_store_spec : {M : Type 1} → statement M
 fill_store_spec =

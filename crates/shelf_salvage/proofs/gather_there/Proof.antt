@@ -15,13 +15,13 @@ lesser-requires : tie.Need-lesser-there-requires
 lesser-requires c κs = search rules
 
 blocks-for-requires : tie.Need-blocks_for-requires
-blocks-for-requires c κs = let s = c.before.before.before in there_small s.args.file.now s.args.samples.now s.requires.0 s.requires.1 s.requires.2 c.lesser-there.ensures
+blocks-for-requires c κs = there_small c.args.file.now c.args.samples.now c.requires.0 c.requires.1 c.requires.2 c.lesser-there.ensures
 
 mul-end : tie.Need-overflow_mul-end
-mul-end c = let l = c.before in let s = l.before.before.before in omega (arith, blocks_there s.args.file.now s.args.samples.now s.requires.0 s.requires.1 s.requires.2 l.lesser-there.ensures, c.blocks_for.ensures, l.lesser-there.ensures)
+mul-end c = omega (arith, blocks_there c.args.file.now c.args.samples.now c.requires.0 c.requires.1 c.requires.2 c.lesser-there.ensures, c.blocks_for.ensures, c.lesser-there.ensures)
 
 add-end : tie.Need-overflow_add-end
-add-end c = let l = c.before in let s = l.before.before.before in omega (arith, blocks_there s.args.file.now s.args.samples.now s.requires.0 s.requires.1 s.requires.2 l.lesser-there.ensures, c.blocks_for.ensures, l.lesser-there.ensures)
+add-end c = omega (arith, blocks_there c.args.file.now c.args.samples.now c.requires.0 c.requires.1 c.requires.2 c.lesser-there.ensures, c.blocks_for.ensures, c.lesser-there.ensures)
 
 sub-gather : tie.Need-slice_bounds-gather-count
 sub-gather c = search rules
@@ -31,28 +31,18 @@ part-gather-start c = search rules
 
 part-gather-end : tie.Need-slice_bounds-gather-end
 part-gather-end c =
-    let b = c.before in
-    let l = b.before in
-    let s = l.before.before.before in
-    end_inside s.args.file.now s.args.samples.now s.requires.0 s.requires.1 s.requires.2 l.lesser-there.ensures b.blocks_for.ensures
+    end_inside c.args.file.now c.args.samples.now c.requires.0 c.requires.1 c.requires.2 c.lesser-there.ensures c.blocks_for.ensures
 
 gather-requires : tie.Need-gather-requires
 gather-requires c κs =
-    let b = c.before.before in
-    let l = b.before in
-    let s = l.before.before.before in
-    (part_room s.args.file.now s.args.samples.now s.requires.0 s.requires.1 s.requires.2 l.lesser-there.ensures b.blocks_for.ensures, there_holds s.args.file.now s.args.samples.now s.requires.0 s.requires.1 s.requires.2 l.lesser-there.ensures)
+    (part_room c.args.file.now c.args.samples.now c.requires.0 c.requires.1 c.requires.2 c.lesser-there.ensures c.blocks_for.ensures, there_holds c.args.file.now c.args.samples.now c.requires.0 c.requires.1 c.requires.2 c.lesser-there.ensures)
 
 same_length : tie.Need-shape_of-samples
 same_length c = search rules
 
 returns : tie.Need-returns
 returns c =
-    let g = c.before.before in
-    let b = g.before.before.before in
-    let l = b.before in
-    let s = l.before.before.before in
-    gathers s.args.file.now s.args.samples.now s.requires.0 s.requires.1 s.requires.2 l.lesser-there.ensures b.blocks_for.ensures g.gather.ensures
+    gathers c.args.file.now c.args.samples.now c.requires.0 c.requires.1 c.requires.2 c.lesser-there.ensures c.blocks_for.ensures c.gather.ensures
 
 pub gather_there_spec : {M : Type 1} → statement M
 gather_there_spec =

@@ -44,13 +44,13 @@ entered : (t : tie.Else-wrong-ne0) → LetIn (s t.before).args.capacity (lent_of
 entered t = let_in _ _ _ (sym (refusal_is t.before) ∙ t.if-wrong-ne0.false)
 
 store_is : (n : tie.After-new_store-c) → let f = n.before.before.before in store_of n.new_store-c.result ≡ store_in (s f).args.capacity (heading_in (file f))
-store_is n = n.new_store-c.ensures ∙ ap (store_in (s n.before.before.before).args.capacity) n.before.heading_in.ensures
+store_is n = n.new_store-c.ensures ∙ ap (store_in (s n.before.before.before).args.capacity) n.heading_in.ensures
 
 head-good-requires : tie.Need-head_good-requires
 head-good-requires c κs = search rules
 
 file-refusal-requires : tie.Need-file_refusal-wrong-requires
-file-refusal-requires c κs = λ e. sym c.before.before.before.before.before.head_good.ensures ∙ e
+file-refusal-requires c κs = λ e. sym c.head_good.ensures ∙ e
 
 same_length : tie.Need-shape_of-samples-then-wrong-ne0
 same_length c = search rules
@@ -103,11 +103,10 @@ same-length-11 c = search rules
 
 returns-2 : tie.Need-returns
 returns-2 c =
-    let into = c.before.before.before.before.before.before.before.before.before.before.before.before in
-    let n = into.before.before.before.before.before.before.before in
+    let n = c.before.before.before.before.before.before.before in
     let t = n.before.before in
     let f = t.before in
-    salvages_left (s f).args.capacity (file f) (samples f) (levels f) (list f) (entered t) (store_is n) into.salvage_into.ensures
+    salvages_left (s f).args.capacity (file f) (samples f) (levels f) (list f) (entered t) (store_is n) c.salvage_into.ensures
 
 pub salvage_spec : {M : Type 1} → statement M
 salvage_spec =

@@ -25,12 +25,8 @@ module _ (f : tie.After-find) where
   abbrev list : List ℕ
   list = s.args.list-1.now
 
--- the search, from where its find is told
-abbrev found_at : tie.In-Found-2 → tie.After-find
-found_at d = d.before.before.before.before
-
 find-requires : tie.Need-find-requires
-find-requires c κs = let s = c.before.before.before.before.before.before.before.before in s.requires.0.head
+find-requires c κs = c.requires.0.head
 
 enum_told : tie.Need-enum_told-1
 enum_told c = search rules
@@ -41,14 +37,13 @@ enum-known-found c = search rules
 fill-store-requires : tie.Need-fill_store-requires
 fill-store-requires c κs =
     let d = c.before.before.before.before.before.before.before in
-    let f = found_at d in
-    ((s f).pre.0, listed (file f) (samples f) (levels f) (list f) f.find.ensures d.found-1.given.1, (s f).pre.1)
+    ((s d).pre.0, listed (file d) (samples d) (levels d) (list d) d.find.ensures d.in-Found.is, (s d).pre.1)
 
 same_length : tie.Need-shape_of-list-in-Short
 same_length c = search rules
 
 returns : tie.Need-returns-in-Short
-returns c = let f = c.before.before.before.before in left_short (file f) (samples f) (levels f) (list f) f.find.ensures c.enum_told-1.given.1
+returns c = let f = c.before.before.before.before in left_short (file f) (samples f) (levels f) (list f) f.find.ensures c.in-Short.is
 
 same-length-2 : tie.Need-shape_of-samples
 same-length-2 c = search rules
@@ -70,10 +65,8 @@ same-length-7 c = search rules
 
 returns-2 : tie.Need-returns-in-Found
 returns-2 c =
-    let fills = c.before.before.before.before.before.before.before.before.before.before in
-    let d = fills.before.before.before.before.before.before.before.before in
-    let f = found_at d in
-    left_found (file f) (samples f) (levels f) (list f) f.find.ensures d.found-1.given.1 (s f).args.c refl (s f).pre.0.says fills.fill_store.ensures
+    let d = c.before.before.before.before.before.before.before.before in
+    left_found (file d) (samples d) (levels d) (list d) d.find.ensures d.in-Found.is (s d).args.c refl (s d).pre.0.says c.fill_store.ensures
 
 pub salvage_into_spec : {M : Type 1} → statement M
 salvage_into_spec =

@@ -15,7 +15,7 @@ add-if1 : tie.Need-overflow_add-at-2
 add-if1 c = search rules
 
 returns : tie.Need-returns-then-file-at
-returns c = let s = c.before.before in torn s.args.n s.args.i s.args.file.now c.if-file-at.true
+returns c = torn c.args.n c.args.i c.args.file.now c.if-file-at.true
 
 add-good : tie.Need-overflow_add-at-3
 add-good c = search rules
@@ -46,9 +46,7 @@ good-requires c κs = search rules
 
 returns-2 : tie.Need-returns
 returns-2 c =
-    let t = c.before.before.before in
-    let s = t.before.before in
-    whole s.args.n s.args.i s.args.file.now (omega (arith, t.if-file-at.false)) c.before.lesser.ensures c.good2.ensures
+    whole c.args.n c.args.i c.args.file.now (omega (arith, c.if-file-at.false)) c.lesser.ensures c.good2.ensures
 
 pub block_known_spec : {M : Type 1} → statement M
 block_known_spec =

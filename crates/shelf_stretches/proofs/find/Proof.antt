@@ -22,44 +22,30 @@ enum_told c = search rules
 
 tell-requires : tie.Need-tell-requires
 tell-requires c κs =
-    let e = c.before in
-    let sv = e.before.before.before.before in
-    let s = sv.before.before.before.before in
-    let file = s.args.file.now in
-    let list = s.args.list-1.now in
-    (s.requires, room_again file list (early_room (length list) file _ sv.survey.ensures e.enum_told-1.given.1) (early_empty (length list) file _ sv.survey.ensures e.enum_told-1.given.1))
+    let file = c.args.file.now in
+    let list = c.args.list-1.now in
+    (c.requires, room_again file list (early_room (length list) file _ c.survey.ensures c.in-Enough.is) (early_empty (length list) file _ c.survey.ensures c.in-Enough.is))
 
 enum-known-found : tie.Need-enum_known-found
 enum-known-found c = search rules
 
 tell-counted-requires : tie.Need-tell_counted-requires
 tell-counted-requires c κs =
-    let d = c.before.before in
-    let sv = d.before.before.before.before in
-    let s = sv.before.before.before.before in
-    (s.requires, whole_counted (length s.args.list-1.now) s.args.file.now _ sv.survey.ensures d.found-1.given.1)
+    (c.requires, whole_counted (length c.args.list-1.now) c.args.file.now _ c.survey.ensures c.in-Whole.is)
 
 same_length : tie.Need-shape_of-list-in-Enough
 same_length c = search rules
 
 returns : tie.Need-returns-in-Enough
 returns c =
-    let t = c.before.before in
-    let e = t.before.before in
-    let sv = e.before.before.before.before in
-    let s = sv.before.before.before.before in
-    finds_same s.args.file.now s.args.list-1.now (early_empty (length s.args.list-1.now) s.args.file.now _ sv.survey.ensures e.enum_told-1.given.1) t.tell.result _ t.tell.ensures
+    finds_same c.args.file.now c.args.list-1.now (early_empty (length c.args.list-1.now) c.args.file.now _ c.survey.ensures c.in-Enough.is) c.tell.result _ c.tell.ensures
 
 same-length-2 : tie.Need-shape_of-list-in-Whole
 same-length-2 c = search rules
 
 returns-2 : tie.Need-returns-in-Whole
 returns-2 c =
-    let t = c.before.before in
-    let d = t.before.before.before in
-    let sv = d.before.before.before.before in
-    let s = sv.before.before.before.before in
-    finds_same s.args.file.now s.args.list-1.now (whole_empty (length s.args.list-1.now) s.args.file.now _ sv.survey.ensures d.found-1.given.1) t.tell_counted.result _ t.tell_counted.ensures
+    finds_same c.args.file.now c.args.list-1.now (whole_empty (length c.args.list-1.now) c.args.file.now _ c.survey.ensures c.in-Whole.is) c.tell_counted.result _ c.tell_counted.ensures
 
 pub find_spec : {M : Type 1} → statement M
 find_spec =

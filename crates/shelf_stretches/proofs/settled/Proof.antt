@@ -16,7 +16,7 @@ most-numbers-requires : tie.Need-most_numbers-requires
 most-numbers-requires c κs = search rules
 
 returns-2 : tie.Need-returns
-returns-2 c = λ e. omega (arith, leb-true c.most_numbers.result c.before.before.args.room e, c.most_numbers.ensures)
+returns-2 c = λ e. omega (arith, leb-true c.most_numbers.result c.args.room e, c.most_numbers.ensures)
 
 pub settled_spec : {M : Type 1} → statement M
 settled_spec = tie.close (tie.spec add-if2 returns most-numbers-requires returns-2)

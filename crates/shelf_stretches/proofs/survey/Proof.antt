@@ -12,7 +12,7 @@ module _ (h : tie.After-heading_in-h) where
   s = h.before.before.before
 
 heading-in-requires : tie.Need-heading_in-h-requires
-heading-in-requires c κs = let t = c.before.before in head_room t.args.file.now t.requires
+heading-in-requires c κs = head_room c.args.file.now c.requires
 
 mul-survey-blocks : tie.Need-overflow_mul-h
 mul-survey-blocks c = let h = c.before.before in omega (arith, bytes_few (measured (s h).args.file.now (s h).requires h.heading_in-h.result h.heading_in-h.ensures))

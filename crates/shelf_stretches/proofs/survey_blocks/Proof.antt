@@ -16,35 +16,26 @@ invariant-loop list₀ room file n len per k run₀ i₀ list run i = Loop file 
 abbrev decreases-loop : tie.decreases-loop-i
 decreases-loop list₀ room file n len per k run₀ i₀ list run i = k - i
 
--- the function's start, from the loop
-abbrev start_at : tie.At-loop-i invariant-loop decreases-loop → tie.Start invariant-loop decreases-loop
-start_at l = l.before.before.before.before
-
 -- there is a block in a turn, and none is left at the end
-inside_at : (t : tie.In-loop-i invariant-loop decreases-loop) → t.before.loop-i.i < blocks_for (start_at t.before).args.n
-inside_at t = omega (arith, t.loop-i-test.true, t.before.before.blocks_for-k.ensures)
+inside_at : (t : tie.In-loop-i invariant-loop decreases-loop) → t.loop-i.i < blocks_for t.args.n
+inside_at t = omega (arith, t.loop-i-test.true, t.blocks_for-k.ensures)
 
-ends_at : (t : tie.After-loop-i invariant-loop decreases-loop) → blocks_for (start_at t.before).args.n ≤ t.before.loop-i.i
-ends_at t = omega (arith, t.loop-i-test.false, t.before.before.blocks_for-k.ensures)
-
--- a turn, from where it goes on
-abbrev turn_at : tie.Else-settled invariant-loop decreases-loop → tie.In-loop-i invariant-loop decreases-loop
-turn_at c = c.before.before
+ends_at : (t : tie.After-loop-i invariant-loop decreases-loop) → blocks_for t.args.n ≤ t.loop-i.i
+ends_at t = omega (arith, t.loop-i-test.false, t.blocks_for-k.ensures)
 
 blocks-for-requires : tie.Need-blocks_for-k-requires invariant-loop decreases-loop
-blocks-for-requires c κs = bytes_few c.before.before.requires
+blocks-for-requires c κs = bytes_few c.requires
 
 loop-holds : tie.Need-loop-i-init invariant-loop decreases-loop
-loop-holds c = let a = c.before.before.before.args in loop_starts a.file.now a.list-1.now
+loop-holds c = let a = c.args in loop_starts a.file.now a.list-1.now
 
 sub-settled : tie.Need-overflow_sub-k invariant-loop decreases-loop
 sub-settled c = search rules
 
 settled-requires : tie.Need-settled-requires invariant-loop decreases-loop
 settled-requires c κs =
-    let s = start_at c.before in
-    let few = blocks_few s.pre in
-    (omega (arith, c.before.loop-i.invariant.few, inside_at c, few), omega (arith, c.before.loop-i.invariant.survey.sum, c.before.loop-i.invariant.survey.inside, s.pre.samples, s.pre.few), omega (arith, few, c.before.before.blocks_for-k.ensures))
+    let few = blocks_few c.pre in
+    (omega (arith, c.loop-i.invariant.few, inside_at c, few), omega (arith, c.loop-i.invariant.survey.sum, c.loop-i.invariant.survey.inside, c.pre.samples, c.pre.few), omega (arith, few, c.blocks_for-k.ensures))
 
 same_length : tie.Need-shape_of-list-then-settled invariant-loop decreases-loop
 same_length c = search rules
@@ -52,52 +43,47 @@ same_length c = search rules
 returns : tie.Need-returns-then-settled invariant-loop decreases-loop
 returns c =
     let t = c.before.before in
-    enough (start_at t.before).pre t.before.loop-i.invariant (inside_at t)
-    (ap (λ (k : ℕ). most_numbers t.before.loop-i.run (k - t.before.loop-i.i)) t.before.before.blocks_for-k.ensures) (c.before.settled.ensures c.if-settled.true)
+    enough t.before.pre t.loop-i.invariant (inside_at t)
+    (ap (λ (k : ℕ). most_numbers t.loop-i.run (k - t.loop-i.i)) t.blocks_for-k.ensures) (c.settled.ensures c.if-settled.true)
 
 mul_at : tie.Need-overflow_mul-at invariant-loop decreases-loop
-mul_at c = let t = turn_at c in let s = start_at t.before in omega (arith, block_inside s.pre t.before.loop-i.inv (inside_at t), s.pre.few)
+mul_at c = omega (arith, block_inside c.pre c.loop-i.inv (inside_at c), c.pre.few)
 
 block-known-requires : tie.Need-block_known-requires invariant-loop decreases-loop
-block-known-requires c κs = let t = turn_at c.before in (bytes_few (start_at t.before).pre, inside_at t)
+block-known-requires c κs = let t = c.before in (bytes_few t.before.pre, inside_at t)
 
 sub-lesser : tie.Need-overflow_sub-len invariant-loop decreases-loop
-sub-lesser c = let t = turn_at c.before.before in omega (arith, block_inside (start_at t.before).pre t.before.loop-i.inv (inside_at t))
+sub-lesser c = let t = c.before.before in omega (arith, block_inside t.before.pre t.loop-i.inv (inside_at t))
 
 lesser-requires : tie.Need-lesser-requires invariant-loop decreases-loop
 lesser-requires c κs = search rules
 
 step-requires : tie.Need-step-run-requires invariant-loop decreases-loop
 step-requires c κs =
-    let t = turn_at c.before.before.before in
-    let s = start_at t.before in
-    (on_room s.pre t.before.loop-i.inv (inside_at t), omega (arith, c.lesser.ensures, s.pre.few))
+    let t = c.before.before.before in
+    (on_room t.pre t.loop-i.inv (inside_at t), omega (arith, c.lesser.ensures, t.pre.few))
 
 add-i : tie.Need-overflow_add-i invariant-loop decreases-loop
-add-i c = let t = turn_at c.before.before.before.before.before.before in omega (arith, inside_at t, blocks_few (start_at t.before).pre)
+add-i c = let t = c.before.before.before.before.before.before in omega (arith, inside_at t, blocks_few t.before.pre)
 
 loop-less : tie.Need-loop-i-smaller invariant-loop decreases-loop
 loop-less c = search rules
 
 loop-again : tie.Need-loop-i-preserved invariant-loop decreases-loop
 loop-again c =
-    let done = c.before.before in
-    let known = done.before.before in
-    let t = turn_at known.before.before in
-    next_block (start_at t.before).pre t.before.loop-i.inv (inside_at t) known.block_known.ensures done.before.lesser.ensures done.step-run.ensures.0 done.step-run.ensures.1
+    let t = c.before.before in
+    next_block t.before.pre t.loop-i.inv (inside_at t) c.block_known.ensures c.lesser.ensures c.step-run.ensures.0 c.step-run.ensures.1
 
 close-requires : tie.Need-close-last-requires invariant-loop decreases-loop
-close-requires c κs = let t = c.before in last_room (start_at t.before).pre t.before.loop-i.invariant (ends_at t)
+close-requires c κs = let t = c.before in last_room t.before.pre t.loop-i.invariant (ends_at t)
 
 same-length-2 : tie.Need-shape_of-list invariant-loop decreases-loop
 same-length-2 c = search rules
 
 returns-2 : tie.Need-returns invariant-loop decreases-loop
 returns-2 c =
-    let closes = c.before.before in
-    let t = closes.before.before in
-    let s = start_at t.before in
-    surveyed s.pre t.before.loop-i.invariant (ends_at t) s.args.room closes.close-last.ensures.0 closes.close-last.ensures.1
+    let t = c.before.before in
+    surveyed t.pre t.loop-i.invariant (ends_at t) t.args.room c.close-last.ensures.0 c.close-last.ensures.1
 
 pub survey_blocks_spec : {M : Type 1} → statement M
 survey_blocks_spec =

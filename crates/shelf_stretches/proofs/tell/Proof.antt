@@ -18,19 +18,14 @@ same_length c = search rules
 
 returns : tie.Need-returns-in-Enough
 returns c =
-    let sv = c.before.before.before.before in
-    let s = sv.before.before.before.before in
-    told_early s.args.file.now s.args.list-1.now s.requires.1 sv.survey.ensures c.enum_told-1.given.1
+    told_early c.args.file.now c.args.list-1.now c.requires.1 c.survey.ensures c.in-Enough.is
 
 same-length-2 : tie.Need-shape_of-list-in-Whole
 same-length-2 c = search rules
 
 returns-2 : tie.Need-returns-in-Whole
 returns-2 c =
-    let d = c.before in
-    let sv = d.before.before.before.before in
-    let s = sv.before.before.before.before in
-    told_whole s.args.file.now s.args.list-1.now s.requires.1 sv.survey.ensures d.found-1.given.1
+    told_whole c.args.file.now c.args.list-1.now c.requires.1 c.survey.ensures c.in-Whole.is
 
 pub tell_spec : {M : Type 1} → statement M
 tell_spec =

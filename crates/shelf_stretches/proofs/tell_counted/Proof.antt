@@ -7,16 +7,16 @@ use Rattle.shelf_stretches.proofs.tell_counted.Statement.{statement}
 use Rattle.shelf_stretches.proofs.tell_counted.Tie as tie
 
 mul-if1 : tie.Need-overflow_mul-found
-mul-if1 c = let s = c.before.before.before in omega (arith, counted_few s.args.file.now s.requires.0 s.requires.1)
+mul-if1 c = omega (arith, counted_few c.args.file.now c.requires.0 c.requires.1)
 
 returns : tie.Need-returns-then-list-found
-returns c = let s = c.before.before.before.before in too_short s.args.file.now s.args.list-1.now s.requires.1 c.if-list-found.true
+returns c = too_short c.args.file.now c.args.list-1.now c.requires.1 c.if-list-found.true
 
 returns-2 : tie.Need-returns-then-found-eq0
-returns-2 c = let s = c.before.before.before.before.before.before in none_there s.args.file.now s.args.list-1.now s.requires.1 c.if-found-eq0.true
+returns-2 c = none_there c.args.file.now c.args.list-1.now c.requires.1 c.if-found-eq0.true
 
 tell-requires : tie.Need-tell-requires
-tell-requires c κs = let t = c.before.before.before in let s = t.before.before.before.before in (s.requires.0, has_room s.args.file.now s.args.list-1.now s.requires.1 (omega (arith, t.if-list-found.false)))
+tell-requires c κs = (c.requires.0, has_room c.args.file.now c.args.list-1.now c.requires.1 (omega (arith, c.if-list-found.false)))
 
 same_length : tie.Need-shape_of-list
 same_length c = search rules

@@ -14,19 +14,15 @@ invariant-loop blocks₀ bytes n k i₀ blocks i = Putting bytes blocks i
 abbrev decreases-loop : tie.decreases-loop-i
 decreases-loop blocks₀ bytes n k i₀ blocks i = k - i
 
--- the function's start, from a turn of the loop
-abbrev start_at : tie.After-lesser-e invariant-loop decreases-loop → tie.Start invariant-loop decreases-loop
-start_at l = l.before.before.before.before.before.before
-
 -- there is a block to put
-inside_at : (l : tie.After-lesser-e invariant-loop decreases-loop) → l.before.before.loop-i.i < blocks_for (length (start_at l).args.bytes.now)
-inside_at l = omega (arith, l.before.loop-i-test.true, l.before.before.before.blocks_for-k.ensures)
+inside_at : (l : tie.After-lesser-e invariant-loop decreases-loop) → l.loop-i.i < blocks_for (length l.args.bytes.now)
+inside_at l = omega (arith, l.loop-i-test.true, l.blocks_for-k.ensures)
 
 blocks-for-requires : tie.Need-blocks_for-k-requires invariant-loop decreases-loop
 blocks-for-requires c κs = search rules
 
 loop-holds : tie.Need-loop-i-init invariant-loop decreases-loop
-loop-holds c = let s = c.before.before.before in putting_starts s.args.bytes.now s.args.blocks.now s.requires.size
+loop-holds c = putting_starts c.args.bytes.now c.args.blocks.now c.requires.size
 
 mul-a : tie.Need-overflow_mul-a invariant-loop decreases-loop
 mul-a c = search rules
@@ -50,7 +46,7 @@ part-put-block-start : tie.Need-slice_bounds-put_block-start invariant-loop decr
 part-put-block-start c = search rules
 
 part-put-block-end : tie.Need-slice_bounds-put_block-end invariant-loop decreases-loop
-part-put-block-end c = omega (arith, inside_at c, c.before.before.loop-i.invariant.size)
+part-put-block-end c = omega (arith, inside_at c, c.loop-i.invariant.size)
 
 add-put-block-2 : tie.Need-overflow_add-i invariant-loop decreases-loop
 add-put-block-2 c = search rules
@@ -75,15 +71,14 @@ loop-less c = search rules
 
 loop-again : tie.Need-loop-i-preserved invariant-loop decreases-loop
 loop-again c =
-    let made = c.before.before in
-    let l = made.before.before.before in
-    putting_on l.before.before.loop-i.invariant (inside_at l) _ l.lesser-e.result l.lesser-e.ensures made.put_block.ensures
+    let l = c.before.before.before in
+    putting_on l.loop-i.invariant (inside_at l) _ l.lesser-e.result l.lesser-e.ensures c.put_block.ensures
 
 same_length : tie.Need-shape_of-blocks invariant-loop decreases-loop
 same_length c = search rules
 
 returns : tie.Need-returns invariant-loop decreases-loop
-returns c = putting_ends c.before.loop-i.invariant (omega (arith, c.loop-i-test.false, c.before.before.blocks_for-k.ensures))
+returns c = putting_ends c.loop-i.invariant (omega (arith, c.loop-i-test.false, c.blocks_for-k.ensures))
 
 pub put_blocks_spec : {M : Type 1} → statement M
 put_blocks_spec =

@@ -34,10 +34,8 @@ same_length c = search rules
 
 returns : tie.Need-returns
 returns c =
-    let rest = c.before.before in
-    let head = rest.before.before.before.before in
-    let a = head.before.before.before.before.args in
-    file_put (filed_as a.h a.bytes.now) a.file.now _ _ head.put_head.ensures rest.put_blocks.ensures
+    let a = c.args in
+    file_put (filed_as a.h a.bytes.now) a.file.now _ _ c.put_head.ensures c.put_blocks.ensures
 
 pub put_file_spec : {M : Type 1} → statement M
 put_file_spec =

@@ -40,7 +40,7 @@ module _ (f : tie.After-refusal-wrong) where
 
 -- the bytes of a record that was let in
 bytes_at : (k : tie.After-struct_known-1) → (st k.before.before).len * (st k.before.before).unit < 2 ^ 32
-bytes_at k = let f = k.before.before in bytes_few (ranged (st f) (in_range (st f) (samples f) (levels f) f.refusal-wrong.ensures k.before.if-wrong-ne0.false))
+bytes_at k = let f = k.before.before in bytes_few (ranged (st f) (in_range (st f) (samples f) (levels f) f.refusal-wrong.ensures k.if-wrong-ne0.false))
 
 refusal-requires : tie.Need-refusal-wrong-requires
 refusal-requires c κs = search rules
@@ -58,30 +58,26 @@ file-size-requires c κs = omega (arith, bytes_at c)
 
 returns-2 : tie.Need-returns-then-output-size
 returns-2 c =
-    let k = c.before in
-    let f = k.before.before.before in
-    let h : length (output f) < file_len (heading_of (st f)) = subst (λ (x : ℕ). length (output f) < x) k.file_size-size.ensures c.if-output-size.true in
+    let f = c.before.before.before in
+    let h : length (output f) < file_len (heading_of (st f)) = subst (λ (x : ℕ). length (output f) < x) c.file_size-size.ensures c.if-output-size.true in
     writes_refused (st f) (samples f) (levels f) (output f)
-    (rows_decide (st f) (lent_of (samples f) (levels f)) (own f) f.refusal-wrong.ensures k.before.before.if-wrong-ne0.false 15 (simp (lt-ltb _ _ h))) (λ z. omega arith)
+    (rows_decide (st f) (lent_of (samples f) (levels f)) (own f) f.refusal-wrong.ensures c.if-wrong-ne0.false 15 (simp (lt-ltb _ _ h))) (λ z. omega arith)
 
 put-in-requires : tie.Need-put_in-requires
 put-in-requires c κs =
-    let k = c.before.before in
-    let f = k.before.before.before in
-    output_room (st f) (samples f) (levels f) f.refusal-wrong.ensures k.before.before.if-wrong-ne0.false k.file_size-size.ensures c.before.if-output-size.false
+    let f = c.before.before.before in
+    output_room (st f) (samples f) (levels f) f.refusal-wrong.ensures c.if-wrong-ne0.false c.file_size-size.ensures c.if-output-size.false
 
 same_length : tie.Need-shape_of-output
 same_length c = search rules
 
 returns-3 : tie.Need-returns
 returns-3 c =
-    let put = c.before.before in
-    let k = put.before.before.before in
-    let f = k.before.before.before in
-    let h : file_len (heading_of (st f)) ≤ length (output f) = subst (λ (x : ℕ). x ≤ length (output f)) k.file_size-size.ensures put.before.before.if-output-size.false in
+    let f = c.before.before.before in
+    let h : file_len (heading_of (st f)) ≤ length (output f) = subst (λ (x : ℕ). x ≤ length (output f)) c.file_size-size.ensures c.if-output-size.false in
     writes_done (st f) (samples f) (levels f) (output f)
-    (rows_decide (st f) (lent_of (samples f) (levels f)) (own f) f.refusal-wrong.ensures k.before.before.if-wrong-ne0.false 0 (simp (le-ltb _ _ h))) refl
-    k.file_size-size.result k.file_size-size.ensures (file_size_is (st f) (samples f) (levels f) f.refusal-wrong.ensures k.before.before.if-wrong-ne0.false) _ put.put_in.ensures
+    (rows_decide (st f) (lent_of (samples f) (levels f)) (own f) f.refusal-wrong.ensures c.if-wrong-ne0.false 0 (simp (le-ltb _ _ h))) refl
+    c.file_size-size.result c.file_size-size.ensures (file_size_is (st f) (samples f) (levels f) f.refusal-wrong.ensures c.if-wrong-ne0.false) _ c.put_in.ensures
 
 pub write_spec : {M : Type 1} → statement M
 write_spec =

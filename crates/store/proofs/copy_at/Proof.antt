@@ -35,17 +35,16 @@ loop-less c = search rules
 
 loop-again : tie.Need-loop-i-preserved invariant-loop decreases-loop
 loop-again c =
-    let p = c.before.before.loop-i in
-    let s = c.before.before.before in
-    (search rules, simp length-set p.invariant.1, copy_on s.args.dst.now p.dst s.args.src.now s.args.at p.i s.requires c.before.loop-i-test.true p.invariant.2)
+    let p = c.loop-i in
+    (search rules, simp length-set p.invariant.1, copy_on c.args.dst.now p.dst c.args.src.now c.args.at p.i c.requires c.loop-i-test.true p.invariant.2)
 
 same_length : tie.Need-shape_of-dst invariant-loop decreases-loop
 same_length c = search rules
 
 returns : tie.Need-returns invariant-loop decreases-loop
 returns c =
-    let p = c.before.loop-i in
-    let a = c.before.before.args in
+    let p = c.loop-i in
+    let a = c.args in
     p.invariant.2 ∙ ap (paste a.dst.now a.at a.src.now) (le_antisymm p.invariant.0 c.loop-i-test.false)
 
 pub copy_at_spec : {M : Type 1} → statement M

@@ -10,16 +10,11 @@ use Rattle.store.proofs.Chunks.{Turn, turn, join_room, part_joins}
 use Rattle.store.proofs.join_lowest.Statement.{statement}
 use Rattle.store.proofs.join_lowest.Tie as tie
 
--- the function's start
-abbrev start : tie.After-lesser-stop → tie.Start
-start c = c.before.before.before
-
 -- the chunk's part
-turn_at : (c : tie.After-lesser-stop) → Turn (start c).args.unitsize (start c).args.len (start c).args.top (length (start c).args.samples.now) ((start c).args.len - (start c).args.len % chunk) c.lesser-stop.result
+turn_at : (c : tie.After-lesser-stop) → Turn c.args.unitsize c.args.len c.args.top (length c.args.samples.now) (c.args.len - c.args.len % chunk) c.lesser-stop.result
 turn_at c =
-    let s = start c in
-    let a = s.args in
-    turn a.unitsize a.len a.top a.samples.now a.l1.now s.pre a.len _ c.lesser-stop.result (le_refl a.len) s.pre.some refl c.lesser-stop.ensures
+    let a = c.args in
+    turn a.unitsize a.len a.top a.samples.now a.l1.now c.requires a.len _ c.lesser-stop.result (le_refl a.len) c.requires.some refl c.lesser-stop.ensures
 
 sub-base : tie.Need-overflow_sub-base
 sub-base c = search rules
@@ -53,20 +48,17 @@ sub-join-first-2 c = omega (arith, turn_at c.before.before)
 
 join-first-requires : tie.Need-join_first-requires
 join-first-requires c κs =
-    let e = c.before.before in
-    let s = start e in
-    let a = s.args in
-    join_room a.unitsize a.len a.top a.samples.now a.l1.now s.pre a.len _ e.lesser-stop.result (le_refl a.len) s.pre.some refl e.lesser-stop.ensures _ _ refl refl
+    let a = c.args in
+    join_room a.unitsize a.len a.top a.samples.now a.l1.now c.requires a.len _ c.lesser-stop.result (le_refl a.len) c.requires.some refl c.lesser-stop.ensures _ _ refl refl
 
 same_length : tie.Need-shape_of-l1
 same_length c = search rules
 
 returns : tie.Need-returns
 returns c =
-    let j = c.before.before in
-    let e = j.before.before.before in
-    let a = (start e).args in
-    part_joins a.unitsize a.len a.top _ e.lesser-stop.result a.samples.now (turn_at e) a.l1.now _ _ j.join_first.ensures
+    let e = c.before.before.before.before.before in
+    let a = e.args in
+    part_joins a.unitsize a.len a.top _ e.lesser-stop.result a.samples.now (turn_at e) a.l1.now _ _ c.join_first.ensures
 
 pub join_lowest_spec : {M : Type 1} → statement M
 join_lowest_spec =

@@ -15,24 +15,18 @@ invariant-loop samples l1₀ unitsize from top p₀ l1 p = Making unitsize from 
 abbrev decreases-loop : tie.decreases-loop-p
 decreases-loop samples l1₀ unitsize from top p₀ l1 p = top + 1 - p
 
--- the function's start
-abbrev start : tie.After-lesser-stop invariant-loop decreases-loop → tie.Start invariant-loop decreases-loop
-start c = c.before.before.before.before.before
-
 -- the turn
 turn_at : (c : tie.After-lesser-stop invariant-loop decreases-loop) →
-    Turn (start c).args.unitsize c.before.before.loop-p.p (start c).args.top (length (start c).args.samples.now) (c.before.before.loop-p.p - c.before.before.loop-p.p % chunk) c.lesser-stop.result
+    Turn c.args.unitsize c.loop-p.p c.args.top (length c.args.samples.now) (c.loop-p.p - c.loop-p.p % chunk) c.lesser-stop.result
 turn_at c =
-    let s = start c in
-    let a = s.args in
-    let p = c.before.before.loop-p in
-    turn a.unitsize a.from a.top a.samples.now a.l1.now s.pre.1 p.p _ c.lesser-stop.result p.invariant.low c.before.loop-p-test.true refl c.lesser-stop.ensures
+    let a = c.args in
+    let p = c.loop-p in
+    turn a.unitsize a.from a.top a.samples.now a.l1.now c.requires.1 p.p _ c.lesser-stop.result p.invariant.low c.loop-p-test.true refl c.lesser-stop.ensures
 
 loop-holds : tie.Need-loop-p-init invariant-loop decreases-loop
 loop-holds c =
-    let s = c.before.before in
-    let a = s.args in
-    making_starts a.unitsize a.from a.top a.samples.now a.l1.now s.requires.0 s.requires.1
+    let a = c.args in
+    making_starts a.unitsize a.from a.top a.samples.now a.l1.now c.requires.0 c.requires.1
 
 sub-base : tie.Need-overflow_sub-base invariant-loop decreases-loop
 sub-base c = search rules
@@ -66,12 +60,10 @@ sub-rebuild-new-2 c = omega (arith, turn_at c.before.before)
 
 rebuild-new-requires : tie.Need-rebuild_new-requires invariant-loop decreases-loop
 rebuild-new-requires c κs =
-    let e = c.before.before in
-    let s = start e in
-    let a = s.args in
-    let p = e.before.before.loop-p in
-    new_room a.unitsize a.from a.top a.samples.now a.l1.now s.pre.1 p.p _ e.lesser-stop.result p.invariant.low e.before.loop-p-test.true refl e.lesser-stop.ensures
-    (p.invariant.begins e.before.loop-p-test.true) _ _ refl p.invariant.nodes.kept
+    let a = c.args in
+    let p = c.loop-p in
+    new_room a.unitsize a.from a.top a.samples.now a.l1.now c.requires.1 p.p _ c.lesser-stop.result p.invariant.low c.loop-p-test.true refl c.lesser-stop.ensures
+    (p.invariant.begins c.loop-p-test.true) _ _ refl p.invariant.nodes.kept
 
 loop-less : tie.Need-loop-p-smaller invariant-loop decreases-loop
 loop-less c = omega (arith, turn_at c.before.before.before.before.before)
@@ -79,21 +71,19 @@ loop-less c = omega (arith, turn_at c.before.before.before.before.before)
 loop-again : tie.Need-loop-p-preserved invariant-loop decreases-loop
 loop-again c =
     let e = c.before.before.before.before.before in
-    let s = start e in
-    let a = s.args in
-    let p = e.before.before.loop-p in
-    making_on a.unitsize a.from a.top a.samples.now a.l1.now s.pre.0 s.pre.1 p.l1 p.p p.invariant e.before.loop-p-test.true _ e.lesser-stop.result (turn_at e) _
-    c.before.before.rebuild_new.ensures
+    let a = e.args in
+    let p = e.loop-p in
+    making_on a.unitsize a.from a.top a.samples.now a.l1.now e.requires.0 e.requires.1 p.l1 p.p p.invariant e.loop-p-test.true _ e.lesser-stop.result (turn_at e) _
+    c.rebuild_new.ensures
 
 same_length : tie.Need-shape_of-l1 invariant-loop decreases-loop
 same_length c = search rules
 
 returns : tie.Need-returns invariant-loop decreases-loop
 returns c =
-    let s = c.before.before.before.before in
-    let a = s.args in
-    let p = c.before.loop-p in
-    making_end a.unitsize a.from a.top a.samples.now a.l1.now s.requires.0 s.requires.1 p.l1 p.p p.invariant c.loop-p-test.false
+    let a = c.args in
+    let p = c.loop-p in
+    making_end a.unitsize a.from a.top a.samples.now a.l1.now c.requires.0 c.requires.1 p.l1 p.p p.invariant c.loop-p-test.false
 
 pub rebuild_chunks_spec : {M : Type 1} → statement M
 rebuild_chunks_spec =

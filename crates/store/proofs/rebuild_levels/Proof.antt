@@ -42,12 +42,12 @@ more c = c.before.before.before.before.before
 
 -- and from the first call above level 1
 abbrev above : tie.After-rebuild_above-second → tie.Else-n-eq0
-above r = more r.before.before.before.before.before.before.before
+above r = more r.before.before.before.before.before.before
 
 -- ---- no samples
 returns : tie.Need-returns-then-n-eq0
 returns c =
-    let a = c.before.before.before.before.before.before.args in
+    let a = c.args in
     levels_none a.unitsize a.len a.n a.samples.now (level_of a.l1.now a.l2.now a.l3.now a.l4.now) c.if-n-eq0.true
 
 add-top : tie.Need-overflow_add-top
@@ -71,7 +71,7 @@ put-running-requires-2 c κs = node_at (one c.before.before.before.before.before
 
 put-running-requires-3 : tie.Need-put_running-requires-then-len-top-2
 unfolding level_of
-put-running-requires-3 c κs = let p2 = c.before.before.before.before.before.before.before in node_at (one p2.before.before) 4 (lit≤ tt) (lit≤ tt) _ (omega arith)
+put-running-requires-3 c κs = node_at (one c.before.before.before.before.before.before.before.before.before) 4 (lit≤ tt) (lit≤ tt) _ (omega arith)
 
 same_length : tie.Need-shape_of-l1-then-len-top
 same_length c = search rules
@@ -87,14 +87,10 @@ same-length-4 c = search rules
 
 returns-2 : tie.Need-returns-then-len-top
 returns-2 c =
-    let p4 = c.before.before in
-    let p3 = p4.before.before.before.before in
-    let p2 = p3.before.before.before.before in
-    let i = p2.before.before in
-    let j = i.before.before.before in
+    let i = c.before.before.before.before.before.before.before.before.before.before.before.before in
     let a = (start (one i)).args in
     levels_one a.unitsize a.len a.n a.samples.now (one i).if-n-eq0.false a.l1.now a.l2.now a.l3.now a.l4.now _ _ _ _ _ i.if-len-top.true
-    j.join_lowest-first.ensures p2.put_running.ensures p3.put_running-then-len-top.ensures p4.put_running-then-len-top-2.ensures
+    i.join_lowest-first.ensures c.put_running.ensures c.put_running-then-len-top.ensures c.put_running-then-len-top-2.ensures
 
 -- ---- in more than one
 mul-rebuild-chunks : tie.Need-overflow_mul-len
@@ -112,24 +108,20 @@ rebuild-chunks-requires c κs =
 
 rebuild-above-requires : tie.Need-rebuild_above-second-requires
 unfolding level_of
-rebuild-above-requires c κs = up_at (more c.before.before.before.before.before.before) 1 (lit≤ tt) (lit≤ tt) _ _ (omega arith) (omega arith)
+rebuild-above-requires c κs = up_at (more c.before.before.before.before.before) 1 (lit≤ tt) (lit≤ tt) _ _ (omega arith) (omega arith)
 
 rebuild-above-requires-2 : tie.Need-rebuild_above-third-requires
 unfolding level_of
-rebuild-above-requires-2 c κs = up_at (above c.before.before.before.before) 2 (lit≤ tt) (lit≤ tt) _ _ (omega arith) (omega arith)
+rebuild-above-requires-2 c κs = up_at (above c.before.before.before) 2 (lit≤ tt) (lit≤ tt) _ _ (omega arith) (omega arith)
 
 rebuild-above-requires-3 : tie.Need-rebuild_above-requires
 unfolding level_of
 rebuild-above-requires-3 c κs =
-    let r3 = c.before.before.before.before in
-    up_at (above r3.before.before.before.before.before) 3 (lit≤ tt) (lit≤ tt) _ _ (omega arith) (omega arith)
+    up_at (above c.before.before.before.before.before.before.before) 3 (lit≤ tt) (lit≤ tt) _ _ (omega arith) (omega arith)
 
 same-length-5 : tie.Need-shape_of-l1
 same-length-5 c =
-    let r3 = c.before.before.before.before.before.before.before in
-    let r2 = r3.before.before.before.before.before in
-    let m = r2.before.before.before.before in
-    m.l1-2-1.given ∙ m.before.before.before.before.before.l1-1.given
+    c.l1-2-1.given ∙ c.l1-1.given
 
 same-length-6 : tie.Need-shape_of-l2
 same-length-6 c = search rules
@@ -142,15 +134,10 @@ same-length-8 c = search rules
 
 returns-3 : tie.Need-returns
 returns-3 c =
-    let r4 = c.before.before in
-    let r3 = r4.before.before.before.before.before in
-    let r2 = r3.before.before.before.before.before in
-    let k = r2.before.before.before.before.before in
-    let i = k.before.before in
-    let j = i.before.before.before in
+    let i = c.before.before.before.before.before.before.before.before.before.before.before.before.before.before.before.before in
     let a = (start (more i)).args in
     levels_more a.unitsize a.len a.n a.samples.now (more i).if-n-eq0.false a.l1.now a.l2.now a.l3.now a.l4.now _ _ _ _ _ _ _ _ _
-    j.join_lowest-first.ensures k.rebuild_chunks.ensures r2.rebuild_above-second.ensures r3.rebuild_above-third.ensures r4.rebuild_above.ensures
+    i.join_lowest-first.ensures c.rebuild_chunks.ensures c.rebuild_above-second.ensures c.rebuild_above-third.ensures c.rebuild_above.ensures
 
 pub rebuild_levels_spec : {M : Type 1} → statement M
 rebuild_levels_spec =

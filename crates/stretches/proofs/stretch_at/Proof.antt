@@ -28,7 +28,7 @@ shared-slice-read-count : tie.Need-bounds-list-j-2
 shared-slice-read-count c = search rules
 
 add-t6 : tie.Need-overflow_add-result
-add-t6 c = let s = c.before.before in omega (arith, (passed_lies s.args.len s.args.list.now s.args.j s.requires.0 s.requires.2).inside, s.requires.1)
+add-t6 c = omega (arith, (passed_lies c.args.len c.args.list.now c.args.j c.requires.0 c.requires.2).inside, c.requires.1)
 
 returns : tie.Need-returns
 returns c = (refl, refl)

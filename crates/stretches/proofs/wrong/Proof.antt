@@ -17,18 +17,18 @@ abbrev decreases-loop : tie.decreases-loop-i
 decreases-loop list len n least₀ i₀ least i = n - i
 
 -- a turn's stretch is in the list, whose count is even
-inside : (t : tie.In-loop-i invariant-loop decreases-loop) → 2 * t.before.loop-i.i + 1 < length t.before.before.before.before.args.list.now
-inside t = let n = length t.before.before.before.before.args.list.now in omega (arith, t.loop-i-test.true, div-add-mod' n 2)
+inside : (t : tie.In-loop-i invariant-loop decreases-loop) → 2 * t.loop-i.i + 1 < length t.args.list.now
+inside t = let n = length t.args.list.now in omega (arith, t.loop-i-test.true, div-add-mod' n 2)
 
 -- the others follow it
-on : (c : tie.Else-outside invariant-loop decreases-loop) → let t = c.before.before.before.before in let a = t.before.before.before.before.args in let s = stretch_at a.list.now t.before.loop-i.i in Going a.len a.list.now (s.first + s.count + 1) (t.before.loop-i.i + 1)
-on c = let t = c.before.before.before.before in going_on _ _ t.before.loop-i.invariant (inside t) (sym c.before.outside.ensures ∙ c.if-outside.false)
+on : (c : tie.Else-outside invariant-loop decreases-loop) → let a = c.args in let s = stretch_at a.list.now c.loop-i.i in Going a.len a.list.now (s.first + s.count + 1) (c.loop-i.i + 1)
+on c = let t = c.before.before.before.before in going_on _ _ t.loop-i.invariant (inside t) (sym c.outside.ensures ∙ c.if-outside.false)
 
 returns : tie.Need-returns-then-list-eq1 invariant-loop decreases-loop
-returns c = let a = c.before.before.args in odd_wrong a.len a.list.now c.if-list-eq1.true
+returns c = let a = c.args in odd_wrong a.len a.list.now c.if-list-eq1.true
 
 loop-holds : tie.Need-loop-i-init invariant-loop decreases-loop
-loop-holds c = let a = c.before.before.args in going_starts a.len a.list.now
+loop-holds c = let a = c.args in going_starts a.len a.list.now
 
 mul-first : tie.Need-overflow_mul-first invariant-loop decreases-loop
 mul-first c = search rules
@@ -55,13 +55,13 @@ outside-requires : tie.Need-outside-requires invariant-loop decreases-loop
 outside-requires c κs = search rules
 
 returns-2 : tie.Need-returns-then-outside invariant-loop decreases-loop
-returns-2 c = let t = c.before.before.before.before in going_stops _ _ t.before.loop-i.invariant (inside t) (sym c.before.outside.ensures ∙ c.if-outside.true)
+returns-2 c = let t = c.before.before.before.before in going_stops _ _ t.loop-i.invariant (inside t) (sym c.outside.ensures ∙ c.if-outside.true)
 
 add-least : tie.Need-overflow_add-least invariant-loop decreases-loop
-add-least c = omega (arith, (on c).small, c.before.before.before.before.before.before.before.before.requires)
+add-least c = omega (arith, (on c).small, c.requires)
 
 add-least-2 : tie.Need-overflow_add-least-in-loop-i invariant-loop decreases-loop
-add-least-2 c = omega (arith, (on c).small, c.before.before.before.before.before.before.before.before.requires)
+add-least-2 c = omega (arith, (on c).small, c.requires)
 
 add-i : tie.Need-overflow_add-i invariant-loop decreases-loop
 add-i c = search rules
@@ -74,9 +74,8 @@ loop-again c = on c
 
 returns-3 : tie.Need-returns invariant-loop decreases-loop
 returns-3 c =
-    let s = c.before.before.before.before in
-    let n = length s.args.list.now in
-    going_ends s.args.len s.args.list.now c.before.loop-i.invariant (omega (arith, c.loop-i-test.false, div-add-mod' n 2)) c.before.before.if-list-eq1.false
+    let n = length c.args.list.now in
+    going_ends c.args.len c.args.list.now c.loop-i.invariant (omega (arith, c.loop-i-test.false, div-add-mod' n 2)) c.if-list-eq1.false
 
 pub wrong_spec : {M : Type 1} → statement M
 wrong_spec =

@@ -17,12 +17,6 @@ invariant-loop c samples l1 l2 l3 l4 a b counted pos₀ acc₀ pos acc = Gathere
 abbrev decreases-loop : tie.decreases-loop-pos
 decreases-loop c samples l1 l2 l3 l4 a b counted pos₀ acc₀ pos acc = b - pos
 
--- the function's start, from the loop's head
-abbrev start_at : tie.At-loop-pos invariant-loop decreases-loop → tie.Start invariant-loop decreases-loop
-start_at p =
-    let known = p.before.before in
-    known.before.before.before.before.before
-
 leaf-requires : tie.Need-leaf-acc-requires invariant-loop decreases-loop
 leaf-requires c κs = search rules
 
@@ -30,37 +24,35 @@ loop-holds : tie.Need-loop-pos-init invariant-loop decreases-loop
 loop-holds c = gathered_none _ _ _ _ _ _
 
 cut-at-requires : tie.Need-cut_at-end-requires invariant-loop decreases-loop
-cut-at-requires c κs = let p = (start_at c.before).pre in omega (arith, c.loop-pos-test.true, p.stored, p.sound.len_most, p.sound.capacity_most)
+cut-at-requires c κs = let p = c.before.requires in omega (arith, c.loop-pos-test.true, p.stored, p.sound.len_most, p.sound.capacity_most)
 
 summary-of-chunk-requires : tie.Need-summary_of_chunk-n-requires invariant-loop decreases-loop
 summary-of-chunk-requires c κs =
-    let p = (start_at c.before.before).pre in
-    record { sound = p.sound; order = omega (arith, c.before.loop-pos-test.true, c.cut_at-end.ensures); stored = omega (arith, p.stored, c.cut_at-end.ensures) }
+    let p = c.before.before.requires in
+    record { sound = p.sound; order = omega (arith, c.loop-pos-test.true, c.cut_at-end.ensures); stored = omega (arith, p.stored, c.cut_at-end.ensures) }
 
 gathered-requires : tie.Need-gathered-acc-requires invariant-loop decreases-loop
 gathered-requires c κs = search rules
 
 loop-less : tie.Need-loop-pos-smaller invariant-loop decreases-loop
-loop-less c = omega (arith, c.before.before.before.loop-pos-test.true, c.before.before.cut_at-end.ensures)
+loop-less c = omega (arith, c.loop-pos-test.true, c.cut_at-end.ensures)
 
 loop-again : tie.Need-loop-pos-preserved invariant-loop decreases-loop
 loop-again c =
-    let s = start_at c.before.before.before.before in
-    let a = s.args in
-    let l = c.before.before.before.before.loop-pos in
-    let e = c.before.before.cut_at-end in
-    let t = c.before.before.before.loop-pos-test.true in
-    gathered_on (λ (p e : ℕ). chunk_node (level_of a.l1.now a.l2.now a.l3.now a.l4.now) (sample_of a.c.unitsize a.samples.now) p (cut_at p e)) cut_at a.counted a.a a.b (as_node l.acc) l.pos (as_node c.before.summary_of_chunk-n.result) (as_node c.gathered-acc.result) e.result
-    l.invariant t (told_on a.counted _ _ _ c.before.summary_of_chunk-n.ensures (ap (chunk_node (level_of a.l1.now a.l2.now a.l3.now a.l4.now) (sample_of a.c.unitsize a.samples.now) l.pos) e.ensures))
+    let a = c.args in
+    let l = c.loop-pos in
+    let e = c.cut_at-end in
+    let t = c.loop-pos-test.true in
+    gathered_on (λ (p e : ℕ). chunk_node (level_of a.l1.now a.l2.now a.l3.now a.l4.now) (sample_of a.c.unitsize a.samples.now) p (cut_at p e)) cut_at a.counted a.a a.b (as_node l.acc) l.pos (as_node c.summary_of_chunk-n.result) (as_node c.gathered-acc.result) e.result
+    l.invariant t (told_on a.counted _ _ _ c.summary_of_chunk-n.ensures (ap (chunk_node (level_of a.l1.now a.l2.now a.l3.now a.l4.now) (sample_of a.c.unitsize a.samples.now) l.pos) e.ensures))
     e.ensures (omega (arith, t, e.ensures)) (omega (arith, e.ensures)) c.gathered-acc.ensures
 
 returns : tie.Need-returns invariant-loop decreases-loop
 unfolding by_levels
 returns c =
-    let s = start_at c.before in
-    let a = s.args in
-    let l = c.before.loop-pos in
-    gathered_ends (λ (p e : ℕ). chunk_node (level_of a.l1.now a.l2.now a.l3.now a.l4.now) (sample_of a.c.unitsize a.samples.now) p (cut_at p e)) cut_at a.counted a.a a.b (as_node l.acc) l.pos s.pre.order l.invariant c.loop-pos-test.false
+    let a = c.args in
+    let l = c.loop-pos in
+    gathered_ends (λ (p e : ℕ). chunk_node (level_of a.l1.now a.l2.now a.l3.now a.l4.now) (sample_of a.c.unitsize a.samples.now) p (cut_at p e)) cut_at a.counted a.a a.b (as_node l.acc) l.pos c.requires.order l.invariant c.loop-pos-test.false
 
 pub by_levels_spec : {M : Type 1} → statement M
 by_levels_spec = tie.close (tie.spec invariant-loop decreases-loop leaf-requires loop-holds cut-at-requires summary-of-chunk-requires gathered-requires loop-less loop-again returns)

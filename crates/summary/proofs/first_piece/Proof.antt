@@ -11,12 +11,6 @@ use Rattle.summary.proofs.Laws.{end_inside, part_run, part_level, piece_room}
 use Rattle.summary.proofs.first_piece.Statement.{statement}
 use Rattle.summary.proofs.first_piece.Tie as tie
 
--- the function's start, from where the piece's end is known
-abbrev start_at : tie.After-run_end-end → tie.Start
-start_at p =
-    let known = p.before.before.before in
-    known.before.before.before.before.before
-
 sub-best-level : tie.Need-overflow_sub-b
 sub-best-level c = search rules
 
@@ -34,26 +28,23 @@ sub-raw-node c = search rules
 
 sub-raw-node-2 : tie.Need-overflow_sub-end
 sub-raw-node-2 c =
-    let s = start_at c.before in
-    let a = s.args in
-    let e = end_inside a.pos a.b c.before.before.before.best_level-l.result c.before.before.span-s.result c.before.run_end-end.result s.pre.2 c.before.before.before.best_level-l.ensures c.before.before.span-s.ensures.0 c.before.run_end-end.ensures in
-    omega (arith, e, s.pre)
+    let a = c.args in
+    let e = end_inside a.pos a.b c.best_level-l.result c.span-s.result c.run_end-end.result c.requires.2 c.best_level-l.ensures c.span-s.ensures.0 c.run_end-end.ensures in
+    omega (arith, e, c.requires)
 
 raw-node-requires : tie.Need-raw_node-requires
 raw-node-requires c κs =
-    let s = start_at c.before in
-    let a = s.args in
-    let e = end_inside a.pos a.b c.before.before.before.best_level-l.result c.before.before.span-s.result c.before.run_end-end.result s.pre.2 c.before.before.before.best_level-l.ensures c.before.before.span-s.ensures.0 c.before.run_end-end.ensures in
-    let r = s.pre.0 in
-    range_in_lem a.unitsize a.base a.b _ a.pos c.before.run_end-end.result r.unit_size r.samples s.pre.1 e.0 e.1
+    let a = c.args in
+    let e = end_inside a.pos a.b c.best_level-l.result c.span-s.result c.run_end-end.result c.requires.2 c.best_level-l.ensures c.span-s.ensures.0 c.run_end-end.ensures in
+    let r = c.requires.0 in
+    range_in_lem a.unitsize a.base a.b _ a.pos c.run_end-end.result r.unit_size r.samples c.pre.1 e.0 e.1
 
 returns : tie.Need-returns-then-l-eq0
 returns c =
-    let s = start_at c.before.before in
-    let a = s.args in
-    let e = end_inside a.pos a.b c.before.before.before.before.best_level-l.result c.before.before.before.span-s.result c.before.before.run_end-end.result s.pre.2 c.before.before.before.before.best_level-l.ensures c.before.before.before.span-s.ensures.0 c.before.before.run_end-end.ensures in
-    part_run a.pos a.b c.before.before.before.before.best_level-l.result c.before.before.before.span-s.result c.before.before.run_end-end.result s.pre.2 c.before.before.before.before.best_level-l.ensures c.before.before.before.span-s.ensures.0 c.before.before.run_end-end.ensures (level_of a.l1.now a.l2.now a.l3.now a.l4.now) (part_sample a.unitsize a.part.now a.base) a.counted (as_node c.raw_node.result) c.before.if-l-eq0.true
-    (told_on a.counted _ _ _ c.raw_node.ensures (shift_node (sample_of a.unitsize a.part.now) a.base a.pos c.before.before.run_end-end.result s.pre.1 e.0))
+    let a = c.args in
+    let e = end_inside a.pos a.b c.best_level-l.result c.span-s.result c.run_end-end.result c.requires.2 c.best_level-l.ensures c.span-s.ensures.0 c.run_end-end.ensures in
+    part_run a.pos a.b c.best_level-l.result c.span-s.result c.run_end-end.result c.requires.2 c.best_level-l.ensures c.span-s.ensures.0 c.run_end-end.ensures (level_of a.l1.now a.l2.now a.l3.now a.l4.now) (part_sample a.unitsize a.part.now a.base) a.counted (as_node c.raw_node.result) c.if-l-eq0.true
+    (told_on a.counted _ _ _ c.raw_node.ensures (shift_node (sample_of a.unitsize a.part.now) a.base a.pos c.run_end-end.result c.pre.1 e.0))
 
 level-of-requires : tie.Need-level_of-level-requires
 level-of-requires c κs = search rules
@@ -66,29 +57,24 @@ div-last c = search rules
 
 join-lines-requires : tie.Need-join_lines-lines-requires
 join-lines-requires c κs =
-    let s = start_at c.before.before in
-    let a = s.args in
-    piece_room a.pos a.b c.before.before.before.before.best_level-l.result c.before.before.before.span-s.result c.before.before.run_end-end.result s.pre.2 c.before.before.before.before.best_level-l.ensures c.before.before.before.span-s.ensures.0 c.before.before.run_end-end.ensures (level_of a.l1.now a.l2.now a.l3.now a.l4.now) c.before.if-l-eq0.false a.unitsize a.base _ s.pre.0 c.level_of-level.result.now c.level_of-level.ensures
+    let a = c.args in
+    piece_room a.pos a.b c.best_level-l.result c.span-s.result c.run_end-end.result c.requires.2 c.best_level-l.ensures c.span-s.ensures.0 c.run_end-end.ensures (level_of a.l1.now a.l2.now a.l3.now a.l4.now) c.if-l-eq0.false a.unitsize a.base _ c.requires.0 c.level_of-level.result.now c.level_of-level.ensures
 
 join-count-requires : tie.Need-join_count-requires
 join-count-requires c κs =
-    let v = c.before in
-    let s = start_at v.before.before in
-    let a = s.args in
-    piece_room a.pos a.b v.before.before.before.before.best_level-l.result v.before.before.before.span-s.result v.before.before.run_end-end.result s.pre.2 v.before.before.before.before.best_level-l.ensures v.before.before.before.span-s.ensures.0 v.before.before.run_end-end.ensures (level_of a.l1.now a.l2.now a.l3.now a.l4.now) v.before.if-l-eq0.false a.unitsize a.base _ s.pre.0 v.level_of-level.result.now v.level_of-level.ensures
+    let a = c.args in
+    piece_room a.pos a.b c.best_level-l.result c.span-s.result c.run_end-end.result c.requires.2 c.best_level-l.ensures c.span-s.ensures.0 c.run_end-end.ensures (level_of a.l1.now a.l2.now a.l3.now a.l4.now) c.if-l-eq0.false a.unitsize a.base _ c.requires.0 c.level_of-level.result.now c.level_of-level.ensures
 
 with-count-requires : tie.Need-with_count-requires
 with-count-requires c κs = search rules
 
 returns-2 : tie.Need-returns
 returns-2 c =
-    let v = c.before.before.before in
-    let s = start_at v.before.before in
-    let a = s.args in
-    part_level a.pos a.b v.before.before.before.before.best_level-l.result v.before.before.before.span-s.result v.before.before.run_end-end.result s.pre.2 v.before.before.before.before.best_level-l.ensures v.before.before.before.span-s.ensures.0 v.before.before.run_end-end.ensures (level_of a.l1.now a.l2.now a.l3.now a.l4.now) (part_sample a.unitsize a.part.now a.base) a.counted (as_node c.with_count.result) v.before.if-l-eq0.false v.level_of-level.result.now v.level_of-level.ensures
+    let a = c.args in
+    part_level a.pos a.b c.best_level-l.result c.span-s.result c.run_end-end.result c.requires.2 c.best_level-l.ensures c.span-s.ensures.0 c.run_end-end.ensures (level_of a.l1.now a.l2.now a.l3.now a.l4.now) (part_sample a.unitsize a.part.now a.base) a.counted (as_node c.with_count.result) c.if-l-eq0.false c.level_of-level.result.now c.level_of-level.ensures
     (record {
-      lines = c.with_count.ensures.0 ∙ c.before.before.join_lines-lines.ensures.lines;
-      count = λ z. c.with_count.ensures.1 ∙ c.before.join_count.ensures z;
+      lines = c.with_count.ensures.0 ∙ c.join_lines-lines.ensures.lines;
+      count = λ z. c.with_count.ensures.1 ∙ c.join_count.ensures z;
     })
 
 pub first_piece_spec : {M : Type 1} → statement M

@@ -12,12 +12,12 @@ join-requires c κs = search rules
 
 returns : tie.Need-returns-then-started
 returns c =
-    let a = c.before.before.args in
-    c.join.ensures ∙ sym (ap (λ (b : Bool). gathered b (as_node a.acc) (as_node a.n)) c.before.if-started.true)
+    let a = c.args in
+    c.join.ensures ∙ sym (ap (λ (b : Bool). gathered b (as_node a.acc) (as_node a.n)) c.if-started.true)
 
 returns-2 : tie.Need-returns
 returns-2 c =
-    let a = c.before.args in
+    let a = c.args in
     sym (ap (λ (b : Bool). gathered b (as_node a.acc) (as_node a.n)) c.if-started.false)
 
 pub gathered_spec : {M : Type 1} → statement M

@@ -30,9 +30,8 @@ sub-if1 c = search rules
 
 raw-node-requires : tie.Need-raw_node-requires
 raw-node-requires c κs =
-    let s = c.before.before.before.before.before.before in
-    let p = s.requires in
-    let a = s.args in
+    let p = c.requires in
+    let a = c.args in
     record {
       unit_size = p.sound.unit_size;
       some = p.order;
@@ -41,16 +40,16 @@ raw-node-requires c κs =
 
 returns : tie.Need-returns-then-b-a-le-SHORT
 returns c =
-    let a = c.before.before.before.before.before.before.before.args in
-    short (level_of a.l1.now a.l2.now a.l3.now a.l4.now) (sample_of a.c.unitsize a.samples.now) a.a a.b a.counted _ c.before.if-b-a-le-SHORT.true c.raw_node.ensures
+    let a = c.args in
+    short (level_of a.l1.now a.l2.now a.l3.now a.l4.now) (sample_of a.c.unitsize a.samples.now) a.a a.b a.counted _ c.if-b-a-le-SHORT.true c.raw_node.ensures
 
 by-levels-requires : tie.Need-by_levels-requires
 by-levels-requires c κs = search rules
 
 returns-2 : tie.Need-returns
 returns-2 c =
-    let a = c.before.before.before.before.before.before.before.args in
-    long (level_of a.l1.now a.l2.now a.l3.now a.l4.now) (sample_of a.c.unitsize a.samples.now) a.a a.b a.counted _ c.before.if-b-a-le-SHORT.false c.by_levels.ensures
+    let a = c.args in
+    long (level_of a.l1.now a.l2.now a.l3.now a.l4.now) (sample_of a.c.unitsize a.samples.now) a.a a.b a.counted _ c.if-b-a-le-SHORT.false c.by_levels.ensures
 
 pub summary_in_spec : {M : Type 1} → statement M
 summary_in_spec = tie.close (tie.spec sub-if1 raw-node-requires returns by-levels-requires returns-2)

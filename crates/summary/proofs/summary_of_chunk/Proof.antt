@@ -17,53 +17,46 @@ mul-base c = omega arith
 
 mul-from : tie.Need-overflow_mul-from
 mul-from c =
-    let s = c.before.before.before.before.before in
-    let a = s.args in
-    let p = s.requires in
-    omega (arith, s.well-formed, stored (store_of a.c) a.samples.now (level_of a.l1.now a.l2.now a.l3.now a.l4.now) p.sound (a.pos / chunk * chunk) (omega (arith, p.order, p.stored)))
+    let a = c.args in
+    let p = c.requires in
+    omega (arith, c.well_formed, stored (store_of a.c) a.samples.now (level_of a.l1.now a.l2.now a.l3.now a.l4.now) p.sound (a.pos / chunk * chunk) (omega (arith, p.order, p.stored)))
 
 mul-to : tie.Need-overflow_mul-to
 mul-to c =
-    let s = c.before.before.before.before.before in
-    let a = s.args in
-    let p = s.requires in
-    omega (arith, s.well-formed, stored (store_of a.c) a.samples.now (level_of a.l1.now a.l2.now a.l3.now a.l4.now) p.sound a.end p.stored)
+    let a = c.args in
+    let p = c.requires in
+    omega (arith, c.well_formed, stored (store_of a.c) a.samples.now (level_of a.l1.now a.l2.now a.l3.now a.l4.now) p.sound a.end p.stored)
 
 sub-chunk-summary : tie.Need-slice_bounds-chunk_summary-count
 sub-chunk-summary c =
-    let s = c.before.before.before.before.before in
-    let a = s.args in
-    let p = s.requires in
+    let a = c.args in
+    let p = c.requires in
     mul-le-mul_right {m = a.pos / chunk * chunk} {n = a.end} a.c.unitsize (omega (arith, p.order))
 
 part-chunk-summary-start : tie.Need-slice_bounds-chunk_summary-start
 part-chunk-summary-start c =
-    let s = c.before.before.before.before.before in
-    let a = s.args in
-    let p = s.requires in
+    let a = c.args in
+    let p = c.requires in
     mul-le-mul_right {m = a.pos / chunk * chunk} {n = a.end} a.c.unitsize (omega (arith, p.order))
 
 part-chunk-summary-end : tie.Need-slice_bounds-chunk_summary-end
 part-chunk-summary-end c =
-    let s = c.before.before.before.before.before in
-    let a = s.args in
-    let p = s.requires in
+    let a = c.args in
+    let p = c.requires in
     stored (store_of a.c) a.samples.now (level_of a.l1.now a.l2.now a.l3.now a.l4.now) p.sound a.end p.stored
 
 chunk-summary-requires : tie.Need-chunk_summary-requires
 unfolding part_of
 chunk-summary-requires c κs =
-    let s = c.before.before.before.before.before.before in
-    let a = s.args in
-    let p = s.requires in
+    let a = c.args in
+    let p = c.requires in
     (chunk_room (store_of a.c) a.samples.now (level_of a.l1.now a.l2.now a.l3.now a.l4.now) p.sound (a.pos / chunk * chunk) a.pos a.end (omega arith) p.order p.stored, omega arith, p.order)
 
 returns : tie.Need-returns
 unfolding part_of
 returns c =
-    let s = c.before.before.before.before.before.before.before in
-    let a = s.args in
-    let p = s.requires in
+    let a = c.args in
+    let p = c.requires in
     told_on a.counted _ _ _ c.chunk_summary.ensures
     (chunk_part (store_of a.c) a.samples.now (level_of a.l1.now a.l2.now a.l3.now a.l4.now) p.sound (a.pos / chunk * chunk) a.pos a.end (omega arith) p.order p.stored)
 

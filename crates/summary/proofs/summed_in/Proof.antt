@@ -20,19 +20,18 @@ lesser-requires c κs = search rules
 
 returns : tie.Need-returns-then-end-a
 returns c =
-    let a = c.before.before.before.before.before.before.before.args in
-    let h : min a.b a.c.len ≤ a.a = omega (arith, c.before.lesser-end.ensures, c.if-end-a.true) in
+    let a = c.args in
+    let h : min a.b a.c.len ≤ a.a = omega (arith, c.lesser-end.ensures, c.if-end-a.true) in
     sym (ap (λ (t : Bool). given (cond t (some (summed (level_of a.l1.now a.l2.now a.l3.now a.l4.now) (sample_of a.c.unitsize a.samples.now) a.a (min a.b a.c.len))) none)) (le-ltb _ _ h))
 
 summary-in-requires : tie.Need-summary_in-requires
-summary-in-requires c κs = record { sound = c.before.before.before.before.before.before.before.requires; order = c.if-end-a.false; stored = omega (arith, c.before.lesser-end.ensures) }
+summary-in-requires c κs = record { sound = c.requires; order = c.if-end-a.false; stored = omega (arith, c.lesser-end.ensures) }
 
 returns-2 : tie.Need-returns
 returns-2 c =
-    let known = c.before.before.before in
-    let a = known.before.before.before.before.before.args in
-    let e = c.before.before.lesser-end.ensures in
-    let h : a.a < min a.b a.c.len = omega (arith, e, c.before.if-end-a.false) in
+    let a = c.args in
+    let e = c.lesser-end.ensures in
+    let h : a.a < min a.b a.c.len = omega (arith, e, c.if-end-a.false) in
     ap (λ (n : Node). given (some n)) (is_told _ _ c.summary_in.ensures ∙ ap (summed (level_of a.l1.now a.l2.now a.l3.now a.l4.now) (sample_of a.c.unitsize a.samples.now) a.a) e) ∙ sym (ap (λ (t : Bool). given (cond t (some (summed (level_of a.l1.now a.l2.now a.l3.now a.l4.now) (sample_of a.c.unitsize a.samples.now) a.a (min a.b a.c.len))) none)) (lt-ltb _ _ h))
 
 pub summed_in_spec : {M : Type 1} → statement M

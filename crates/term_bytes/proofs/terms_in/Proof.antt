@@ -22,7 +22,7 @@ none-requires : tie.Need-none-sum-requires invariant-loop decreases-loop
 none-requires c κs = search rules
 
 loop-holds : tie.Need-loop-i-init invariant-loop decreases-loop
-loop-holds c = (omega arith, ap (λ (t : Terms). more t c.before.before.args.bytes.now 0) c.none-sum.ensures)
+loop-holds c = (omega arith, ap (λ (t : Terms). more t c.args.bytes.now 0) c.none-sum.ensures)
 
 sub-loop : tie.Need-overflow_sub-bytes invariant-loop decreases-loop
 sub-loop c = search rules
@@ -50,10 +50,9 @@ loop-less c = search rules
 
 loop-again : tie.Need-loop-i-preserved invariant-loop decreases-loop
 loop-again c =
-    let h = c.before.before.before.before.before in
-    let b = h.before.before.before.args.bytes.now in
-    let l = h.loop-i in
-    (omega arith, ap (λ (t : Terms). more t b (l.i + 2)) (c.with-sum.ensures ∙ ap (with_term l.sum) c.before.term_in.ensures) ∙ sym (more_two l.sum b l.i (omega arith)) ∙ l.invariant.1)
+    let b = c.args.bytes.now in
+    let l = c.loop-i in
+    (omega arith, ap (λ (t : Terms). more t b (l.i + 2)) (c.with-sum.ensures ∙ ap (with_term l.sum) c.term_in.ensures) ∙ sym (more_two l.sum b l.i (omega arith)) ∙ l.invariant.1)
 
 shared-slice-read-term-in-3 : tie.Need-bounds-bytes-i-then-i-bytes invariant-loop decreases-loop
 shared-slice-read-term-in-3 c = search rules
@@ -66,15 +65,14 @@ with-requires-2 c κs = search rules
 
 returns : tie.Need-returns-then-i-bytes invariant-loop decreases-loop
 returns c =
-    let h = c.before.before.before.before.before in
-    let b = h.before.before.before.args.bytes.now in
-    let l = h.loop-i in
-    c.with.ensures ∙ ap (with_term l.sum) c.before.term_in-then-i-bytes.ensures ∙ sym (more_last l.sum b l.i (omega arith) (omega arith)) ∙ l.invariant.1
+    let b = c.args.bytes.now in
+    let l = c.loop-i in
+    c.with.ensures ∙ ap (with_term l.sum) c.term_in-then-i-bytes.ensures ∙ sym (more_last l.sum b l.i (omega arith) (omega arith)) ∙ l.invariant.1
 
 returns-2 : tie.Need-returns invariant-loop decreases-loop
 returns-2 c =
-    let b = c.before.before.before.before.before.args.bytes.now in
-    let l = c.before.before.loop-i in
+    let b = c.args.bytes.now in
+    let l = c.loop-i in
     sym (more_none l.sum b l.i (omega arith)) ∙ l.invariant.1
 
 pub terms_in_spec : {M : Type 1} → statement M

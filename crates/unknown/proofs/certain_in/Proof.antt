@@ -28,21 +28,20 @@ enum_told c = search rules
 
 returns : tie.Need-returns-in_default invariant-loop decreases-loop
 returns c =
-    let a = c.before.before.before.before.before.before.before.before.before.args in
-    none_found (walked a.back (reader_of a.unitsize a.samples.now (level_of a.l1.now a.l2.now a.l3.now a.l4.now)) a.mask a.len) a.back (nth_stretch a.back a.list.now) (walked a.back (reader_of a.unitsize a.samples.now (level_of a.l1.now a.l2.now a.l3.now a.l4.now)) a.mask a.len a.from) (stretch_count a.list.now) (sym c.before.before.change-found.ensures ∙ ap spot_of c.enum_told-1.given.1)
+    let a = c.args in
+    none_found (walked a.back (reader_of a.unitsize a.samples.now (level_of a.l1.now a.l2.now a.l3.now a.l4.now)) a.mask a.len) a.back (nth_stretch a.back a.list.now) (walked a.back (reader_of a.unitsize a.samples.now (level_of a.l1.now a.l2.now a.l3.now a.l4.now)) a.mask a.len a.from) (stretch_count a.list.now) (sym c.change-found.ensures ∙ ap spot_of c.in_default.is)
 
 loop-holds : tie.Need-loop-k-init invariant-loop decreases-loop
 loop-holds c =
-    let a = c.before.before.before.before.before.before.before.before.before.before.args in
-    crosses_start (walked a.back (reader_of a.unitsize a.samples.now (level_of a.l1.now a.l2.now a.l3.now a.l4.now)) a.mask a.len) a.back (nth_stretch a.back a.list.now) (walked a.back (reader_of a.unitsize a.samples.now (level_of a.l1.now a.l2.now a.l3.now a.l4.now)) a.mask a.len a.from) (sym c.before.before.before.change-found.ensures ∙ ap spot_of c.before.found-1.given.1)
+    let a = c.args in
+    crosses_start (walked a.back (reader_of a.unitsize a.samples.now (level_of a.l1.now a.l2.now a.l3.now a.l4.now)) a.mask a.len) a.back (nth_stretch a.back a.list.now) (walked a.back (reader_of a.unitsize a.samples.now (level_of a.l1.now a.l2.now a.l3.now a.l4.now)) a.mask a.len a.from) (sym c.change-found.ensures ∙ ap spot_of c.in-At.is)
 
 nth-requires : tie.Need-nth-requires invariant-loop decreases-loop
 nth-requires c κs = search rules
 
 stretch-at-requires : tie.Need-stretch_at-s-requires invariant-loop decreases-loop
 stretch-at-requires c κs =
-    let s = c.before.before.before.before.before.before.before.before.before.before.before.before.before in
-    (s.requires.1, s.requires.0.most, omega (arith, c.nth.ensures, nth_inside s.args.back s.args.list.now c.before.before.loop-k.k c.before.loop-k-test.true))
+    (c.requires.1, c.requires.0.most, omega (arith, c.nth.ensures, nth_inside c.args.back c.args.list.now c.loop-k.k c.loop-k-test.true))
 
 cross-requires : tie.Need-cross-kept-requires invariant-loop decreases-loop
 cross-requires c κs = search rules
@@ -55,29 +54,29 @@ enum-told-2 c = search rules
 
 returns-2 : tie.Need-returns-in_default-kept invariant-loop decreases-loop
 returns-2 c =
-    let a = c.before.before.before.before.before.before.before.before.before.before.before.before.before.before.before.before.before.args in
-    let k = c.before.before.before.before.before.before.loop-k.k in
-    none_left (walked a.back (reader_of a.unitsize a.samples.now (level_of a.l1.now a.l2.now a.l3.now a.l4.now)) a.mask a.len) a.back (nth_stretch a.back a.list.now) (walked a.back (reader_of a.unitsize a.samples.now (level_of a.l1.now a.l2.now a.l3.now a.l4.now)) a.mask a.len a.from) (k + 1) (stretch_count a.list.now) (omega (arith, c.before.before.before.before.before.loop-k-test.true))
-    (crosses_on (walked a.back (reader_of a.unitsize a.samples.now (level_of a.l1.now a.l2.now a.l3.now a.l4.now)) a.mask a.len) a.back a.list.now (walked a.back (reader_of a.unitsize a.samples.now (level_of a.l1.now a.l2.now a.l3.now a.l4.now)) a.mask a.len a.from) c.before.before.before.before.before.before.loop-k.invariant c.before.before.before.before.nth.ensures c.before.before.before.stretch_at-s.ensures c.before.before.cross-kept.ensures ∙ ap spot_of c.enum_told-in_default-kept-1.given.1)
+    let a = c.args in
+    let k = c.loop-k.k in
+    none_left (walked a.back (reader_of a.unitsize a.samples.now (level_of a.l1.now a.l2.now a.l3.now a.l4.now)) a.mask a.len) a.back (nth_stretch a.back a.list.now) (walked a.back (reader_of a.unitsize a.samples.now (level_of a.l1.now a.l2.now a.l3.now a.l4.now)) a.mask a.len a.from) (k + 1) (stretch_count a.list.now) (omega (arith, c.loop-k-test.true))
+    (crosses_on (walked a.back (reader_of a.unitsize a.samples.now (level_of a.l1.now a.l2.now a.l3.now a.l4.now)) a.mask a.len) a.back a.list.now (walked a.back (reader_of a.unitsize a.samples.now (level_of a.l1.now a.l2.now a.l3.now a.l4.now)) a.mask a.len a.from) c.loop-k.invariant c.nth.ensures c.stretch_at-s.ensures c.cross-kept.ensures ∙ ap spot_of c.in_default-kept.is)
 
 add-k : tie.Need-overflow_add-k invariant-loop decreases-loop
-add-k c = omega (arith, c.before.before.before.before.before.before.loop-k-test.true, c.before.before.before.before.before.before.before.before.before.before.before.before.before.before.before.before.before.before.well-formed)
+add-k c = omega (arith, c.loop-k-test.true, c.before.before.before.before.before.before.before.before.before.before.before.before.before.before.before.before.before.before.well-formed)
 
 loop-less : tie.Need-loop-k-smaller invariant-loop decreases-loop
 loop-less c = search rules
 
 loop-again : tie.Need-loop-k-preserved invariant-loop decreases-loop
 loop-again c =
-    let a = c.before.before.before.before.before.before.before.before.before.before.before.before.before.before.before.before.before.before.args in
+    let a = c.args in
     record {
-      most = omega (arith, c.before.before.before.before.before.before.loop-k-test.true);
-      same = crosses_on (walked a.back (reader_of a.unitsize a.samples.now (level_of a.l1.now a.l2.now a.l3.now a.l4.now)) a.mask a.len) a.back a.list.now (walked a.back (reader_of a.unitsize a.samples.now (level_of a.l1.now a.l2.now a.l3.now a.l4.now)) a.mask a.len a.from) c.before.before.before.before.before.before.before.loop-k.invariant c.before.before.before.before.before.nth.ensures c.before.before.before.before.stretch_at-s.ensures c.before.before.before.cross-kept.ensures ∙ ap spot_of c.before.kept-1.given.1;
+      most = omega (arith, c.loop-k-test.true);
+      same = crosses_on (walked a.back (reader_of a.unitsize a.samples.now (level_of a.l1.now a.l2.now a.l3.now a.l4.now)) a.mask a.len) a.back a.list.now (walked a.back (reader_of a.unitsize a.samples.now (level_of a.l1.now a.l2.now a.l3.now a.l4.now)) a.mask a.len a.from) c.loop-k.invariant c.nth.ensures c.stretch_at-s.ensures c.cross-kept.ensures ∙ ap spot_of c.in-At-kept.is;
     }
 
 returns-3 : tie.Need-returns invariant-loop decreases-loop
 returns-3 c =
-    let a = c.before.before.before.before.before.before.before.before.before.before.before.before.args in
-    sym c.before.loop-k.invariant.same ∙ ap (λ (k : _). crossed (walked a.back (reader_of a.unitsize a.samples.now (level_of a.l1.now a.l2.now a.l3.now a.l4.now)) a.mask a.len) a.back (nth_stretch a.back a.list.now) k (walked a.back (reader_of a.unitsize a.samples.now (level_of a.l1.now a.l2.now a.l3.now a.l4.now)) a.mask a.len a.from)) (omega (arith, c.before.loop-k.invariant.most, c.loop-k-test.false))
+    let a = c.args in
+    sym c.loop-k.invariant.same ∙ ap (λ (k : _). crossed (walked a.back (reader_of a.unitsize a.samples.now (level_of a.l1.now a.l2.now a.l3.now a.l4.now)) a.mask a.len) a.back (nth_stretch a.back a.list.now) k (walked a.back (reader_of a.unitsize a.samples.now (level_of a.l1.now a.l2.now a.l3.now a.l4.now)) a.mask a.len a.from)) (omega (arith, c.loop-k.invariant.most, c.loop-k-test.false))
 
 pub certain_in_spec : {M : Type 1} → statement M
 certain_in_spec =

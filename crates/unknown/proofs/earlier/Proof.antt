@@ -17,21 +17,21 @@ enum_told : tie.Need-enum_told-1
 enum_told c = search rules
 
 returns : tie.Need-returns-in_default
-returns c = let a = c.before.before.args in ap (λ (s : Spot). earlier a.back (spot_of s) a.c) (sym c.enum_told-1.given.1)
+returns c = let a = c.args in ap (λ (s : Spot). earlier a.back (spot_of s) a.c) (sym c.in_default.is)
 
 greater-requires : tie.Need-greater-requires
 greater-requires c κs = search rules
 
 returns-2 : tie.Need-returns-then-back
 returns-2 c =
-    let a = c.before.before.before.before.before.args in
+    let a = c.args in
     ap (λ (x : ℕ). some x) c.greater.ensures
-    ∙ ap₂ (λ (b : Bool) (s : Spot). earlier b (spot_of s) a.c) (sym c.before.if-back.true) (sym c.before.before.before.found-1.given.1)
+    ∙ ap₂ (λ (b : Bool) (s : Spot). earlier b (spot_of s) a.c) (sym c.if-back.true) (sym c.in-At.is)
 
 returns-3 : tie.Need-returns
 returns-3 c =
-    let a = c.before.before.before.before.args in
-    ap₂ (λ (b : Bool) (s : Spot). earlier b (spot_of s) a.c) (sym c.if-back.false) (sym c.before.before.found-1.given.1)
+    let a = c.args in
+    ap₂ (λ (b : Bool) (s : Spot). earlier b (spot_of s) a.c) (sym c.if-back.false) (sym c.in-At.is)
 
 pub earlier_spec : {M : Type 1} → statement M
 earlier_spec = tie.close (tie.spec enum-known-found enum_told returns greater-requires returns-2 returns-3)

@@ -11,7 +11,7 @@ use Rattle.unknown.proofs.entry.Statement.{statement}
 use Rattle.unknown.proofs.entry.Tie as tie
 
 returns : tie.Need-returns-then-len-le1
-returns c = let a = c.before.args in entry_few a.back a.len a.from c.if-len-le1.true
+returns c = let a = c.args in entry_few a.back a.len a.from c.if-len-le1.true
 
 sub-lesser : tie.Need-overflow_sub-len
 sub-lesser c = search rules
@@ -21,29 +21,29 @@ lesser-requires c κs = search rules
 
 returns-2 : tie.Need-returns-then-p-eq0
 returns-2 c =
-    let a = c.before.before.before.before.args in
-    sym (ap (λ (b : Bool). cond b none (some c.before.lesser-p.result)) (eq-eqb c.before.lesser-p.result 0 c.if-p-eq0.true)) ∙ entry_back a.back a.len a.from c.before.lesser-p.result c.before.before.if-back.true c.before.lesser-p.ensures
+    let a = c.args in
+    sym (ap (λ (b : Bool). cond b none (some c.lesser-p.result)) (eq-eqb c.lesser-p.result 0 c.if-p-eq0.true)) ∙ entry_back a.back a.len a.from c.lesser-p.result c.if-back.true c.lesser-p.ensures
 
 returns-3 : tie.Need-returns-then-back
 returns-3 c =
-    let a = c.before.before.before.before.args in
-    sym (ap (λ (b : Bool). cond b none (some c.before.lesser-p.result)) (ne_eqb c.before.lesser-p.result 0 c.if-p-eq0.false)) ∙ entry_back a.back a.len a.from c.before.lesser-p.result c.before.before.if-back.true c.before.lesser-p.ensures
+    let a = c.args in
+    sym (ap (λ (b : Bool). cond b none (some c.lesser-p.result)) (ne_eqb c.lesser-p.result 0 c.if-p-eq0.false)) ∙ entry_back a.back a.len a.from c.lesser-p.result c.if-back.true c.lesser-p.ensures
 
 sub-if4 : tie.Need-overflow_sub-len-2
 sub-if4 c = search rules
 
 returns-4 : tie.Need-returns-then-len-from
 returns-4 c =
-    let a = c.before.before.before.args in
-    sym (ap (λ (b : Bool). cond b (some (a.from + 1)) none) (le-ltb (a.from + 1) a.len (omega (arith, c.if-len-from.true, c.before.before.if-len-le1.false)))) ∙ entry_on a.back a.len a.from c.before.if-back.false
+    let a = c.args in
+    sym (ap (λ (b : Bool). cond b (some (a.from + 1)) none) (le-ltb (a.from + 1) a.len (omega (arith, c.if-len-from.true, c.if-len-le1.false)))) ∙ entry_on a.back a.len a.from c.if-back.false
 
 add-t8 : tie.Need-overflow_add-result
 add-t8 c = search rules
 
 returns-5 : tie.Need-returns
 returns-5 c =
-    let a = c.before.before.before.args in
-    sym (ap (λ (b : Bool). cond b (some (a.from + 1)) none) (lt-ltb (a.from + 1) a.len (omega (arith, c.if-len-from.false, c.before.before.if-len-le1.false)))) ∙ entry_on a.back a.len a.from c.before.if-back.false
+    let a = c.args in
+    sym (ap (λ (b : Bool). cond b (some (a.from + 1)) none) (lt-ltb (a.from + 1) a.len (omega (arith, c.if-len-from.false, c.if-len-le1.false)))) ∙ entry_on a.back a.len a.from c.if-back.false
 
 pub entry_spec : {M : Type 1} → statement M
 entry_spec = tie.close (tie.spec returns sub-lesser lesser-requires returns-2 returns-3 sub-if4 returns-4 add-t8 returns-5)

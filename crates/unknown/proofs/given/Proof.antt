@@ -14,10 +14,10 @@ enum_told : tie.Need-enum_told-1
 enum_told c = search rules
 
 returns : tie.Need-returns-in-At
-returns c = ap (λ (s : Spot). given (spot_of s)) (sym c.before.found-1.given.1)
+returns c = ap (λ (s : Spot). given (spot_of s)) (sym c.in-At.is)
 
 returns-2 : tie.Need-returns-in-Nothing
-returns-2 c = ap (λ (s : Spot). given (spot_of s)) (sym c.enum_told-1.given.1)
+returns-2 c = ap (λ (s : Spot). given (spot_of s)) (sym c.in-Nothing.is)
 
 pub given_spec : {M : Type 1} → statement M
 given_spec = tie.close (tie.spec enum-known-found enum_told returns returns-2)

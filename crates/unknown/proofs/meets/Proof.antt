@@ -14,26 +14,26 @@ lesser-requires c κs = search rules
 
 returns : tie.Need-returns-then-first-c
 returns c =
-    let a = c.before.before.before.args in
-    sym (ap (λ (b : Bool). cond b (some c.before.lesser-c.result) none) (le-leb a.first c.before.lesser-c.result c.if-first-c.true)) ∙ meets_back a.back a.p a.first a.end c.before.lesser-c.result c.before.before.if-back.true c.before.lesser-c.ensures
+    let a = c.args in
+    sym (ap (λ (b : Bool). cond b (some c.lesser-c.result) none) (le-leb a.first c.lesser-c.result c.if-first-c.true)) ∙ meets_back a.back a.p a.first a.end c.lesser-c.result c.if-back.true c.lesser-c.ensures
 
 returns-2 : tie.Need-returns-then-back
 returns-2 c =
-    let a = c.before.before.before.args in
-    sym (ap (λ (b : Bool). cond b (some c.before.lesser-c.result) none) (lt-leb a.first c.before.lesser-c.result (omega (arith, c.if-first-c.false)))) ∙ meets_back a.back a.p a.first a.end c.before.lesser-c.result c.before.before.if-back.true c.before.lesser-c.ensures
+    let a = c.args in
+    sym (ap (λ (b : Bool). cond b (some c.lesser-c.result) none) (lt-leb a.first c.lesser-c.result (omega (arith, c.if-first-c.false)))) ∙ meets_back a.back a.p a.first a.end c.lesser-c.result c.if-back.true c.lesser-c.ensures
 
 greater-requires : tie.Need-greater-c-requires
 greater-requires c κs = search rules
 
 returns-3 : tie.Need-returns-then-c-end
 returns-3 c =
-    let a = c.before.before.before.args in
-    sym (ap (λ (b : Bool). cond b (some c.before.greater-c.result) none) (le-leb c.before.greater-c.result a.end c.if-c-end.true)) ∙ meets_on a.back a.p a.first a.end c.before.greater-c.result c.before.before.if-back.false c.before.greater-c.ensures
+    let a = c.args in
+    sym (ap (λ (b : Bool). cond b (some c.greater-c.result) none) (le-leb c.greater-c.result a.end c.if-c-end.true)) ∙ meets_on a.back a.p a.first a.end c.greater-c.result c.if-back.false c.greater-c.ensures
 
 returns-4 : tie.Need-returns
 returns-4 c =
-    let a = c.before.before.before.args in
-    sym (ap (λ (b : Bool). cond b (some c.before.greater-c.result) none) (lt-leb c.before.greater-c.result a.end (omega (arith, c.if-c-end.false)))) ∙ meets_on a.back a.p a.first a.end c.before.greater-c.result c.before.before.if-back.false c.before.greater-c.ensures
+    let a = c.args in
+    sym (ap (λ (b : Bool). cond b (some c.greater-c.result) none) (lt-leb c.greater-c.result a.end (omega (arith, c.if-c-end.false)))) ∙ meets_on a.back a.p a.first a.end c.greater-c.result c.if-back.false c.greater-c.ensures
 
 pub meets_spec : {M : Type 1} → statement M
 meets_spec = tie.close (tie.spec lesser-requires returns returns-2 greater-requires returns-3 returns-4)

@@ -18,15 +18,14 @@ abbrev decreases-loop : tie.decreases-loop-k
 decreases-loop list len back p n k₀ k = stretch_count list - k
 
 loop-holds : tie.Need-loop-k-init invariant-loop decreases-loop
-loop-holds c = let a = c.before.args in passed_start a.back a.p a.list.now
+loop-holds c = let a = c.args in passed_start a.back a.p a.list.now
 
 nth-requires : tie.Need-nth-requires invariant-loop decreases-loop
 nth-requires c κs = search rules
 
 stretch-at-requires : tie.Need-stretch_at-s-requires invariant-loop decreases-loop
 stretch-at-requires c κs =
-    let s = c.before.before.before.before in
-    (s.requires.0, s.requires.1, omega (arith, c.nth.ensures, nth_inside s.args.back s.args.list.now c.before.before.loop-k.k c.before.loop-k-test.true))
+    (c.requires.0, c.requires.1, omega (arith, c.nth.ensures, nth_inside c.args.back c.args.list.now c.loop-k.k c.loop-k-test.true))
 
 meets-requires : tie.Need-meets-place-requires invariant-loop decreases-loop
 meets-requires c κs = search rules
@@ -36,10 +35,10 @@ enum-known-place c = search rules
 
 returns : tie.Need-returns-in-At invariant-loop decreases-loop
 returns c =
-    let a = c.before.before.before.before.before.before.before.before.before.args in
-    let k = c.before.before.before.before.before.before.before.loop-k.k in
-    met_stays a.back a.p (nth_stretch a.back a.list.now) (k + 1) (stretch_count a.list.now) _ (omega (arith, c.before.before.before.before.before.before.loop-k-test.true))
-    (passed_on a.back a.p a.list.now c.before.before.before.before.before.before.before.loop-k.invariant c.before.before.before.before.before.nth.ensures c.before.before.before.before.stretch_at-s.ensures c.before.before.before.meets-place.ensures ∙ ap spot_of c.before.place-1.given.1)
+    let a = c.args in
+    let k = c.loop-k.k in
+    met_stays a.back a.p (nth_stretch a.back a.list.now) (k + 1) (stretch_count a.list.now) _ (omega (arith, c.loop-k-test.true))
+    (passed_on a.back a.p a.list.now c.loop-k.invariant c.nth.ensures c.stretch_at-s.ensures c.meets-place.ensures ∙ ap spot_of c.in-At.is)
 
 enum_told : tie.Need-enum_told-1 invariant-loop decreases-loop
 enum_told c = search rules
@@ -52,16 +51,16 @@ loop-less c = search rules
 
 loop-again : tie.Need-loop-k-preserved invariant-loop decreases-loop
 loop-again c =
-    let a = c.before.before.before.before.before.before.before.before.args in
+    let a = c.args in
     record {
-      most = omega (arith, c.before.before.before.before.before.loop-k-test.true);
-      none_met = passed_on a.back a.p a.list.now c.before.before.before.before.before.before.loop-k.invariant c.before.before.before.before.nth.ensures c.before.before.before.stretch_at-s.ensures c.before.before.meets-place.ensures ∙ ap spot_of c.enum_told-1.given.1;
+      most = omega (arith, c.loop-k-test.true);
+      none_met = passed_on a.back a.p a.list.now c.loop-k.invariant c.nth.ensures c.stretch_at-s.ensures c.meets-place.ensures ∙ ap spot_of c.in-Nothing.is;
     }
 
 returns-2 : tie.Need-returns invariant-loop decreases-loop
 returns-2 c =
-    let a = c.before.before.before.args in
-    sym c.before.loop-k.invariant.none_met ∙ ap (met a.back a.p (nth_stretch a.back a.list.now)) (omega (arith, c.before.loop-k.invariant.most, c.loop-k-test.false))
+    let a = c.args in
+    sym c.loop-k.invariant.none_met ∙ ap (met a.back a.p (nth_stretch a.back a.list.now)) (omega (arith, c.loop-k.invariant.most, c.loop-k-test.false))
 
 pub met_spec : {M : Type 1} → statement M
 met_spec =

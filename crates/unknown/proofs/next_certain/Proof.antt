@@ -15,12 +15,12 @@ refusal-requires c κs = search rules
 
 returns : tie.Need-returns-then-number-ne0
 unfolding certain_of
-returns c = refused_is _ c.before.refusal-number.ensures c.if-number-ne0.true
+returns c = refused_is _ c.refusal-number.ensures c.if-number-ne0.true
 
 next-in-requires : tie.Need-next_in-requires
 next-in-requires c κs =
-    let a = c.before.before.before.before.before.before.before.before.before.args in
-    (let_through a.c a.samples.now (level_of a.l1.now a.l2.now a.l3.now a.l4.now) a.list.now c.before.before.refusal-number.ensures c.before.if-number-ne0.false).0
+    let a = c.args in
+    (let_through a.c a.samples.now (level_of a.l1.now a.l2.now a.l3.now a.l4.now) a.list.now c.refusal-number.ensures c.if-number-ne0.false).0
 
 uncounted-requires : tie.Need-uncounted-requires
 uncounted-requires c κs = search rules
@@ -31,20 +31,20 @@ given-requires c κs = search rules
 returns-2 : tie.Need-returns-then-list-eq0
 unfolding certain_of
 returns-2 c =
-    let a = c.before.before.before.before.before.before.before.before.before.before.before.before.args in
-    c.given.ensures ∙ given_is _ c.before.before.before.before.before.refusal-number.ensures c.before.before.before.before.if-number-ne0.false (c.before.uncounted.ensures ∙ ap (λ (w : Walked). w.found) c.before.before.next_in.ensures ∙ certain_none false (reader_of a.c.unitsize a.samples.now (level_of a.l1.now a.l2.now a.l3.now a.l4.now)) a.c.len a.list.now a.mask a.from c.before.before.before.if-list-eq0.true)
+    let a = c.args in
+    c.given.ensures ∙ given_is _ c.refusal-number.ensures c.if-number-ne0.false (c.uncounted.ensures ∙ ap (λ (w : Walked). w.found) c.next_in.ensures ∙ certain_none false (reader_of a.c.unitsize a.samples.now (level_of a.l1.now a.l2.now a.l3.now a.l4.now)) a.c.len a.list.now a.mask a.from c.if-list-eq0.true)
 
 certain-in-requires : tie.Need-certain_in-requires
 certain-in-requires c κs =
-    let a = c.before.before.before.before.before.before.before.before.before.args in
-    let_through a.c a.samples.now (level_of a.l1.now a.l2.now a.l3.now a.l4.now) a.list.now c.before.before.refusal-number.ensures c.before.if-number-ne0.false
+    let a = c.args in
+    let_through a.c a.samples.now (level_of a.l1.now a.l2.now a.l3.now a.l4.now) a.list.now c.refusal-number.ensures c.if-number-ne0.false
 
 given-requires-2 : tie.Need-given-requires-2
 given-requires-2 c κs = search rules
 
 returns-3 : tie.Need-returns
 unfolding certain_of
-returns-3 c = c.given-2.ensures ∙ given_is _ c.before.before.before.before.refusal-number.ensures c.before.before.before.if-number-ne0.false c.before.certain_in.ensures
+returns-3 c = c.given-2.ensures ∙ given_is _ c.refusal-number.ensures c.if-number-ne0.false c.certain_in.ensures
 
 pub next_certain_spec : {M : Type 1} → statement M
 next_certain_spec = tie.close (tie.spec refusal-requires returns next-in-requires uncounted-requires given-requires returns-2 certain-in-requires given-requires-2 returns-3)

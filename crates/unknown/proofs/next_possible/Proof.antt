@@ -15,12 +15,12 @@ refusal-requires c κs = search rules
 
 returns : tie.Need-returns-then-number-ne0
 unfolding possible_of
-returns c = refused_is _ c.before.refusal-number.ensures c.if-number-ne0.true
+returns c = refused_is _ c.refusal-number.ensures c.if-number-ne0.true
 
 next-in-requires : tie.Need-next_in-requires
 next-in-requires c κs =
-    let a = c.before.before.before.before.before.before.before.before.before.args in
-    (let_through a.c a.samples.now (level_of a.l1.now a.l2.now a.l3.now a.l4.now) a.list.now c.before.before.refusal-number.ensures c.before.if-number-ne0.false).0
+    let a = c.args in
+    (let_through a.c a.samples.now (level_of a.l1.now a.l2.now a.l3.now a.l4.now) a.list.now c.refusal-number.ensures c.if-number-ne0.false).0
 
 uncounted-requires : tie.Need-uncounted-requires
 uncounted-requires c κs = search rules
@@ -31,13 +31,13 @@ given-requires c κs = search rules
 returns-2 : tie.Need-returns-then-list-eq0
 unfolding possible_of
 returns-2 c =
-    let a = c.before.before.before.before.before.before.before.before.before.before.before.before.args in
-    c.given.ensures ∙ given_is _ c.before.before.before.before.before.refusal-number.ensures c.before.before.before.before.if-number-ne0.false (c.before.uncounted.ensures ∙ ap (λ (w : Walked). w.found) c.before.before.next_in.ensures ∙ possible_none false a.c.unitsize (reader_of a.c.unitsize a.samples.now (level_of a.l1.now a.l2.now a.l3.now a.l4.now)) a.c.len a.list.now a.mask a.from c.before.before.before.if-list-eq0.true)
+    let a = c.args in
+    c.given.ensures ∙ given_is _ c.refusal-number.ensures c.if-number-ne0.false (c.uncounted.ensures ∙ ap (λ (w : Walked). w.found) c.next_in.ensures ∙ possible_none false a.c.unitsize (reader_of a.c.unitsize a.samples.now (level_of a.l1.now a.l2.now a.l3.now a.l4.now)) a.c.len a.list.now a.mask a.from c.if-list-eq0.true)
 
 possible-in-requires : tie.Need-possible_in-requires
 possible-in-requires c κs =
-    let a = c.before.before.before.before.before.before.before.before.before.args in
-    let_through a.c a.samples.now (level_of a.l1.now a.l2.now a.l3.now a.l4.now) a.list.now c.before.before.refusal-number.ensures c.before.if-number-ne0.false
+    let a = c.args in
+    let_through a.c a.samples.now (level_of a.l1.now a.l2.now a.l3.now a.l4.now) a.list.now c.refusal-number.ensures c.if-number-ne0.false
 
 given-requires-2 : tie.Need-given-requires-2
 given-requires-2 c κs = search rules
@@ -45,8 +45,8 @@ given-requires-2 c κs = search rules
 returns-3 : tie.Need-returns
 unfolding possible_of
 returns-3 c =
-    let a = c.before.before.before.before.before.before.before.before.before.before.before.args in
-    c.given-2.ensures ∙ given_is _ c.before.before.before.before.refusal-number.ensures c.before.before.before.if-number-ne0.false (c.before.possible_in.ensures ∙ possible_some false a.c.unitsize (reader_of a.c.unitsize a.samples.now (level_of a.l1.now a.l2.now a.l3.now a.l4.now)) a.c.len a.list.now a.mask a.from c.before.before.if-list-eq0.false)
+    let a = c.args in
+    c.given-2.ensures ∙ given_is _ c.refusal-number.ensures c.if-number-ne0.false (c.possible_in.ensures ∙ possible_some false a.c.unitsize (reader_of a.c.unitsize a.samples.now (level_of a.l1.now a.l2.now a.l3.now a.l4.now)) a.c.len a.list.now a.mask a.from c.if-list-eq0.false)
 
 pub next_possible_spec : {M : Type 1} → statement M
 next_possible_spec = tie.close (tie.spec refusal-requires returns next-in-requires uncounted-requires given-requires returns-2 possible-in-requires given-requires-2 returns-3)

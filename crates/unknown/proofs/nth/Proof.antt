@@ -14,10 +14,10 @@ sub-result : tie.Need-overflow_sub-result
 sub-result c = search rules
 
 returns : tie.Need-returns-then-back
-returns c = let a = c.before.args in ap (λ (b : Bool). nth_number b a.n a.k) (sym c.if-back.true)
+returns c = let a = c.args in ap (λ (b : Bool). nth_number b a.n a.k) (sym c.if-back.true)
 
 returns-2 : tie.Need-returns-else-back
-returns-2 c = let a = c.before.args in ap (λ (b : Bool). nth_number b a.n a.k) (sym c.if-back.false)
+returns-2 c = let a = c.args in ap (λ (b : Bool). nth_number b a.n a.k) (sym c.if-back.false)
 
 pub nth_spec : {M : Type 1} → statement M
 nth_spec = tie.close (tie.spec add-result sub-result returns returns-2)

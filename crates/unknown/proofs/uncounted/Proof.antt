@@ -13,10 +13,10 @@ enum_told : tie.Need-enum_told-1
 enum_told c = search rules
 
 returns : tie.Need-returns-in-At
-returns c = ap (λ (p : Place). (place_of p).found) (sym c.before.p-1.given.1)
+returns c = ap (λ (p : Place). (place_of p).found) (sym c.in-At.is)
 
 returns-2 : tie.Need-returns-in-Nothing
-returns-2 c = ap (λ (p : Place). (place_of p).found) (sym c.enum_told-1.given.1)
+returns-2 c = ap (λ (p : Place). (place_of p).found) (sym c.in-Nothing.is)
 
 pub uncounted_spec : {M : Type 1} → statement M
 uncounted_spec = tie.close (tie.spec enum-known-p enum_told returns returns-2)

@@ -11,74 +11,63 @@ use Rattle.whole.proofs.Laws.{number_small, samples_room, join_room, made_sample
 use Rattle.whole.proofs.made.Statement.{statement}
 use Rattle.whole.proofs.made.Tie as tie
 
--- the function's start, from where its slices are known
-abbrev start_at : tie.After-shared_slice_known-5-1 → tie.Start
-start_at p = p.before.before.before.before.before
-
 mul-a : tie.Need-overflow_mul-a
 mul-a c =
-    let s = start_at c in
-    let a = s.args in
-    omega (arith, number_small (store_of a.c) a.samples.now (level_of a.l1.now a.l2.now a.l3.now a.l4.now) a.level a.j s.pre)
+    let a = c.args in
+    omega (arith, number_small (store_of a.c) a.samples.now (level_of a.l1.now a.l2.now a.l3.now a.l4.now) a.level a.j c.pre)
 
 add-lesser : tie.Need-overflow_add-a
 add-lesser c =
-    let s = c.before.before.before.before.before.before in
-    let a = s.args in
-    omega (arith, number_small (store_of a.c) a.samples.now (level_of a.l1.now a.l2.now a.l3.now a.l4.now) a.level a.j s.requires)
+    let a = c.args in
+    omega (arith, number_small (store_of a.c) a.samples.now (level_of a.l1.now a.l2.now a.l3.now a.l4.now) a.level a.j c.requires)
 
 lesser-requires : tie.Need-lesser-e-requires
 lesser-requires c κs = search rules
 
 raw-node-requires : tie.Need-raw_node-requires
 raw-node-requires c κs =
-    let s = start_at c.before.before in
-    let a = s.args in
-    samples_room (store_of a.c) a.samples.now (level_of a.l1.now a.l2.now a.l3.now a.l4.now) a.level a.j s.pre c.lesser-e.result c.before.if-level-eq1.true c.lesser-e.ensures
+    let a = c.args in
+    samples_room (store_of a.c) a.samples.now (level_of a.l1.now a.l2.now a.l3.now a.l4.now) a.level a.j c.pre c.lesser-e.result c.if-level-eq1.true c.lesser-e.ensures
 
 returns : tie.Need-returns-then-level-eq1
 returns c =
-    let s = start_at c.before.before.before in
-    let a = s.args in
-    is_told _ _ c.raw_node.ensures ∙ made_samples (sample_of a.c.unitsize a.samples.now) a.c.len (level_of a.l1.now a.l2.now a.l3.now a.l4.now) a.level a.j c.before.lesser-e.result c.before.before.if-level-eq1.true c.before.lesser-e.ensures
+    let a = c.args in
+    is_told _ _ c.raw_node.ensures ∙ made_samples (sample_of a.c.unitsize a.samples.now) a.c.len (level_of a.l1.now a.l2.now a.l3.now a.l4.now) a.level a.j c.lesser-e.result c.if-level-eq1.true c.lesser-e.ensures
 
 add-lesser-2 : tie.Need-overflow_add-a-2
 add-lesser-2 c =
-    let s = c.before.before.before.before.before.before in
-    let a = s.args in
-    omega (arith, number_small (store_of a.c) a.samples.now (level_of a.l1.now a.l2.now a.l3.now a.l4.now) a.level a.j s.requires)
+    let a = c.args in
+    omega (arith, number_small (store_of a.c) a.samples.now (level_of a.l1.now a.l2.now a.l3.now a.l4.now) a.level a.j c.requires)
 
 sub-nodes-of : tie.Need-overflow_sub-level
-sub-nodes-of c = omega (arith, (start_at c.before).requires.low)
+sub-nodes-of c = omega (arith, c.requires.low)
 
 nodes-of-requires : tie.Need-nodes_of-requires
-nodes-of-requires c κs = let p = (start_at c.before).requires in omega (arith, p.high, p.sound.len_most, p.sound.capacity_most)
+nodes-of-requires c κs = let p = c.requires in omega (arith, p.high, p.sound.len_most, p.sound.capacity_most)
 
 lesser-requires-2 : tie.Need-lesser-e-requires-2
 lesser-requires-2 c κs = search rules
 
 sub-level-of : tie.Need-overflow_sub-level-2
-sub-level-of c = omega (arith, (start_at c.before.before.before).requires.low)
+sub-level-of c = omega (arith, c.requires.low)
 
 level-of-requires : tie.Need-level_of-requires
 level-of-requires c κs = search rules
 
 join-nodes-requires : tie.Need-join_nodes-requires
 join-nodes-requires c κs =
-    let s = start_at c.before.before.before.before in
-    let a = s.args in
-    let r = join_room (store_of a.c) a.samples.now (level_of a.l1.now a.l2.now a.l3.now a.l4.now) a.level a.j s.pre c.before.lesser-e-2.result c.level_of.result.now (omega (arith, s.pre.low, c.before.before.before.if-level-eq1.false)) (c.before.lesser-e-2.ensures ∙ ap (min (a.j * 32 + 32)) c.before.before.nodes_of.ensures) c.level_of.ensures in
-    (r.0, record { few = omega (arith, c.before.lesser-e-2.ensures); room = r.1 })
+    let a = c.args in
+    let r = join_room (store_of a.c) a.samples.now (level_of a.l1.now a.l2.now a.l3.now a.l4.now) a.level a.j c.pre c.lesser-e-2.result c.level_of.result.now (omega (arith, c.pre.low, c.if-level-eq1.false)) (c.lesser-e-2.ensures ∙ ap (min (a.j * 32 + 32)) c.nodes_of.ensures) c.level_of.ensures in
+    (r.0, record { few = omega (arith, c.lesser-e-2.ensures); room = r.1 })
 
 returns-2 : tie.Need-returns
 returns-2 c =
-    let s = start_at c.before.before.before.before.before in
-    let a = s.args in
-    let e = c.before.before.lesser-e-2.ensures ∙ ap (min (a.j * 32 + 32)) c.before.before.before.nodes_of.ensures in
-    let h : 2 ≤ a.level = omega (arith, s.pre.low, c.before.before.before.before.if-level-eq1.false) in
-    made_below (sample_of a.c.unitsize a.samples.now) a.c.len (level_of a.l1.now a.l2.now a.l3.now a.l4.now) a.level a.j c.before.before.lesser-e-2.result c.before.level_of.result.now _ h
-    (join_room (store_of a.c) a.samples.now (level_of a.l1.now a.l2.now a.l3.now a.l4.now) a.level a.j s.pre c.before.before.lesser-e-2.result c.before.level_of.result.now h e c.before.level_of.ensures).0
-    e c.before.level_of.ensures c.join_nodes.ensures
+    let a = c.args in
+    let e = c.lesser-e-2.ensures ∙ ap (min (a.j * 32 + 32)) c.nodes_of.ensures in
+    let h : 2 ≤ a.level = omega (arith, c.pre.low, c.if-level-eq1.false) in
+    made_below (sample_of a.c.unitsize a.samples.now) a.c.len (level_of a.l1.now a.l2.now a.l3.now a.l4.now) a.level a.j c.lesser-e-2.result c.level_of.result.now _ h
+    (join_room (store_of a.c) a.samples.now (level_of a.l1.now a.l2.now a.l3.now a.l4.now) a.level a.j c.pre c.lesser-e-2.result c.level_of.result.now h e c.level_of.ensures).0
+    e c.level_of.ensures c.join_nodes.ensures
 
 pub made_spec : {M : Type 1} → statement M
 made_spec = tie.close (tie.spec mul-a add-lesser lesser-requires raw-node-requires returns add-lesser-2 sub-nodes-of nodes-of-requires lesser-requires-2 sub-level-of level-of-requires join-nodes-requires returns-2)

@@ -13,30 +13,24 @@ use Rattle.rules.specs.Wrong.{same_node}
 use Rattle.whole.proofs.node_wrong.Statement.{statement}
 use Rattle.whole.proofs.node_wrong.Tie as tie
 
--- the function's start, from where its slices are known
-abbrev start_at : tie.After-shared_slice_known-5-1 → tie.Start
-start_at p = p.before.before.before.before.before
-
 level-of-requires : tie.Need-level_of-requires
 level-of-requires c κs = search rules
 
 node-in-requires : tie.Need-node_in-kept-requires
 node-in-requires c κs =
-    let s = start_at c.before in
-    let a = s.args in
-    subst (λ (l : List ℕ). a.j * node_size + node_size ≤ length l) (sym c.level_of.ensures) (node_room (store_of a.c) (lent_of a.samples.now (level_of a.l1.now a.l2.now a.l3.now a.l4.now)) s.pre.sound a.level a.j s.pre.low s.pre.high s.pre.covers)
+    let a = c.args in
+    subst (λ (l : List ℕ). a.j * node_size + node_size ≤ length l) (sym c.level_of.ensures) (node_room (store_of a.c) (lent_of a.samples.now (level_of a.l1.now a.l2.now a.l3.now a.l4.now)) c.pre.sound a.level a.j c.pre.low c.pre.high c.pre.covers)
 
 made-requires : tie.Need-made-requires
-made-requires c κs = (start_at c.before.before).requires
+made-requires c κs = c.requires
 
 same-node-requires : tie.Need-same_node-requires
 same-node-requires c κs = search rules
 
 returns : tie.Need-returns
 returns c =
-    let s = start_at c.before.before.before.before in
-    let a = s.args in
-    ap not (c.same_node.ensures ∙ ap₂ same_node (c.before.before.node_in-kept.ensures ∙ ap (λ (l : List ℕ). node_in l a.j) c.before.before.before.level_of.ensures) c.before.made.ensures)
+    let a = c.args in
+    ap not (c.same_node.ensures ∙ ap₂ same_node (c.node_in-kept.ensures ∙ ap (λ (l : List ℕ). node_in l a.j) c.level_of.ensures) c.made.ensures)
 
 pub node_wrong_spec : {M : Type 1} → statement M
 node_wrong_spec = tie.close (tie.spec level-of-requires node-in-requires made-requires same-node-requires returns)

@@ -8,13 +8,13 @@ returns : tie.Need-returns-then-a-b
 returns c = simp (ne_eqb _ _ c.if-a-b.true)
 
 returns-2 : tie.Need-returns-then-a-b-2
-returns-2 c = simp (eq-eqb _ _ c.before.before.before.if-a-b.false, ne_eqb _ _ c.if-a-b-2.true)
+returns-2 c = simp (eq-eqb _ _ c.if-a-b.false, ne_eqb _ _ c.if-a-b-2.true)
 
 returns-3 : tie.Need-returns-then-a-b-3
-returns-3 c = simp (eq-eqb _ _ c.before.before.before.before.before.before.if-a-b.false, eq-eqb _ _ c.before.before.before.if-a-b-2.false, ne_eqb _ _ c.if-a-b-3.true)
+returns-3 c = simp (eq-eqb _ _ c.if-a-b.false, eq-eqb _ _ c.if-a-b-2.false, ne_eqb _ _ c.if-a-b-3.true)
 
 returns-4 : tie.Need-returns
-returns-4 c = three_same _ _ _ _ (eq-eqb _ _ c.before.before.before.before.before.before.before.before.if-a-b.false) (eq-eqb _ _ c.before.before.before.before.before.if-a-b-2.false) (eq-eqb _ _ c.before.before.if-a-b-3.false)
+returns-4 c = three_same _ _ _ _ (eq-eqb _ _ c.if-a-b.false) (eq-eqb _ _ c.if-a-b-2.false) (eq-eqb _ _ c.if-a-b-3.false)
 
 pub same_node_spec : {M : Type 1} → statement M
 same_node_spec = tie.close (tie.spec returns returns-2 returns-3 returns-4)

@@ -9,13 +9,13 @@ refusal-requires : tie.Need-refusal-n-requires
 refusal-requires c κs = search rules
 
 returns : tie.Need-returns-then-n-ne0
-returns c = refused_is _ c.before.refusal-n.ensures c.if-n-ne0.true
+returns c = refused_is _ c.refusal-n.ensures c.if-n-ne0.true
 
 first-wrong-requires : tie.Need-first_wrong-requires
-first-wrong-requires c κs = let_in c.before.refusal-n.ensures c.if-n-ne0.false
+first-wrong-requires c κs = let_in c.refusal-n.ensures c.if-n-ne0.false
 
 returns-2 : tie.Need-returns
-returns-2 c = c.first_wrong.ensures ∙ given_is _ c.before.before.refusal-n.ensures c.before.if-n-ne0.false refl
+returns-2 c = c.first_wrong.ensures ∙ given_is _ c.refusal-n.ensures c.if-n-ne0.false refl
 
 pub whole_spec : {M : Type 1} → statement M
 whole_spec = tie.close (tie.spec refusal-requires returns first-wrong-requires returns-2)

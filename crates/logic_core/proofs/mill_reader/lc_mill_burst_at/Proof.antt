@@ -21,11 +21,10 @@ burst-code-requires c κs = search rules
 
 returns : tie.Need-returns
 returns c =
-    let k = c.before.before.before.before.before in
-    let a = k.before.before.before.before.before.before.before.args in
-    let f = k.before.before.before.before.before.before.before.ranges in
+    let a = c.args in
+    let f = c.ranges in
     burst_by_lem (λ (x : Capture) (z : ℤ). burst_of x a.samples.now (level_of a.l1.now a.l2.now a.l3.now a.l4.now) a.grant a.mask z a.max_gap a.tolerance a.budget)
-    k.burst_at-answer.result k.before.capture_in.ensures (to_z-of_z w64 a.sample f.sample) k.burst_at-answer.ensures c.burst_code.ensures
+    c.burst_at-answer.result c.capture_in.ensures (to_z-of_z w64 a.sample f.sample) c.burst_at-answer.ensures c.burst_code.ensures
 
 pub lc_mill_burst_at_spec : {M : Type 1} → statement M
 lc_mill_burst_at_spec =

@@ -18,9 +18,8 @@ turns-code-requires c κs = search rules
 
 returns : tie.Need-returns
 returns c =
-    let read = c.before.before.before.before in
-    let a = read.before.before.before.before.before.before.args in
-    turns_by (λ (x : Capture). encoder_of x a.samples.now (level_of a.l1.now a.l2.now a.l3.now a.l4.now) a.grant a.a a.b) c.before.before.before.encoder-answer.result read.capture_in.ensures c.before.before.before.encoder-answer.ensures c.turns_code.ensures
+    let a = c.args in
+    turns_by (λ (x : Capture). encoder_of x a.samples.now (level_of a.l1.now a.l2.now a.l3.now a.l4.now) a.grant a.a a.b) c.encoder-answer.result c.capture_in.ensures c.encoder-answer.ensures c.turns_code.ensures
 
 pub lc_mill_encoder_spec : {M : Type 1} → statement M
 lc_mill_encoder_spec = tie.close (tie.spec capture-in-requires encoder-requires turns-code-requires returns)

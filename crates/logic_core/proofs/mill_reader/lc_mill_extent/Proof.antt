@@ -21,11 +21,10 @@ bounded-code-requires c κs = search rules
 
 returns : tie.Need-returns
 returns c =
-    let read = c.before.before.before.before.before in
-    let a = read.before.before.before.before.before.before.args in (
-      told_by first_place plain bounded_of (λ (x : Capture). bounded_for x a.samples.now (level_of a.l1.now a.l2.now a.l3.now a.l4.now)) c.before.before.before.before.extent-answer.result _ _ _ read.capture_in.ensures c.before.before.before.before.extent-answer.ensures c.bounded_code.ensures.0,
-      told_by end_place plain bounded_of (λ (x : Capture). bounded_for x a.samples.now (level_of a.l1.now a.l2.now a.l3.now a.l4.now)) c.before.before.before.before.extent-answer.result _ _ _ read.capture_in.ensures c.before.before.before.before.extent-answer.ensures c.bounded_code.ensures.1,
-      told_by marked_number plain bounded_of (λ (x : Capture). bounded_for x a.samples.now (level_of a.l1.now a.l2.now a.l3.now a.l4.now)) c.before.before.before.before.extent-answer.result _ _ _ read.capture_in.ensures c.before.before.before.before.extent-answer.ensures c.bounded_code.ensures.2,
+    let a = c.args in (
+      told_by first_place plain bounded_of (λ (x : Capture). bounded_for x a.samples.now (level_of a.l1.now a.l2.now a.l3.now a.l4.now)) c.extent-answer.result _ _ _ c.capture_in.ensures c.extent-answer.ensures c.bounded_code.ensures.0,
+      told_by end_place plain bounded_of (λ (x : Capture). bounded_for x a.samples.now (level_of a.l1.now a.l2.now a.l3.now a.l4.now)) c.extent-answer.result _ _ _ c.capture_in.ensures c.extent-answer.ensures c.bounded_code.ensures.1,
+      told_by marked_number plain bounded_of (λ (x : Capture). bounded_for x a.samples.now (level_of a.l1.now a.l2.now a.l3.now a.l4.now)) c.extent-answer.result _ _ _ c.capture_in.ensures c.extent-answer.ensures c.bounded_code.ensures.2,
     )
 
 pub lc_mill_extent_spec : {M : Type 1} → statement M

@@ -26,11 +26,9 @@ got-code-requires c κs = search rules
 
 returns : tie.Need-returns
 returns c =
-    let read = c.before.before.before in
-    let s = read.before.before.before.before.before.before in
-    let a = s.args in
-    let f = s.ranges in
-    told_by number plain got_of (λ (x : Capture). got_for x a.samples.now (level_of a.l1.now a.l2.now a.l3.now a.l4.now) a.grant a.at) c.before.before.get-answer.result _ _ _ read.capture_in.ensures (c.before.before.get-answer.ensures ∙ ap (λ (z : ℤ). got_for read.capture_in.result a.samples.now (level_of a.l1.now a.l2.now a.l3.now a.l4.now) a.grant z) (to_z-of_z w64 a.at f.at)) c.got_code.ensures
+    let a = c.args in
+    let f = c.ranges in
+    told_by number plain got_of (λ (x : Capture). got_for x a.samples.now (level_of a.l1.now a.l2.now a.l3.now a.l4.now) a.grant a.at) c.get-answer.result _ _ _ c.capture_in.ensures (c.get-answer.ensures ∙ ap (λ (z : ℤ). got_for c.capture_in.result a.samples.now (level_of a.l1.now a.l2.now a.l3.now a.l4.now) a.grant z) (to_z-of_z w64 a.at f.at)) c.got_code.ensures
 
 pub lc_mill_get_spec : {M : Type 1} → statement M
 lc_mill_get_spec = tie.close (tie.spec capture-in-requires get-requires got-code-requires returns)

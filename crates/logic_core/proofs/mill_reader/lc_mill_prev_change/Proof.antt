@@ -24,11 +24,9 @@ found-code-requires c κs = search rules
 
 returns : tie.Need-returns
 returns c =
-    let read = c.before.before.before.before in
-    let s = read.before.before.before.before.before.before in
-    let a = s.args in
-    let f = s.ranges in
-    sought_by place found_of (λ (x : Capture). previous_of x a.samples.now (level_of a.l1.now a.l2.now a.l3.now a.l4.now) a.grant a.mask a.from) c.before.before.before.prev_change-answer.result read.capture_in.ensures (c.before.before.before.prev_change-answer.ensures ∙ ap (λ (z : ℤ). previous_of read.capture_in.result a.samples.now (level_of a.l1.now a.l2.now a.l3.now a.l4.now) a.grant a.mask z) (to_z-of_z w64 a.from f.from)) c.found_code.ensures
+    let a = c.args in
+    let f = c.ranges in
+    sought_by place found_of (λ (x : Capture). previous_of x a.samples.now (level_of a.l1.now a.l2.now a.l3.now a.l4.now) a.grant a.mask a.from) c.prev_change-answer.result c.capture_in.ensures (c.prev_change-answer.ensures ∙ ap (λ (z : ℤ). previous_of c.capture_in.result a.samples.now (level_of a.l1.now a.l2.now a.l3.now a.l4.now) a.grant a.mask z) (to_z-of_z w64 a.from f.from)) c.found_code.ensures
 
 pub lc_mill_prev_change_spec : {M : Type 1} → statement M
 lc_mill_prev_change_spec =

@@ -19,9 +19,8 @@ same_length c = search rules
 
 returns : tie.Need-returns
 returns c =
-    let read = c.before.before.before.before.before in
-    let a = read.before.before.before.before.before.before.before.args in
-    draws_told a.samples.now (level_of a.l1.now a.l2.now a.l3.now a.l4.now) a.grant _ _ a.start a.spp a.width c.before.before.before.render-answer.result _ read.capture_in.ensures c.before.before.before.render-answer.ensures c.drawn_code.ensures
+    let a = c.args in
+    draws_told a.samples.now (level_of a.l1.now a.l2.now a.l3.now a.l4.now) a.grant _ _ a.start a.spp a.width c.render-answer.result _ c.capture_in.ensures c.render-answer.ensures c.drawn_code.ensures
 
 pub lc_mill_render_spec : {M : Type 1} → statement M
 lc_mill_render_spec =

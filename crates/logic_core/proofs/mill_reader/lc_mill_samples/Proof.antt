@@ -21,11 +21,9 @@ same_length c = search rules
 
 returns : tie.Need-returns
 returns c =
-    let read = c.before.before.before.before.before.before in
-    let s = read.before.before.before.before.before.before.before in
-    let a = s.args in
-    let f = s.ranges in
-    copies_told a.samples.now (level_of a.l1.now a.l2.now a.l3.now a.l4.now) a.grant _ _ a.start _ (to_z-of_z w64 a.start f.start) a.count c.before.before.before.before.samples-answer.result _ _ _ read.capture_in.ensures c.before.before.before.before.samples-answer.ensures c.copied_code.ensures
+    let a = c.args in
+    let f = c.ranges in
+    copies_told a.samples.now (level_of a.l1.now a.l2.now a.l3.now a.l4.now) a.grant _ _ a.start _ (to_z-of_z w64 a.start f.start) a.count c.samples-answer.result _ _ _ c.capture_in.ensures c.samples-answer.ensures c.copied_code.ensures
 
 pub lc_mill_samples_spec : {M : Type 1} → statement M
 lc_mill_samples_spec =

@@ -26,11 +26,9 @@ shown-code-requires c κs = search rules
 
 returns : tie.Need-returns
 returns c =
-    let read = c.before.before.before in
-    let s = read.before.before.before.before.before.before in
-    let a = s.args in
-    let f = s.ranges in
-    told_by lines_numbers perhaps shown_of (λ (x : Capture). shown_for x a.samples.now (level_of a.l1.now a.l2.now a.l3.now a.l4.now) a.grant a.a a.b) c.before.before.summary-answer.result _ _ _ read.capture_in.ensures (c.before.before.summary-answer.ensures ∙ ap (λ (z : ℤ). shown_for read.capture_in.result a.samples.now (level_of a.l1.now a.l2.now a.l3.now a.l4.now) a.grant z (to_z w64 (of_z w64 a.b))) (to_z-of_z w64 a.a f.a) ∙ ap (λ (z : ℤ). shown_for read.capture_in.result a.samples.now (level_of a.l1.now a.l2.now a.l3.now a.l4.now) a.grant a.a z) (to_z-of_z w64 a.b f.b)) c.shown_code.ensures
+    let a = c.args in
+    let f = c.ranges in
+    told_by lines_numbers perhaps shown_of (λ (x : Capture). shown_for x a.samples.now (level_of a.l1.now a.l2.now a.l3.now a.l4.now) a.grant a.a a.b) c.summary-answer.result _ _ _ c.capture_in.ensures (c.summary-answer.ensures ∙ ap (λ (z : ℤ). shown_for c.capture_in.result a.samples.now (level_of a.l1.now a.l2.now a.l3.now a.l4.now) a.grant z (to_z w64 (of_z w64 a.b))) (to_z-of_z w64 a.a f.a) ∙ ap (λ (z : ℤ). shown_for c.capture_in.result a.samples.now (level_of a.l1.now a.l2.now a.l3.now a.l4.now) a.grant a.a z) (to_z-of_z w64 a.b f.b)) c.shown_code.ensures
 
 pub lc_mill_summary_spec : {M : Type 1} → statement M
 lc_mill_summary_spec =

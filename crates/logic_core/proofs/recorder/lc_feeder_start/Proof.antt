@@ -19,9 +19,8 @@ begun-code-requires c κs = search rules
 
 returns : tie.Need-returns
 returns c =
-    let known = c.before.before.before.before.before.before in
-    let a = known.before.before.before.before.before.before.before.args in
-    starts_told a.channels a.capacity a.limit a.terms.now a.seconds a.wish a.rate a.samples.now (level_of a.l1.now a.l2.now a.l3.now a.l4.now) a.ring.now c.before.before.before.start-answer.result _ _ _ _ _ c.before.before.before.before.before.terms_in.ensures c.before.before.before.before.wish_in.ensures c.before.before.before.start-answer.ensures c.begun_code.ensures
+    let a = c.args in
+    starts_told a.channels a.capacity a.limit a.terms.now a.seconds a.wish a.rate a.samples.now (level_of a.l1.now a.l2.now a.l3.now a.l4.now) a.ring.now c.start-answer.result _ _ _ _ _ c.terms_in.ensures c.wish_in.ensures c.start-answer.ensures c.begun_code.ensures
 
 pub lc_feeder_start_spec : {M : Type 1} → statement M
 lc_feeder_start_spec =

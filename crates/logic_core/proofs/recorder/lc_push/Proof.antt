@@ -11,9 +11,7 @@ use Rattle.logic_core.proofs.recorder.lc_push.Tie as tie
 module _ (w : tie.After-wait_short-waited) where
   abbrev s : tie.Start
   s =
-      let lent = w.before.before.before.before.before.before.before in
-      let known = lent.before in
-      known.before.before.before.before.before.before.before
+      w.before.before.before.before.before.before.before
 
   abbrev levels : ℕ → List ℕ
   levels = level_of s.args.l1.now s.args.l2.now s.args.l3.now s.args.l4.now
@@ -24,12 +22,6 @@ module _ (w : tie.After-wait_short-waited) where
 
   abbrev ring_after : List ℕ
   ring_after = w.wait_short-waited.last.1.1.1.1.1.1.0
-
--- the push, from its code
-abbrev pushed_at : tie.After-pushed_code → tie.After-push-answer
-pushed_at p =
-    let l3 = p.before.before.before.before.before.before.before in
-    l3.before.before.before.before.before.before.before
 
 wait-short-requires : tie.Need-wait_short-waited-requires
 wait-short-requires c κs = search rules
@@ -84,17 +76,14 @@ same-length-11 c = search rules
 
 same-length-12 : tie.Need-shape_of-ring
 same-length-12 c =
-    let n = (pushed_at c).before.before.before.before.before.before.before in
-    c.before.before.before.ring-2-1.given ∙ n.before.before.before.before.ring-1.given
+    c.ring-2-1.given ∙ c.ring-1.given
 
 returns-2 : tie.Need-returns
 returns-2 c =
-    let p = pushed_at c in
-    let n = p.before.before.before.before.before.before.before in
-    let w = n.before.before.before.before.before in
+    let w = c.before.before.before.before.before in
     let a = (s w).args in
-    passed_told a.bytes.now a.samples.now (levels w) a.numbers.now a.ring.now (numbers_after w) (ring_after w) w.wait_short-waited.result w.wait_short-waited.ensures n.before.before.if-waited.left
-    (pushes_told a.bytes.now a.samples.now (levels w) (ring_after w) _ _ _ p.push-answer.result _ (numbers_after w) _ n.feeder_in-f.ensures p.push-answer.ensures c.pushed_code.ensures)
+    passed_told a.bytes.now a.samples.now (levels w) a.numbers.now a.ring.now (numbers_after w) (ring_after w) w.wait_short-waited.result w.wait_short-waited.ensures c.if-waited.left
+    (pushes_told a.bytes.now a.samples.now (levels w) (ring_after w) _ _ _ c.push-answer.result _ (numbers_after w) _ c.feeder_in-f.ensures c.push-answer.ensures c.pushed_code.ensures)
 
 pub lc_push_spec : {M : Type 1} → statement M
 lc_push_spec =

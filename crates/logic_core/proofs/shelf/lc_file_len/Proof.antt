@@ -19,7 +19,7 @@ length-code-requires : tie.Need-length_code-requires
 length-code-requires c κs = search rules
 
 returns : tie.Need-returns
-returns c = out_same number (c.before.before.file_len-answer.ensures ∙ ap (λ (x : Capture). length_answer (store_of x)) c.before.before.before.capture_in.ensures) c.length_code.ensures
+returns c = out_same number (c.file_len-answer.ensures ∙ ap (λ (x : Capture). length_answer (store_of x)) c.capture_in.ensures) c.length_code.ensures
 
 pub lc_file_len_spec : {M : Type 1} → statement M
 lc_file_len_spec =

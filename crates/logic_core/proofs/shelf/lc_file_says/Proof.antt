@@ -12,7 +12,7 @@ says-code-requires : tie.Need-says_code-requires
 says-code-requires c κs = search rules
 
 returns : tie.Need-returns
-returns c = out_same said_numbers c.before.before.file_says-answer.ensures c.says_code.ensures
+returns c = out_same said_numbers c.file_says-answer.ensures c.says_code.ensures
 
 pub lc_file_says_spec : {M : Type 1} → statement M
 lc_file_says_spec = tie.close (tie.spec file-says-requires says-code-requires returns)

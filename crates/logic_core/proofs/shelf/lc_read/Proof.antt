@@ -27,9 +27,7 @@ same-length-5 c = search rules
 
 returns : tie.Need-returns
 returns c =
-    let l3 = c.before.before.before.before.before.before in
-    let r = l3.before.before.before.before.before.before in
-    reads_told r.read-answer.result r.read-answer.ensures c.started_code.ensures
+    reads_told c.read-answer.result c.read-answer.ensures c.started_code.ensures
 
 pub lc_read_spec : {M : Type 1} → statement M
 lc_read_spec =

@@ -30,9 +30,7 @@ same-length-6 c = search rules
 
 returns : tie.Need-returns
 returns c =
-    let l4 = c.before.before.before.before.before.before in
-    let r = l4.before.before.before.before.before.before.before.before.before in
-    salvages_told r.salvage-answer.result r.salvage-answer.ensures c.salvaged_code.ensures
+    salvages_told c.salvage-answer.result c.salvage-answer.ensures c.salvaged_code.ensures
 
 pub lc_salvage_spec : {M : Type 1} → statement M
 lc_salvage_spec =

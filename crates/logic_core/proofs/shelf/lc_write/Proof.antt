@@ -18,8 +18,7 @@ same_length c = search rules
 
 returns : tie.Need-returns
 returns c =
-    let w = c.before.before.before.before in
-    writes_told w.write-answer.result w.before.before.capture_in.ensures w.write-answer.ensures c.length_code.ensures
+    writes_told c.write-answer.result c.capture_in.ensures c.write-answer.ensures c.length_code.ensures
 
 pub lc_write_spec : {M : Type 1} → statement M
 lc_write_spec =

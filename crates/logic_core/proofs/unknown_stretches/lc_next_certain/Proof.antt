@@ -21,9 +21,8 @@ located-code-requires c κs = search rules
 
 returns : tie.Need-returns
 returns c =
-    let read = c.before.before.before in
-    let a = read.before.before.before.before.before.before.before.args in
-    told_by number perhaps located_of (λ (x : Capture). certain_of false x a.samples.now (level_of a.l1.now a.l2.now a.l3.now a.l4.now) a.stretches.now a.mask a.from) c.before.before.next_certain-answer.result _ _ _ read.capture_in.ensures c.before.before.next_certain-answer.ensures c.located_code.ensures
+    let a = c.args in
+    told_by number perhaps located_of (λ (x : Capture). certain_of false x a.samples.now (level_of a.l1.now a.l2.now a.l3.now a.l4.now) a.stretches.now a.mask a.from) c.next_certain-answer.result _ _ _ c.capture_in.ensures c.next_certain-answer.ensures c.located_code.ensures
 
 pub lc_next_certain_spec : {M : Type 1} → statement M
 lc_next_certain_spec = tie.close (tie.spec capture-in-requires next-certain-requires located-code-requires returns)

@@ -15,9 +15,9 @@ added-requires c κs = search rules
 
 returns : tie.Need-returns
 returns c =
-    let a = c.before.before.before.before.before.before.args in
+    let a = c.args in
     ap (λ (n : ℕ). record { first = a.self.first; last = a.b.last; toggles = bit_or (bit_or a.self.mask a.b.mask) (bit_xor a.self.last a.b.first); count = n })
-    (c.added.ensures ∙ ap (λ (x : ℕ). cap_count (a.self.count + a.b.count + x)) c.before.border.ensures.0)
+    (c.added.ensures ∙ ap (λ (x : ℕ). cap_count (a.self.count + a.b.count + x)) c.border.ensures.0)
 
 pub join_spec : {M : Type 1} → statement M
 join_spec = tie.close (tie.spec border-requires added-requires returns)

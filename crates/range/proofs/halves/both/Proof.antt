@@ -11,24 +11,21 @@ use Rattle.range.proofs.halves.both.Tie as tie
 
 both-one-requires : tie.Need-both_one-requires
 both-one-requires c κs =
-    let s = c.before.before in
-    (s.requires.0, omega (arith, room_of 1 s.requires.1 c.if-unitsize-eq1.true))
+    (c.requires.0, omega (arith, room_of 1 c.requires.1 c.if-unitsize-eq1.true))
 
 both-two-requires : tie.Need-both_two-requires
 both-two-requires c κs =
-    let s = c.before.before in
-    (s.requires.0, room_of 2 s.requires.1 (unit_two s.requires.1.unit_size c.if-unitsize-eq1.false))
+    (c.requires.0, room_of 2 c.requires.1 (unit_two c.requires.1.unit_size c.if-unitsize-eq1.false))
 
 returns : tie.Need-returns-then-unitsize-eq1
 returns c =
-    let a = c.before.before.before.args in
-    subst (λ (u : ℕ). Both (sample_of u a.part.now) a.a a.n c.both_one.result.mask c.both_one.result.count) (sym c.before.if-unitsize-eq1.true) c.both_one.ensures
+    let a = c.args in
+    subst (λ (u : ℕ). Both (sample_of u a.part.now) a.a a.n c.both_one.result.mask c.both_one.result.count) (sym c.if-unitsize-eq1.true) c.both_one.ensures
 
 returns-2 : tie.Need-returns-else-unitsize-eq1
 returns-2 c =
-    let s = c.before.before.before in
-    let a = s.args in
-    subst (λ (u : ℕ). Both (sample_of u a.part.now) a.a a.n c.both_two.result.mask c.both_two.result.count) (sym (unit_two s.requires.1.unit_size c.before.if-unitsize-eq1.false)) c.both_two.ensures
+    let a = c.args in
+    subst (λ (u : ℕ). Both (sample_of u a.part.now) a.a a.n c.both_two.result.mask c.both_two.result.count) (sym (unit_two c.requires.1.unit_size c.if-unitsize-eq1.false)) c.both_two.ensures
 
 pub both_spec : {M : Type 1} → statement M
 both_spec = tie.close (tie.spec both-one-requires both-two-requires returns returns-2)

@@ -71,11 +71,11 @@ loop-less c = search rules
 
 loop-again : tie.Need-loop-k-preserved invariant-loop decreases-loop
 loop-again c =
-    let p = c.before.before.before.before.before.before.before.loop-k in
-    let a = c.before.before.before.before.before.before.before.before.before.args in
+    let p = c.loop-k in
+    let a = c.args in
     let part = a.part.now in
     let at = a.a + p.k in
-    (search rules, search rules, both_on (sample_of 1 part) a.a p.k p.mask p.count _ _ _ _ _ _ p.invariant.2 (byte_sample part at) (byte_sample part (at + 1)) (byte_sample part (at + 15)) (byte_sample part (at + 16)) c.before.differ_one.ensures.0 c.differ_one-in-loop-k.ensures.0)
+    (search rules, search rules, both_on (sample_of 1 part) a.a p.k p.mask p.count _ _ _ _ _ _ p.invariant.2 (byte_sample part at) (byte_sample part (at + 1)) (byte_sample part (at + 15)) (byte_sample part (at + 16)) c.differ_one.ensures.0 c.differ_one-in-loop-k.ensures.0)
 
 wide-requires : tie.Need-wide-requires invariant-loop decreases-loop
 wide-requires c κs = search rules
@@ -85,8 +85,8 @@ cast-t22 c = search rules
 
 returns : tie.Need-returns invariant-loop decreases-loop
 returns c =
-    let p = c.before.before.loop-k in
-    both_ends _ _ _ _ _ _ _ p.invariant.2 (le_antisymm p.invariant.0 c.before.loop-k-test.false) c.wide.ensures.0
+    let p = c.loop-k in
+    both_ends _ _ _ _ _ _ _ p.invariant.2 (le_antisymm p.invariant.0 c.loop-k-test.false) c.wide.ensures.0
 
 pub both_one_spec : {M : Type 1} → statement M
 both_one_spec =

@@ -71,16 +71,16 @@ loop-less c = search rules
 
 loop-again : tie.Need-loop-k-preserved invariant-loop decreases-loop
 loop-again c =
-    let p = c.before.before.before.before.before.before.before.loop-k in
-    let a = c.before.before.before.before.before.before.before.before.before.args in
-    (search rules, search rules, both_on (sample_of 2 a.part.now) a.a p.k p.mask p.count _ _ _ _ _ _ p.invariant.2 c.before.before.before.before.before.get-x.ensures c.before.before.before.before.get-y.ensures c.before.before.before.get-z.ensures c.before.before.get-w.ensures c.before.differ_two.ensures.0 c.differ_two-in-loop-k.ensures.0)
+    let p = c.loop-k in
+    let a = c.args in
+    (search rules, search rules, both_on (sample_of 2 a.part.now) a.a p.k p.mask p.count _ _ _ _ _ _ p.invariant.2 c.get-x.ensures c.get-y.ensures c.get-z.ensures c.get-w.ensures c.differ_two.ensures.0 c.differ_two-in-loop-k.ensures.0)
 
 cast-t17 : tie.Need-overflow_cast-result invariant-loop decreases-loop
 cast-t17 c = search rules
 
 returns : tie.Need-returns invariant-loop decreases-loop
 returns c =
-    let p = c.before.loop-k in
+    let p = c.loop-k in
     both_ends _ _ _ _ _ _ _ p.invariant.2 (le_antisymm p.invariant.0 c.loop-k-test.false) (refl)
 
 pub both_two_spec : {M : Type 1} → statement M

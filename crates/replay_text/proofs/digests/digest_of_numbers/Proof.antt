@@ -27,7 +27,7 @@ lesser-requires : tie.Need-lesser-requires invariant-loop decreases-loop
 lesser-requires c κs = search rules
 
 digest-with-requires : tie.Need-digest_with-d-requires invariant-loop decreases-loop
-digest-with-requires c κs = (c.before.before.before.loop-i.invariant, omega (arith, c.lesser.ensures))
+digest-with-requires c κs = (c.loop-i.invariant, omega (arith, c.lesser.ensures))
 
 add-i : tie.Need-overflow_add-i invariant-loop decreases-loop
 add-i c = search rules
@@ -39,7 +39,7 @@ loop-again : tie.Need-loop-i-preserved invariant-loop decreases-loop
 loop-again c = rw c.digest_with-d.ensures (mod-lt _ (omega arith))
 
 returns : tie.Need-returns invariant-loop decreases-loop
-returns c = c.before.loop-i.invariant
+returns c = c.loop-i.invariant
 
 pub digest_of_numbers_spec : {M : Type 1} → statement M
 digest_of_numbers_spec =

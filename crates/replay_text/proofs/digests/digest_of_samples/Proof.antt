@@ -27,7 +27,7 @@ value-of-requires c κs = search rules
 
 digest-with-requires : tie.Need-digest_with-d-requires invariant-loop decreases-loop
 digest-with-requires c κs =
-    (search rules, omega (arith, c.value_of.ensures, c.before.shared_slice_known-in-loop-i-1.given c.before.before.before.loop-i.i))
+    (search rules, omega (arith, c.value_of.ensures, c.shared_slice_known-in-loop-i-1.given c.loop-i.i))
 
 add-i : tie.Need-overflow_add-i invariant-loop decreases-loop
 add-i c = search rules
@@ -37,10 +37,10 @@ loop-less c = search rules
 
 loop-again : tie.Need-loop-i-preserved invariant-loop decreases-loop
 loop-again c =
-    goes_on _ _ _ _ _ _ c.before.before.before.before.loop-i.invariant (search rules) c.before.value_of.ensures c.digest_with-d.ensures
+    goes_on _ _ _ _ _ _ c.loop-i.invariant (search rules) c.value_of.ensures c.digest_with-d.ensures
 
 returns : tie.Need-returns invariant-loop decreases-loop
-returns c = ends _ _ _ _ c.before.loop-i.invariant c.loop-i-test.false
+returns c = ends _ _ _ _ c.loop-i.invariant c.loop-i-test.false
 
 pub digest_of_samples_spec : {M : Type 1} → statement M
 digest_of_samples_spec =

@@ -37,7 +37,7 @@ sub-result c = let s = c.before.before in omega (arith, far_is s c.magnitude.ens
 returns : tie.Need-returns-then-p-lt0
 returns c =
     let s = c.before.before in
-    ap (λ (n : ℕ). 18446744073709551615 - n) (far_is s c.magnitude.ensures) ∙ below s.args.p (sign_is s.args.p s.ranges.p true c.before.if-p-lt0.true)
+    ap (λ (n : ℕ). 18446744073709551615 - n) (far_is s c.magnitude.ensures) ∙ below s.args.p (sign_is s.args.p s.ranges.p true c.if-p-lt0.true)
 
 magnitude-requires-2 : tie.Need-magnitude-requires-2
 magnitude-requires-2 c κs = search rules
@@ -45,7 +45,7 @@ magnitude-requires-2 c κs = search rules
 returns-2 : tie.Need-returns
 returns-2 c =
     let s = c.before.before in
-    far_is s c.magnitude-2.ensures ∙ itself s.args.p (sign_is s.args.p s.ranges.p false c.before.if-p-lt0.false)
+    far_is s c.magnitude-2.ensures ∙ itself s.args.p (sign_is s.args.p s.ranges.p false c.if-p-lt0.false)
 
 pub bits_of_spec : {M : Type 1} → statement M
 bits_of_spec = tie.close (tie.spec magnitude-requires sub-result returns magnitude-requires-2 returns-2)

@@ -20,12 +20,12 @@ unfolding of_bits div
 returns c =
     sym
     (nan_only _
-    (sym (nan_bits_is binary64 c.before.args.value)
-    ∙ nan_bits_above binary64 c.before.args.value
+    (sym (nan_bits_is binary64 c.args.value)
+    ∙ nan_bits_above binary64 c.args.value
     ∙ lt-ltb _ _ c.if-bits-gt9218868437227405312.true))
 
 float-from-bits-result : tie.Need-float_from_bits-result
-float-from-bits-result c = rw (nan_bits_above binary64 c.before.args.value, le-ltb _ _ c.if-bits-gt9218868437227405312.false) tt
+float-from-bits-result c = rw (nan_bits_above binary64 c.args.value, le-ltb _ _ c.if-bits-gt9218868437227405312.false) tt
 
 returns-2 : tie.Need-returns
 returns-2 c = search rules

@@ -22,7 +22,7 @@ returns-2 c = rw (ne_eqb _ 32 c.if-line-at-eq32.false)
 
 returns-3 : tie.Need-returns-else-at-line
 unfolding past_space
-returns-3 c = rw (get_or-eq_default c.before.args.line.now 0 c.if-at-line.false)
+returns-3 c = rw (get_or-eq_default c.args.line.now 0 c.if-at-line.false)
 
 pub past_space_spec : {M : Type 1} → statement M
 past_space_spec = tie.close (tie.spec shared-slice-read-if2 add-result returns returns-2 returns-3)

@@ -32,7 +32,7 @@ loop-less c = search rules
 
 loop-again : tie.Need-loop-end-preserved invariant-loop decreases-loop
 loop-again c =
-    (search rules, search rules, below_more _ _ c.before.before.before.loop-end.invariant.2 (λ from e. c.if-text-end-eq10.false e))
+    (search rules, search rules, below_more _ _ c.loop-end.invariant.2 (λ from e. c.if-text-end-eq10.false e))
 
 returns-2 : tie.Need-returns invariant-loop decreases-loop
 returns-2 c = search rules

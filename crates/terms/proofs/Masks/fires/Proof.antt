@@ -20,8 +20,8 @@ enum_told c = search rules
 returns : tie.Need-returns-then-self-ne0
 unfolding fires
 returns c =
-    let a = c.before.before.before.before.before.args in
-    rw (c.before.before.before.enum_told-1.given.1, ne_eqb _ _ c.if-self-ne0.true)
+    let a = c.args in
+    rw (c.in-Nothing.is, ne_eqb _ _ c.if-self-ne0.true)
 
 matches-requires-2 : tie.Need-matches-requires-in-Nothing
 matches-requires-2 c κs = search rules
@@ -29,12 +29,12 @@ matches-requires-2 c κs = search rules
 returns-2 : tie.Need-returns-in-Sample
 unfolding fires
 returns-2 c =
-    let a = c.before.before.before.before.args in
-    c.matches.ensures ∙ sym (ap (λ (q : Previous). fires (as_masks a.self) (previous_of q) a.v) c.before.before.previous-1.given.1)
+    let a = c.args in
+    c.matches.ensures ∙ sym (ap (λ (q : Previous). fires (as_masks a.self) (previous_of q) a.v) c.in-Sample.is)
 
 returns-3 : tie.Need-returns-else-self-ne0
 unfolding fires
-returns-3 c = rw (c.before.before.before.before.enum_told-1.given.1, eq-eqb _ _ c.before.if-self-ne0.false) c.matches-in-Nothing.ensures
+returns-3 c = rw (c.in-Nothing.is, eq-eqb _ _ c.if-self-ne0.false) c.matches-in-Nothing.ensures
 
 pub fires_spec : {M : Type 1} → statement M
 fires_spec = tie.close (tie.spec enum-known-previous matches-requires enum_told returns matches-requires-2 returns-2 returns-3)

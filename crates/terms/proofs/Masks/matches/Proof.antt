@@ -6,8 +6,7 @@ use Rattle.terms.proofs.Masks.matches.Tie as tie
 
 returns : tie.Need-returns
 returns c =
-    let half = c.before.before.before.before.before in
-    let a = half.before.before.before.before.before.before.args in
+    let a = c.args in
     unmet_none (as_masks a.self) a.prev a.v
 
 pub matches_spec : {M : Type 1} → statement M

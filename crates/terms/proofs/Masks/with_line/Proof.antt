@@ -29,19 +29,19 @@ enum-told-5 : tie.Need-enum_told-in-Edge
 enum-told-5 c = search rules
 
 returns : tie.Need-returns-in-High
-returns c = let a = c.before.before.before.args in arm a.self a.bit _ _ c.before.enum_told-1.given.1
+returns c = let a = c.args in arm a.self a.bit _ _ c.in-High.is
 
 returns-2 : tie.Need-returns-in-Low
-returns-2 c = let a = c.before.before.before.args in arm a.self a.bit _ _ c.before.enum_told-in-Low-1.given.1
+returns-2 c = let a = c.args in arm a.self a.bit _ _ c.in-Low.is
 
 returns-3 : tie.Need-returns-in-Rising
-returns-3 c = let a = c.before.before.before.args in arm a.self a.bit _ _ c.before.enum_told-in-Rising-1.given.1
+returns-3 c = let a = c.args in arm a.self a.bit _ _ c.in-Rising.is
 
 returns-4 : tie.Need-returns-in-Falling
-returns-4 c = let a = c.before.before.before.args in arm a.self a.bit _ _ c.before.enum_told-in-Falling-1.given.1
+returns-4 c = let a = c.args in arm a.self a.bit _ _ c.in-Falling.is
 
 returns-5 : tie.Need-returns-in-Edge
-returns-5 c = let a = c.before.before.before.args in arm a.self a.bit _ _ c.before.enum_told-in-Edge-1.given.1
+returns-5 c = let a = c.args in arm a.self a.bit _ _ c.in-Edge.is
 
 pub with_line_spec : {M : Type 1} → statement M
 with_line_spec =

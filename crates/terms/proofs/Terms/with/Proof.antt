@@ -7,7 +7,7 @@ use Rattle.terms.proofs.Terms.with.Statement.{statement}
 use Rattle.terms.proofs.Terms.with.Tie as tie
 
 returns : tie.Need-returns-then-channel-gt-TOP_LINE
-returns c = with_wrong c.before.before.args.self c.before.before.args.t c.if-channel-gt-TOP_LINE.true
+returns c = with_wrong c.args.self c.args.t c.if-channel-gt-TOP_LINE.true
 
 line-bit-requires : tie.Need-line_bit-requires
 line-bit-requires c κs = search rules
@@ -17,8 +17,8 @@ with-line-requires c κs = search rules
 
 returns-2 : tie.Need-returns
 returns-2 c =
-    let a = c.before.before.before.before.args in
-    with_line_lem a.self a.t c.with_line-added.result c.before.before.if-channel-gt-TOP_LINE.false (c.with_line-added.ensures ∙ ap (with_line a.self.masks a.t.condition) c.before.line_bit.ensures)
+    let a = c.args in
+    with_line_lem a.self a.t c.with_line-added.result c.if-channel-gt-TOP_LINE.false (c.with_line-added.ensures ∙ ap (with_line a.self.masks a.t.condition) c.line_bit.ensures)
 
 pub with_spec : {M : Type 1} → statement M
 with_spec = tie.close (tie.spec returns line-bit-requires with-line-requires returns-2)
