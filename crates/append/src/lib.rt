@@ -1,4 +1,6 @@
 // Samples are appended to a capture's lent memory.
+#![tactic(auto)]
+
 ghost use Rattle.node.specs.Memory.{level_of};
 ghost use Rattle.append.specs.Append.{Appends};
 

@@ -1,4 +1,6 @@
 // Bursts: a run of changes whose gaps are all below a bound, found by searches and grown by jumps, with the nodes read for it.
+#![tactic(auto)]
+
 ghost use Rattle.std.specs.Prelude.{◌≡◌, cond, ◌-◌, ◌≤◌, ltb};
 ghost use Rattle.rules.specs.Burst.{sum, side_if, nearer};
 ghost use Rattle.node.specs.Memory.{level_of};

@@ -1,4 +1,6 @@
 // A capture in lent memory: its record, the one check of every call on it, and the calls that need no summary.
+#![tactic(auto)]
+
 pub mod record;
 
 ghost use Rattle.std.specs.Prelude.{◌≡◌, Bool, ◌+◌, ◌*◌, ◌≤◌, length};

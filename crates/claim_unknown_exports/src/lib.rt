@@ -1,1 +1,2 @@
 // Searches across unknown stretches over the exports; the claim and its proof, and no code.
+#![tactic(auto)]

@@ -1,5 +1,7 @@
 // What the C boundary says of each answer: a code, and numbers behind out pointers.
 // The code is 0; the number of the refusal, which writes nothing; or 100, which is no.
+#![tactic(auto)]
+
 pub mod out;
 
 ghost use Rattle.std.specs.Prelude.{◌≡◌, Bool, ℤ};

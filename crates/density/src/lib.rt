@@ -1,4 +1,6 @@
 // The number of changes in any range of a capture: the count of its summary. 02: CR 5.
+#![tactic(auto)]
+
 ghost use Rattle.std.specs.Prelude.{◌≡◌};
 ghost use Rattle.rules.specs.Sample.{sample_of};
 ghost use Rattle.rules.specs.Search.{count_in};

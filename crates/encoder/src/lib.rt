@@ -1,4 +1,6 @@
 // An encoder replayed from two lines of a capture: quiet nodes are passed, and the samples of the others are scanned. 02: CR 6.
+#![tactic(auto)]
+
 ghost use Rattle.std.specs.Prelude.{◌≡◌, Bool, ◌≤◌, ◌<◌, ℤ};
 ghost use Rattle.rules.specs.Refusal.{most_samples, top_line};
 ghost use Rattle.rules.specs.Encoder.{pair_mask, pair_wrong, encoder_refusal};

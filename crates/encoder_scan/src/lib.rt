@@ -1,4 +1,6 @@
 // What two lines do over a stretch of samples, counted place by place without a branch. 02: CR 6.
+#![tactic(auto)]
+
 ghost use Rattle.std.specs.Prelude.{◌≡◌, ◌+◌, ◌*◌, ◌≤◌, ◌<◌, length};
 ghost use Rattle.rules.specs.Sample.{sample_of, UnitSize};
 ghost use Rattle.rules.specs.Refusal.{top_line};

@@ -1,4 +1,6 @@
 // Document 01's sixteen shelf examples, run: a line for each, its number and 1 where it holds, else 0.
+#![tactic(auto)]
+
 mod answers;
 
 use examples_store::Stored;

@@ -1,4 +1,6 @@
 // A recorder of up to 16 samples of one byte, by value: its record, its memory and whether its last push said complete.
+#![tactic(auto)]
+
 ghost use Rattle.std.specs.Prelude.{◌≡◌, length};
 ghost use Rattle.rules.specs.Start.{start_rule};
 ghost use Rattle.node.specs.Memory.{level_of};

@@ -1,4 +1,6 @@
 // A store of up to 16 samples of one byte, by value: its record and its memory. Searches and bursts are of line 0.
+#![tactic(auto)]
+
 use append::Appended;
 use burst::Bursts;
 use capture::{Capture, Got, Mark, Started};

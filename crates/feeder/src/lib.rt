@@ -1,4 +1,6 @@
 // The recorder: its record, the check of the record at every push, and its start.
+#![tactic(auto)]
+
 ghost use Rattle.std.specs.Prelude.{◌≡◌, Bool, [], length};
 ghost use Rattle.rules.specs.Pretrigger.{pre_for};
 ghost use Rattle.rules.specs.Refusal.{first_of, wish_wrong, number_wrong, place_wrong, setting_wrong, recorder_refusal, settings_rows};

@@ -1,4 +1,6 @@
 // What the C boundary says of the recorder's answers: a code as `codes` has it, and its record as 17 numbers.
+#![tactic(auto)]
+
 ghost use Rattle.std.specs.Prelude.{◌≡◌, Bool};
 ghost use Rattle.feeder.specs.Record.{recorder_of};
 ghost use Rattle.feeder.specs.Start.{started_of};

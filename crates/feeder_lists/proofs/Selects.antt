@@ -9,7 +9,7 @@ use native.Mathlib.Nat.{zero-add}
 use native.Mathlib.Decide.{dec_lt}
 use native.Mathlib.Omega.{arith}
 use lib.Dec.{ltb, leb, eqb, leb-zero}
-use borrow.Author.Tests.{ltb-true, ltb-false, ne_eqb}
+use borrow.Author.Tests.{ltb-true, ltb-false}
 use lib.ListN.{length, take, drop, get_or, length-take, length-append, take-append-drop}
 use lib.Seq.{drop-append-le, take_all, take-append-le, take-append-add, get_or-append-add}
 use Rattle.rules.specs.Ring.{place_after}

@@ -1,5 +1,5 @@
 -- One push as the recorder does it, over samples: what it answers and what it leaves in the record, the ring and the store. 01: Selection and recorder.
-use Rattle.std.specs.Prelude.{cond, List, [], ◌∷◌, ◌++◌, ℕ, ◌+◌, ◌-◌, min, ltb, leb, eqb, length, take, drop, get_or}
+use Rattle.std.specs.Prelude.{cond, List, [], ◌∷◌, ◌++◌, ℕ, ◌+◌, min, ltb, leb, length, take, drop, get_or}
 use Rattle.std.proofs.Math.Option.{Option, none, some}
 use Rattle.rules.specs.Ring.{place_after}
 use Rattle.rules.specs.Push.{room_for}

@@ -1,4 +1,6 @@
 // A recorder's record as 17 numbers, for a caller that has no records. The first five are its store's.
+#![tactic(auto)]
+
 pub mod recorder;
 
 ghost use Rattle.std.specs.Prelude.{◌≡◌};

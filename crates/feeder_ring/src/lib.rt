@@ -1,4 +1,6 @@
 // Samples go to the ring of a recorder that waits, and the ring's next place.
+#![tactic(auto)]
+
 ghost use Rattle.std.specs.Prelude.{◌≡◌, ◌+◌, ◌-◌, ◌≤◌, ◌<◌, max, length, take, drop};
 ghost use Rattle.rules.specs.Ring.{place_after, written, ring_bytes};
 ghost use Rattle.feeder_ring.specs.Room.{RingRoom};

@@ -1,5 +1,7 @@
 // What a push hands to the store: samples of the ring and its own, as far as there is room.
 // The numbers of a recorder come one by one: a record would be copied at each call.
+#![tactic(auto)]
+
 ghost use Rattle.std.specs.Prelude.{◌≡◌, ◌++◌, ◌+◌, ◌-◌, ◌*◌, ◌≤◌, ltb, length, drop};
 ghost use Rattle.node.specs.Memory.{level_of};
 ghost use Rattle.store.specs.Stored.{Stored};

@@ -1,4 +1,6 @@
 // The first sample of a push that fires, and the last sample of a push.
+#![tactic(auto)]
+
 ghost use Rattle.std.specs.Prelude.{◌≡◌, false, ◌+◌, ◌-◌, ◌≤◌, ◌<◌, min, ltb, length};
 ghost use Rattle.rules.specs.Sample.{sample_of};
 ghost use Rattle.rules.specs.Trigger.{matches, first_fire, last_of};

@@ -1,4 +1,6 @@
 // The start of a recorder over a lent slice of terms.
+#![tactic(auto)]
+
 ghost use Rattle.std.specs.Prelude.{◌≡◌, length};
 ghost use Rattle.rules.specs.Start.{start_rule};
 ghost use Rattle.node.specs.Memory.{level_of};

@@ -1,6 +1,8 @@
 // A search within one chunk: 01's walk over the nodes that memory holds, in runs of nodes of one level.
 // Places are the capture's; the chunk's samples are lent as their part of sample memory, levels are lent whole.
 // `back` says which way: forward and backward are one loop, the source's find_fwd and find_back.
+#![tactic(auto)]
+
 ghost use Rattle.std.specs.Prelude.{◌≡◌, true, false, ◌+◌, ◌-◌, ◌*◌, ◌/◌, ◌≤◌, ◌<◌};
 ghost use Rattle.rules.specs.Node.{mirror, top_level, chunk};
 ghost use Rattle.rules.specs.Walk.{walk_from};

@@ -1,4 +1,6 @@
 // Binary64 numbers: NaN and infinities told by comparisons, floors and roundings worked out from bits. 01: Burst and render, Selection and recorder.
+#![tactic(auto)]
+
 ghost use Rattle.std.specs.Prelude.{◌≡◌, ◌*◌, ◌/◌, ◌^◌, ◌≤◌, ◌<◌, T, pos};
 ghost use Rattle.std.specs.Float.Ieee.{is_nan};
 ghost use Rattle.std.specs.Float.Ieee.Positive.{num, den, positive};

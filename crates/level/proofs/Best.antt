@@ -1,5 +1,5 @@
 -- Laws of levels: spans, the highest level that fits, and that it is the one that a walk takes, in either direction.
-use Prim.Native.Nat.{ℕ, zero, suc, ◌+◌, ◌-◌, ◌*◌, ◌%◌, ◌^◌, ◌≤◌, ◌<◌, zero-le}
+use Prim.Native.Nat.{ℕ, zero, suc, ◌+◌, ◌-◌, ◌*◌, ◌%◌, ◌^◌, ◌≤◌, ◌<◌}
 use mathlib.Core.Path.{◌≡◌, refl, sym, ap, ap₂, ◌∙◌, subst}
 use mathlib.Core.Bool.{Bool, true, false, cond, ◌&&◌}
 use mathlib.Core.Logic.{◌⊎◌, inl, inr}
@@ -11,8 +11,7 @@ use lib.Dec.{eqb, leb}
 use lib.Pow.{pow-add}
 use borrow.Author.Tests.{eqb-true, leb-true, eq-eqb, le-leb, lt-leb}
 use Rattle.rules.specs.Node.{Node, span}
-use Rattle.rules.specs.Walk.{best, Way, forward, backward, all_levels}
-use Rattle.rules.proofs.Walk.{span_pos, best_le}
+use Rattle.rules.specs.Walk.{best, forward, backward, all_levels}
 use Rattle.level.specs.Best.{fits_at, Best}
 
 -- ---- spans

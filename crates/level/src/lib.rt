@@ -1,4 +1,6 @@
 // Levels of the summary tree: a node of level l covers 32^l samples.
+#![tactic(auto)]
+
 ghost use Rattle.std.specs.Prelude.{◌≡◌, ◌≤◌, ◌<◌};
 ghost use Rattle.rules.specs.Node.{span, chunk, nodes_for, top_level};
 ghost use Rattle.rules.specs.Refusal.{most_samples};

@@ -1,4 +1,6 @@
 // Samples in lent bytes: one bit a line, `unitsize` bytes a sample, low byte first.
+#![tactic(auto)]
+
 ghost use Rattle.std.specs.Prelude.{◌≡◌, ◌+◌, ◌*◌, ◌^◌, ◌≤◌, ◌<◌, length};
 ghost use Rattle.rules.specs.Sample.{UnitSize, little, sample_of};
 ghost use Rattle.rules.specs.Refusal.{top_line};

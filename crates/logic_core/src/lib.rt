@@ -1,6 +1,8 @@
 // The C boundary: each call of document 01 on numbers and slices, with the contract of the call under it.
 // A record is lent as its five numbers, which `capture::record` names.
 // Each call gives a code: 0; the number of the refusal, which leaves everything as it was; or 100, which is no.
+#![tactic(auto)]
+
 pub mod mill_reader;
 pub mod recorder;
 pub mod shelf;

@@ -1,4 +1,6 @@
 // A mill's reader in front of the service's calls: its places, its grant and its two refusals. 02: CR 1.
+#![tactic(auto)]
+
 ghost use Rattle.std.specs.Prelude.{◌≡◌, false, ◌≤◌, length};
 ghost use Rattle.rules.specs.Refusal.{most_samples, first_of, store_rows};
 ghost use Rattle.rules.specs.Mill.{mill_place, place_at, before_first, beyond};

@@ -1,4 +1,6 @@
 // What the C boundary says of a mill's answers: a code, and numbers behind out pointers, as `codes` says of the service's. 02: CR 1.
+#![tactic(auto)]
+
 ghost use Rattle.std.specs.Prelude.{◌≡◌, ℤ};
 ghost use Rattle.codes.specs.Code.{plain, perhaps, Out};
 ghost use Rattle.codes.specs.Record.{lines_numbers};

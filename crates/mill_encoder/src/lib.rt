@@ -1,4 +1,6 @@
 // What a mill learns of an encoder on lines of its grant. 02: CR 6.
+#![tactic(auto)]
+
 ghost use Rattle.std.specs.Prelude.{◌≡◌};
 ghost use Rattle.node.specs.Memory.{level_of};
 ghost use Rattle.encoder.specs.Answer.{encoded_of};

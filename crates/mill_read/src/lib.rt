@@ -1,4 +1,6 @@
 // What a mill reads of a capture: its extent, samples and summaries, on granted lines, at places that count from the mark. 02: CR 1.
+#![tactic(auto)]
+
 ghost use Rattle.std.specs.Prelude.{◌≡◌};
 ghost use Rattle.std.specs.Int.Bits.{bit_and};
 ghost use Rattle.rules.specs.Sample.{sample_of};

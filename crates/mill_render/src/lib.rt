@@ -1,4 +1,6 @@
 // A view of a capture drawn for a mill: granted lines only, counted from the mark. 02: CR 1.
+#![tactic(auto)]
+
 ghost use Rattle.rules.specs.Sample.{sample_of};
 ghost use Rattle.node.specs.Memory.{level_of};
 ghost use Rattle.capture.specs.Record.{store_of, lent_of};

@@ -1,5 +1,7 @@
 // What a mill searches in a capture: next and previous change and the burst at a place, of masks within its grant, at places that count from
 // the mark. 02: CR 1.
+#![tactic(auto)]
+
 ghost use Rattle.std.specs.Prelude.{◌≡◌};
 ghost use Rattle.rules.specs.Answer.{given, seen};
 ghost use Rattle.rules.specs.Walk.{through};

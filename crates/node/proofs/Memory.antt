@@ -1,17 +1,17 @@
 -- Laws of level memory: a node that was put is read back and the rest stays; right levels give true nodes to a walk.
 use Prim.Native.Nat.{ℕ, zero, suc, ◌+◌, ◌*◌, ◌/◌, ◌%◌, ◌≤◌, ◌<◌, min}
 use mathlib.Core.Path.{◌≡◌, refl, sym, ap, ap₂, ◌∙◌}
-use mathlib.Core.Bool.{Bool, true, cond}
+use mathlib.Core.Bool.{Bool, cond}
 use mathlib.Core.Logic.{◌⊎◌, inl, inr, ◌≢◌}
 use mathlib.Core.List.{List, [], ◌∷◌}
-use native.Mathlib.Nat.{div-add-mod', mod-one, add-zero, not-suc-le-zero}
+use native.Mathlib.Nat.{div-add-mod', add-zero, not-suc-le-zero}
 use native.Mathlib.Decide.{ℕ_discrete, dec_lt}
 use native.Mathlib.Omega.{arith}
 use borrow.Author.Tests.{eq-eqb, ne_eqb}
 use lib.ListN.{length, get_or, set, length-set}
 use lib.Seq.{sets, length-sets, get_or-set_same, get_or-set_other}
 use Rattle.rules.specs.Sample.{sample_of}
-use Rattle.rules.specs.Node.{Node, half, numbers_of, leaf, node_of, span, top_level, node_end}
+use Rattle.rules.specs.Node.{Node, half, numbers_of, leaf, node_of, span, top_level}
 use Rattle.rules.specs.Refusal.{node_size}
 use Rattle.rules.specs.Walk.{all_levels}
 use Rattle.rules.proofs.Node.{node_one}

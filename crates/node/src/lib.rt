@@ -1,4 +1,6 @@
 // Summary nodes: how two join, and where they stand in the lent memory of a level.
+#![tactic(auto)]
+
 ghost use Rattle.std.specs.Prelude.{◌≡◌, Bool, false, ◌+◌, ◌*◌, ◌/◌, ◌%◌, ◌≤◌, length};
 ghost use Rattle.rules.specs.Node.{half, leaf, join, quiet, differs, cap_count, lines_of};
 ghost use Rattle.rules.specs.Refusal.{node_size};

@@ -1,4 +1,6 @@
 // Quiet nodes passed within a chunk, by the levels that a search takes: where a scan of samples has to begin. Places are the capture's, as in `find`.
+#![tactic(auto)]
+
 ghost use Rattle.std.specs.Prelude.{◌≡◌, false, ◌≤◌, ◌<◌};
 ghost use Rattle.node.specs.Memory.{level_of};
 ghost use Rattle.find.specs.Part.{Part};

@@ -1,4 +1,6 @@
 // The places that a pixel of a view covers. 01: Burst and render.
+#![tactic(auto)]
+
 ghost use Rattle.std.specs.Prelude.{◌≡◌, ◌≤◌, ◌<◌, pos};
 ghost use Rattle.rules.specs.Pixel.{pixel_edge, moved, range_from};
 ghost use Rattle.rules.specs.Refusal.{most_samples};

@@ -1,6 +1,6 @@
 -- Laws of a scan that counts changes, each sample beside the one before it: where it starts, one sample more, and its end.
 use Prim.Native.Nat.{ℕ, suc, ◌+◌, ◌-◌, ◌≤◌, ◌<◌}
-use mathlib.Core.Path.{◌≡◌, refl, sym, ap, ap₂, ◌∙◌}
+use mathlib.Core.Path.{◌≡◌, sym, ap, ap₂, ◌∙◌}
 use native.Mathlib.Omega.{arith}
 use Rattle.rules.specs.Node.{differs, count_of, changes_in, cap_count, node_of}
 use Rattle.rules.proofs.Node.{changes_few}

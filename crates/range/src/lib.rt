@@ -1,4 +1,6 @@
 // The node of a range, from samples or from nodes of a level.
+#![tactic(auto)]
+
 mod halves;
 
 ghost use Rattle.std.specs.Prelude.{◌≡◌, true, false, ◌+◌, ◌-◌, ◌*◌, ◌≤◌, ◌<◌, length};

@@ -1,6 +1,8 @@
 // Nodes put into a level once samples stand at the places len to top. The node that place len lies in runs on: the new samples in its range join what it was,
 // and those before are not read. The node of these samples is carried from level to level. The nodes behind it cover new samples alone: they are made from
 // the samples of a chunk's part, and above level 1 from the level below.
+#![tactic(auto)]
+
 ghost use Rattle.std.specs.Prelude.{◌≡◌, ◌+◌, ◌-◌, ◌/◌, ◌^◌, ◌≤◌, ◌<◌, min, length};
 ghost use Rattle.node.specs.Memory.{as_node, node_in};
 ghost use Rattle.range.specs.Join.{made_over};

@@ -1,4 +1,6 @@
 // A view of a capture drawn as pixels, by the levels. 01: Burst and render.
+#![tactic(auto)]
+
 ghost use Rattle.std.specs.Prelude.{◌≡◌, length};
 ghost use Rattle.rules.specs.Sample.{sample_of};
 ghost use Rattle.rules.specs.Node.{lines_of};

@@ -1,6 +1,8 @@
 // The recorded answers of the Rust, asked of this library. Its arguments are the lists, files of data/, whose README.md
 // defines their format. For each list it writes the list's name, how many lines it compared and how many differed,
 // and one line more for the first that did.
+#![tactic(auto)]
+
 use number::lesser;
 use replay_list::state::State;
 use replay_list::{

@@ -1,4 +1,6 @@
 // The lines that ask what is stored: each calls the library and answers as the lists do.
+#![tactic(auto)]
+
 use burst::Bursts;
 use capture::{Capture, Copied, Got, Mark};
 use density::Changes;

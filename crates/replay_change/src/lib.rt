@@ -1,4 +1,6 @@
 // The lines that write samples or levels: a put, and an append or a push, piece by piece.
+#![tactic(auto)]
+
 ghost use Rattle.std.specs.Prelude.{◌≡◌};
 
 use append::Appended;

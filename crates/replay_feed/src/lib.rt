@@ -1,4 +1,6 @@
 // What a line gives to an append or a push: bytes, runs of equal samples, or noise, handed over in pieces.
+#![tactic(auto)]
+
 ghost use Rattle.std.specs.Prelude.{◌≡◌, true, ◌-◌, ◌≤◌, ◌<◌, length};
 ghost use Rattle.replay_feed.specs.Rest.{rest, Fills};
 

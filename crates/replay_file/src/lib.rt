@@ -1,4 +1,6 @@
 // The lines that write, read, salvage and ask about files. All files stand at the start of one memory.
+#![tactic(auto)]
+
 use capture::{Capture, Mark, Started};
 use feeder::Feeder;
 use lines::Mask;

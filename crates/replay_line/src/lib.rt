@@ -1,4 +1,6 @@
 // One line of a list, over the parts of memory that are lent.
+#![tactic(auto)]
+
 use feeder::Feeder;
 use lines::Mask;
 use number::lesser;

@@ -1,4 +1,6 @@
 // A list's lines, one after the other: what each sets or asks, and whether the answer is the recorded one.
+#![tactic(auto)]
+
 pub mod state;
 
 use lines::Mask;

@@ -1,4 +1,6 @@
 // The lines that begin a capture: a plain store, or a recorder's.
+#![tactic(auto)]
+
 use capture::Capture;
 use feeder::{Armed, Feeder, Pretrigger};
 use lines::Mask;

@@ -1,4 +1,6 @@
 // The lines that search across unknown stretches.
+#![tactic(auto)]
+
 use capture::Capture;
 use feeder::Feeder;
 use lines::Mask;

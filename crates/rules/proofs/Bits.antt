@@ -1,7 +1,7 @@
 -- Laws of the bit operations, for numbers of any width, each from the lines: two numbers with equal lines are equal.
 use Prim.Native.Nat.{ℕ, zero, suc, ◌+◌, ◌-◌, ◌*◌, ◌/◌, ◌%◌, ◌^◌, ◌≤◌, ◌<◌, min, max}
 use mathlib.Core.Path.{◌≡◌, refl, sym, ap, ap₂, ◌∙◌}
-use native.Mathlib.Nat.{le_refl, le_of_suc-le-suc, not-suc-le-zero, div-add-mod', mod-lt, le_trans, zero-lt-suc, zero-div, div_self, div-eq_of_lt, mul-mod_left, mul-div_cancel, pow-suc}
+use native.Mathlib.Nat.{le_refl, le_of_suc-le-suc, not-suc-le-zero, div-add-mod', mod-lt, zero-lt-suc, zero-div, div_self, div-eq_of_lt, mul-mod_left, mul-div_cancel, pow-suc}
 use native.Mathlib.Decide.{dec_lt}
 use native.Mathlib.Omega.{arith}
 use lib.Arith.{half_le, le-zero, digits_mod}

@@ -1,6 +1,6 @@
 -- The borders of bursts, computed: the pair, its two sides, the jumps at either end, and the nodes read. 01: Burst and render; 02: CR 3. Assumes nothing.
 use mathlib.Core.Path.{◌≡◌, refl}
-use mathlib.Core.Bool.{Bool, cond}
+use mathlib.Core.Bool.{cond}
 use mathlib.Core.List.{List, [], ◌∷◌}
 use mathlib.Core.Option.{Option, none, some}
 use Prim.Native.Nat.{ℕ}
@@ -9,7 +9,7 @@ use lib.Dec.{ltb}
 use Rattle.rules.specs.Node.{toggles_of, count_of, node_of}
 use Rattle.rules.specs.Search.{seek}
 use Rattle.rules.specs.Walk.{Counted, best, walk, chunks}
-use Rattle.rules.specs.Burst.{sum, Burst, End, jump, last_end, first_end, burst_by, jump_steps, steps_by, bursted_by, burst, burst_search}
+use Rattle.rules.specs.Burst.{sum, Burst, jump, last_end, first_end, burst_by, jump_steps, steps_by, bursted_by, burst, burst_search}
 
 -- one line, which changes at the places of a list
 abbrev pub turning : List ℕ → ℕ → ℕ

@@ -1,11 +1,10 @@
 -- The borders of a mill's rows and places, computed. 0 is no refusal. 02: CR 1. Assumes nothing.
 use mathlib.Core.Path.{◌≡◌, refl}
-use mathlib.Core.Option.{Option, none, some}
+use mathlib.Core.Option.{none, some}
 use Prim.Native.Nat.{ℕ}
 use lib.IntN.{ℤ, pos, negsuc}
-use Rattle.rules.specs.Burst.{Burst}
-use Rattle.rules.specs.Refusal.{Store, Lent, level_short}
-use Rattle.rules.specs.Mill.{origin_of, mill_place, place_at, shown_place, MillBurst, shown_burst, mill_search_refusal, mill_get_refusal, mill_samples_refusal, mill_summary_refusal}
+use Rattle.rules.specs.Refusal.{Store, level_short}
+use Rattle.rules.specs.Mill.{origin_of, mill_place, place_at, shown_place, shown_burst, mill_search_refusal, mill_get_refusal, mill_samples_refusal, mill_summary_refusal}
 use Rattle.rules.proofs.BorderRows.{store, plenty, no_memory}
 
 -- five samples, without a mark, and with the mark at the fourth; and none

@@ -1,8 +1,8 @@
 -- The borders of samples, nodes and searches, computed: what a range takes in and what it leaves out. 01: Records; Store; Search. Assumes nothing.
 use mathlib.Core.Path.{◌≡◌, refl}
-use mathlib.Core.Bool.{Bool, true, false}
-use mathlib.Core.List.{List, [], ◌∷◌}
-use mathlib.Core.Option.{Option, none, some}
+use mathlib.Core.Bool.{true, false}
+use mathlib.Core.List.{[], ◌∷◌}
+use mathlib.Core.Option.{none, some}
 use Prim.Native.Nat.{ℕ, ◌+◌, ◌*◌, ◌^◌}
 use Rattle.rules.specs.Sample.{unit_of, sample_of, sample_count, list_from, samples_of, line}
 use Rattle.rules.specs.Node.{Node, Lines, toggles_of, differs, count_of, changes_in, most_count, numbers_of, cap_count, node_of, join, leaf, mirror, lines_of, cut, quiet, top_level, span, chunk, nodes_for, node_start, node_end, level_node}

@@ -1,7 +1,7 @@
 -- The borders of pixels, computed: floors, the places of a pixel, and a row. Sums and products that round are in Floats. 01: Burst and render; 02: CR 1. Assumes nothing.
 use mathlib.Core.Path.{◌≡◌, refl}
 use mathlib.Core.Bool.{true, false}
-use mathlib.Core.List.{List, [], ◌∷◌}
+use mathlib.Core.List.{[], ◌∷◌}
 use mathlib.Core.Option.{Option, none, some}
 use Prim.Native.Nat.{ℕ, ◌+◌, ◌*◌}
 use lib.IntN.{pos, negsuc}

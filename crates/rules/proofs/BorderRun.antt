@@ -4,13 +4,13 @@ use mathlib.Core.Bool.{Bool, true, false}
 use mathlib.Core.List.{List, [], ◌∷◌}
 use mathlib.Core.Option.{Option, none, some}
 use Prim.Native.Nat.{ℕ}
-use lib.IntN.{pos, negsuc}
+use lib.IntN.{negsuc}
 use lib.Ieee.{fin, mul, of_int, lt}
 use Rattle.rules.specs.Sample.{sample_of, list_from}
 use Rattle.rules.specs.Floor.{floor_of, nearest_of}
 use Rattle.rules.specs.Pretrigger.{Pretrigger, fraction, seconds, one, most_fraction, times}
 use Rattle.rules.specs.Trigger.{Condition, rising, falling, edge, high, low, Term, Masks, with_line, with_terms, named_by, both_as_edge, masks_of, Armed, unarmed, waiting, armed_of, matches, fires, first_fire, last_of}
-use Rattle.rules.specs.Selection.{Settings, Rule, rule_of, Selected, chosen, selection, accepted_from, accepted, run_of, mark_of, Reply, refused, going_on, complete, replies_from, replies_of}
+use Rattle.rules.specs.Selection.{Settings, Rule, rule_of, Selected, chosen, selection, accepted_from, accepted, run_of, mark_of, refused, going_on, complete, replies_from, replies_of}
 
 -- ---- terms
 abbrev on : ℕ → Condition → Term

@@ -1,13 +1,13 @@
 -- Searches across unknown stretches, and row 18, at their borders, computed. 02: CR 9. Assumes nothing.
 use mathlib.Core.Path.{◌≡◌, refl}
 use mathlib.Core.Bool.{Bool, true, false}
-use mathlib.Core.List.{List, [], ◌∷◌}
+use mathlib.Core.List.{[], ◌∷◌}
 use mathlib.Core.Option.{Option, none, some}
 use Prim.Native.Nat.{ℕ}
 use lib.ListN.{get_or}
 use Rattle.rules.specs.Search.{seek}
 use Rattle.rules.specs.Refusal.{Store, level_short}
-use Rattle.rules.specs.Stretches.{Stretch, covers, apart, pairs_in, stretch_at}
+use Rattle.rules.specs.Stretches.{covers, apart, pairs_in, stretch_at}
 use Rattle.rules.specs.Unknown.{has_line, Sureness, certain, possible, unknown_search, list_wrong, unknown_refusal}
 use Rattle.rules.proofs.BorderShelf.{enough}
 use Rattle.rules.proofs.BorderSalvage.{stretch}

@@ -1,12 +1,12 @@
 -- The borders of the walk, computed: the level that it takes, its steps, and the chunks that it enters. 01: Search; 02: CR 3. Assumes nothing.
 use mathlib.Core.Path.{◌≡◌, refl}
-use mathlib.Core.Bool.{Bool, cond, ◌&&◌}
+use mathlib.Core.Bool.{cond, ◌&&◌}
 use mathlib.Core.Option.{Option, none, some}
 use Prim.Native.Nat.{ℕ, ◌+◌}
 use lib.Dec.{ltb, eqb}
 use Rattle.rules.specs.Node.{Node, toggles_of, count_of, node_of, leaf, span}
 use Rattle.rules.specs.Search.{seek}
-use Rattle.rules.specs.Walk.{Counted, Walked, through, forward, backward, best, walk, chunks, entered, chunks_for, next_walk, next_entered, previous_walk, previous_entered, all_levels, next_search, previous_search}
+use Rattle.rules.specs.Walk.{Walked, through, forward, backward, best, walk, chunks, entered, chunks_for, next_walk, next_entered, previous_walk, previous_entered, all_levels, next_search, previous_search}
 
 -- ---- "the highest level up to a cap .. at which p is a multiple of 32^l and p + 32^l fits the stored part of the chunk"
 -- the part ends at hi, or starts at lo; p is the place

@@ -1,14 +1,12 @@
 -- "Over any cutting of a stored range into parts of at least one sample, the parts and their borders add up to the whole." 02: CR 5.
 -- And the count of a summary of stored samples is the density, since it is never cut.
-use Prim.Native.Nat.{ℕ, ◌+◌, ◌-◌, ◌≤◌, ◌<◌, min}
+use Prim.Native.Nat.{ℕ, ◌+◌, ◌≤◌, ◌<◌, min}
 use mathlib.Core.Path.{◌≡◌, refl, sym, ap, ◌∙◌}
 use mathlib.Core.List.{List, [], ◌∷◌}
-use mathlib.Core.Option.{Option, none, some}
-use native.Mathlib.Nat.{lt_trans, lt_of_lt_of_le}
 use native.Mathlib.Decide.{dec_lt}
 use native.Mathlib.Omega.{arith}
 use borrow.Author.Tests.{lt-ltb, le-ltb}
-use Rattle.rules.specs.Node.{Node, differs, changes_in, most_count, node_of}
+use Rattle.rules.specs.Node.{changes_in, most_count, node_of}
 use Rattle.rules.specs.Search.{summary, count_in, density}
 use Rattle.rules.specs.Cutting.{Rising, cut_end, parts_sum, borders_sum}
 use Rattle.rules.proofs.Node.{changes_add, changes_none, changes_cap}

@@ -1,23 +1,22 @@
 -- The starred shelf examples of document 01, proved about its rules by computation, as one conjunction; and examples of document 02's CR 3 and CR 4.
 use mathlib.Core.Path.{◌≡◌, refl}
-use mathlib.Core.Bool.{Bool, true, false, cond}
+use mathlib.Core.Bool.{false, cond}
 use mathlib.Core.List.{List, [], ◌∷◌, ◌++◌}
-use mathlib.Core.Option.{Option, none, some}
+use mathlib.Core.Option.{none, some}
 use Prim.Native.Nat.{ℕ}
 use lib.IntN.{pos, negsuc}
 use lib.Dec.{ltb}
-use lib.ListN.{get_or}
 use lib.Ieee.{Float, fin, add, mul, of_int, lt}
 use Rattle.rules.specs.Sample.{sample_of, list_from}
-use Rattle.rules.specs.Node.{Node, toggles_of, count_of, node_of}
+use Rattle.rules.specs.Node.{toggles_of, count_of, node_of}
 use Rattle.rules.specs.Search.{seek, next, previous, summary, density}
 use Rattle.rules.specs.Walk.{best, walk, chunks, entered, next_entered, all_levels, run_reader, next_search, previous_search}
-use Rattle.rules.specs.Burst.{Burst, jump, burst_by, burst, jump_steps, steps_by, burst_search}
+use Rattle.rules.specs.Burst.{jump, burst_by, burst, jump_steps, steps_by, burst_search}
 use Rattle.rules.specs.Floor.{floor_of, nearest_of}
 use Rattle.rules.specs.Pixel.{View, pixel_edge, row_by, render}
-use Rattle.rules.specs.Pretrigger.{Pretrigger, fraction, seconds, most_fraction, times}
+use Rattle.rules.specs.Pretrigger.{fraction, seconds, most_fraction, times}
 use Rattle.rules.specs.Trigger.{Term, Condition, rising, falling, high, with_terms, both_as_edge, matches, fires, first_fire}
-use Rattle.rules.specs.Selection.{Settings, Rule, Selected, Reply, going_on, complete, refused, rule_of, chosen, selection, accepted_from, run_of, mark_of, replies_from, replies_of}
+use Rattle.rules.specs.Selection.{Settings, going_on, complete, refused, rule_of, chosen, selection, accepted_from, run_of, mark_of, replies_from, replies_of}
 
 -- A = 0 0 1 1 0 2 2 3; B = 0 1 0 0 0 0 0 0 1 0
 abbrev list_a : List ℕ

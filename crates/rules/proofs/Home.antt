@@ -1,5 +1,5 @@
 -- "after forty trial turns forward and back the log model must have come home": a run that reads the same from its end is at 0, and so are trial turns. 02: CR 6.
-use Prim.Native.Nat.{ℕ, zero, suc, ◌+◌, ◌-◌, ◌<◌}
+use Prim.Native.Nat.{ℕ, zero, suc, ◌-◌, ◌<◌}
 use mathlib.Core.Path.{◌≡◌, refl, sym, ap, ap₂, ◌∙◌}
 use mathlib.Core.List.{List, [], ◌∷◌, ◌++◌, append_assoc, append-nil, reverse, reverse-cons, reverse-append, reverse-reverse}
 use native.Mathlib.Nat.{not-suc-le-zero}

@@ -6,7 +6,7 @@ use Prim.Native.Nat.{ℕ, zero, suc, ◌+◌, ◌*◌, ◌≤◌, ◌<◌}
 use native.Mathlib.Omega.{arith}
 use lib.ListN.{length, get_or}
 use Rattle.rules.specs.Stretches.{Stretch, covers, apart, pairs_in, stretch_at}
-use Rattle.rules.proofs.Stretches.{among, Front, front}
+use Rattle.rules.proofs.Stretches.{among, front}
 
 -- the next pair's stretches are those of the list behind the first
 at_next : (a b : ℕ) (l : List ℕ) (j : ℕ) → stretch_at (a ∷ b ∷ l) (suc j) ≡ stretch_at l j

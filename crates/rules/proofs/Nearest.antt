@@ -2,12 +2,12 @@
 use mathlib.Core.Path.{◌≡◌, refl, sym, ap, ◌∙◌}
 use mathlib.Core.Bool.{Bool, true, false, false≢true}
 use mathlib.Core.Option.{Option, none, some}
-use Prim.Native.Nat.{ℕ, ◌+◌, ◌-◌, ◌≤◌, ◌<◌}
+use Prim.Native.Nat.{ℕ, ◌≤◌, ◌<◌}
 use native.Mathlib.Decide.{dec_lt}
 use native.Mathlib.Omega.{arith}
 use Rattle.rules.specs.Search.{next_at, previous_at}
 use Rattle.rules.specs.Unknown.{search_at, Asked, Sooner, Nearest}
-use Rattle.rules.proofs.Search.{Smallest, Largest, next_some, next_none, previous_some, previous_none}
+use Rattle.rules.proofs.Search.{next_some, next_none, previous_some, previous_none}
 
 -- ---- places on the way
 pub not_both : (back : Bool) (i j : ℕ) → Sooner back i j → Sooner back j i → ⊥

@@ -1,5 +1,5 @@
 -- Laws of nodes: a node of neighbouring ranges is the join of theirs, what a quiet node says of its places, and nodes cut down to chosen lines.
-use Prim.Native.Nat.{ℕ, zero, suc, ◌+◌, ◌-◌, ◌≤◌, ◌<◌, min}
+use Prim.Native.Nat.{ℕ, zero, suc, ◌+◌, ◌-◌, ◌≤◌, ◌<◌}
 use mathlib.Core.Path.{◌≡◌, refl, sym, ap, ap₂, ◌∙◌}
 use mathlib.Core.Bool.{Bool, true, false, cond}
 use mathlib.Core.Logic.{◌⊎◌, inl, inr}
@@ -11,7 +11,7 @@ use lib.Dec.{eqb}
 use borrow.Author.Tests.{eqb-true, eq-eqb, ne_eqb}
 use native.Mathlib.Decide.{ℕ_discrete, dec_lt}
 use Rattle.rules.specs.Sample.{mask_bits, Word, cut_lines}
-use Rattle.rules.specs.Node.{Node, Words, Lines, changes, toggles_of, differs, count_of, changes_in, most_count, cap_count, node_of, join, leaf, mirror, lines_of, cut, quiet}
+use Rattle.rules.specs.Node.{Node, Words, changes, toggles_of, differs, count_of, changes_in, most_count, cap_count, node_of, join, leaf, lines_of, cut, quiet}
 use Rattle.rules.proofs.Bits.{and_or, and_xor, or_zero, or_zero_left, or_zero_right, or-sort}
 
 -- ---- join

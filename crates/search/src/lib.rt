@@ -1,4 +1,6 @@
 // Next and previous change of a capture, by summaries: 01's walk over the nodes that memory holds, chunk by chunk.
+#![tactic(auto)]
+
 ghost use Rattle.std.specs.Prelude.{◌≡◌, false, ◌+◌, ◌-◌, ◌*◌, ◌≤◌, ◌<◌, min};
 ghost use Rattle.rules.specs.Node.{chunk};
 ghost use Rattle.rules.specs.Refusal.{most_samples};

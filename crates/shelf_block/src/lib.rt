@@ -1,4 +1,6 @@
 // A block of a shelf file, made and tested: its fields, and its check. 02: CR 7.
+#![tactic(auto)]
+
 ghost use Rattle.std.specs.Prelude.{◌≡◌, Bool, ◌&&◌, ◌++◌, ◌+◌, ◌-◌, ◌*◌, ◌≤◌, ◌<◌, length, take, drop};
 ghost use Rattle.rules.specs.SampleBytes.{sample_bytes};
 ghost use Rattle.rules.specs.Block.{block_size, payload_at, payload_most, zeros, weigh, check_of, block_of, same_bytes, field, good_block};

@@ -1,4 +1,6 @@
 // What the C boundary says of shelf files: how long one is, what block 0 says (02: CR 7), and what was salvaged of one (CR 8).
+#![tactic(auto)]
+
 ghost use Rattle.std.specs.Prelude.{◌≡◌};
 ghost use Rattle.codes.specs.Record.{number};
 ghost use Rattle.codes.specs.Code.{plain, Out};

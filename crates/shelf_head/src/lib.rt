@@ -1,4 +1,6 @@
 // Block 0 of a shelf file: what it says of a capture, written and read, and how long the file is. 02: CR 7.
+#![tactic(auto)]
+
 ghost use Rattle.std.specs.Prelude.{◌≡◌, Bool, ◌∷◌, ◌++◌, ◌+◌, ◌*◌, ◌^◌, ◌≤◌, ◌<◌, length};
 ghost use Rattle.rules.specs.Sample.{little};
 ghost use Rattle.rules.specs.SampleBytes.{sample_bytes};

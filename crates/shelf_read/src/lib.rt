@@ -1,4 +1,6 @@
 // A capture is read from a shelf file in lent memory into a new store. 02: CR 7.
+#![tactic(auto)]
+
 ghost use Rattle.std.specs.Prelude.{◌≡◌, true, ◌||◌, ◌*◌, ◌≤◌, ltb, length, take};
 ghost use Rattle.std.proofs.Math.Seq.{paste};
 ghost use Rattle.rules.specs.Refusal.{most_samples, lent_short};

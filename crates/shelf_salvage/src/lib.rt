@@ -1,5 +1,7 @@
 // A capture is salvaged from a file with bad blocks, into a new store: what is known of it, zero for the rest, and the stretches
 // that stay unknown. 02: CR 8.
+#![tactic(auto)]
+
 ghost use Rattle.std.specs.Prelude.{◌≡◌, ◌*◌, ◌^◌, ◌≤◌, ◌<◌, length, take};
 ghost use Rattle.std.proofs.Math.Seq.{paste};
 ghost use Rattle.rules.specs.Block.{block_size};

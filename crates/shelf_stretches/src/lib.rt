@@ -1,4 +1,6 @@
 // The unknown stretches of a file with bad blocks, told to a lent list. 02: CR 8.
+#![tactic(auto)]
+
 ghost use Rattle.std.specs.Prelude.{◌≡◌, true, ◌+◌, ◌^◌, ◌≤◌, ◌<◌, length};
 ghost use Rattle.rules.specs.Shelf.{blocks_for, head_test};
 ghost use Rattle.rules.specs.Salvage.{block_in, good_in, list_need};

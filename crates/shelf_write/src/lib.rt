@@ -1,4 +1,6 @@
 // A capture is written as a shelf file into lent memory. 02: CR 7.
+#![tactic(auto)]
+
 ghost use Rattle.std.specs.Prelude.{◌≡◌, ◌++◌, length, drop};
 ghost use Rattle.rules.specs.Shelf.{filed_of, blocks_for, blocks_of, file_of};
 ghost use Rattle.node.specs.Memory.{level_of};

@@ -1,4 +1,6 @@
 // Samples join the stored ones in lent memory, and the nodes above them are made. The calls that store are above.
+#![tactic(auto)]
+
 ghost use Rattle.std.specs.Prelude.{◌≡◌, ◌++◌, ◌+◌, ◌/◌, ◌%◌, ◌≤◌, length};
 ghost use Rattle.std.proofs.Math.Seq.{paste};
 ghost use Rattle.rules.specs.Node.{span};

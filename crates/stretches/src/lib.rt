@@ -1,4 +1,6 @@
 // Lists of unknown stretches that a caller lends, first place and count of each: what row 18 refuses, and where a stretch lies. 02: CR 9.
+#![tactic(auto)]
+
 ghost use Rattle.std.specs.Prelude.{◌≡◌, false, ◌+◌, ◌*◌, ◌≤◌, ◌<◌, length};
 ghost use Rattle.rules.specs.Refusal.{most_samples};
 ghost use Rattle.rules.specs.Stretches.{stretch_at};

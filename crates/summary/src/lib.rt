@@ -1,4 +1,6 @@
 // The node of any range of a capture, by the levels.
+#![tactic(auto)]
+
 ghost use Rattle.std.specs.Prelude.{◌≡◌, ◌≤◌, ◌<◌, length};
 ghost use Rattle.rules.specs.Sample.{sample_of};
 ghost use Rattle.rules.specs.Node.{chunk};

@@ -1,4 +1,6 @@
 // Terms as bytes, for a caller that has no term records: two bytes a term, its line and the number of its condition.
+#![tactic(auto)]
+
 ghost use Rattle.std.specs.Prelude.{◌≡◌};
 ghost use Rattle.terms.specs.Terms.{terms_of};
 ghost use Rattle.term_bytes.specs.Bytes.{condition_in, term_in, terms_in};

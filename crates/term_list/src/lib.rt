@@ -1,4 +1,6 @@
 // What a lent slice of terms comes to: a walk over it that folds the step for one term.
+#![tactic(auto)]
+
 ghost use Rattle.std.specs.Prelude.{◌≡◌};
 ghost use Rattle.terms.specs.Terms.{terms_of};
 

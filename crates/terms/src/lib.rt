@@ -1,4 +1,6 @@
 // Trigger terms, the masks that they make, and when a sample fires.
+#![tactic(auto)]
+
 ghost use Rattle.std.specs.Prelude.{◌≡◌, Bool, ◌^◌};
 ghost use Rattle.rules.specs.Trigger.{both_as_edge, matches, fires};
 ghost use Rattle.terms.specs.Terms.{as_masks, previous_of, no_terms, with_line, with_term};

@@ -1,6 +1,8 @@
 // Searches across unknown stretches, by summaries: the next and the previous change that is certain, there whatever the unknown samples
 // were, or possible, there for some. 02: CR 9. Both are 01's searches: a certain change takes one more for each stretch that a find lies at,
 // a possible one takes one at most, up to the first stretch on its way.
+#![tactic(auto)]
+
 ghost use Rattle.std.specs.Prelude.{◌≡◌, true, false, ◌+◌, ◌*◌, ◌≤◌, ◌<◌, max};
 ghost use Rattle.std.proofs.Math.Option.{some};
 ghost use Rattle.rules.specs.Refusal.{most_samples};

@@ -1,4 +1,6 @@
 // Whether the levels are right: each node that covers stored samples against the samples, or the level below it.
+#![tactic(auto)]
+
 ghost use Rattle.std.specs.Prelude.{◌≡◌, Bool, not};
 ghost use Rattle.rules.specs.Wrong.{same_node, whole_answer};
 ghost use Rattle.rules.specs.Sample.{sample_of};

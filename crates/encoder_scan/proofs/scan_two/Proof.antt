@@ -54,8 +54,7 @@ loop-less c = search rules
 
 loop-again : tie.Need-loop-k-preserved invariant-loop decreases-loop
 loop-again c =
-    let p = c.loop-k in
-    (
+    let p = c.loop-k in (
       search rules,
       search rules,
       search rules,

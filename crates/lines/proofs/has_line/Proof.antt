@@ -1,7 +1,7 @@
 -- `lines::has_line` meets its contract: all sixteen lines are those of unit 2. Assumes nothing.
 use Prim.Native.Nat.{ℕ, ◌<◌}
 use mathlib.Core.Path.{◌≡◌, sym, ap, ◌∙◌}
-use mathlib.Core.Bool.{Bool, not}
+use mathlib.Core.Bool.{not}
 use native.Mathlib.Nat.{mod-eq_of_lt}
 use lib.Bits.{and_mask}
 use lib.Dec.{eqb}

@@ -1,7 +1,6 @@
 -- `range::count_on` meets its contract: what is added up so far is, once it is cut, the count of the nodes so far. Assumes nothing.
 use Prim.Native.Nat.{◌-◌}
 use mathlib.Core.Path.{◌∙◌}
-use native.Mathlib.Omega.{arith}
 use Rattle.node.specs.Memory.{as_node, node_in}
 use Rattle.range.proofs.Joins.{Counting, counting_starts, counting_on, counting_ends}
 use borrow.Author.Rules.{rules}

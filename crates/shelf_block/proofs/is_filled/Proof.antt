@@ -5,7 +5,6 @@ use borrow.Author.Rules.{rules}
 use Rattle.rules.specs.Block.{block_size, payload_at, same_bytes, field}
 use Rattle.rules.proofs.Block.{zeros_are}
 use Rattle.shelf_block.proofs.Made.{padding}
-use borrow.Author.Tests.{not-true, not-false}
 use Rattle.shelf_block.proofs.is_filled.Statement.{statement}
 use Rattle.shelf_block.proofs.is_filled.Tie as tie
 

@@ -1,7 +1,6 @@
 -- `shelf_block::is_headed` meets its contract. Assumes nothing.
 use mathlib.Core.Path.{sym, ◌∙◌}
 use borrow.Author.Rules.{rules}
-use borrow.Author.Tests.{not-true, not-false}
 use Rattle.shelf_block.proofs.is_headed.Statement.{statement}
 use Rattle.shelf_block.proofs.is_headed.Tie as tie
 

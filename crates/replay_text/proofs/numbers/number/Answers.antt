@@ -16,8 +16,7 @@ loop-next-preserved c =
     let l = c.args.line.now in
     let i = c.loop-next.next in
     let inv = c.loop-next.invariant in
-    let digit = sym c.is_digit.ensures ∙ c.if-not-is_digit.false in
-    (
+    let digit = sym c.is_digit.ensures ∙ c.if-not-is_digit.false in (
       search rules,
       rw (c.with_digit-value.ensures, add-one i, ← decimal_more _ l i digit) inv.1,
       rw add-one (omega (arith, digits_more l i digit, inv.2)),
@@ -31,7 +30,7 @@ returns c =
     let inv = c.loop-next.invariant in
     let stop : is_digit (get_or l i 0) ≡ false =
     elim c.loop-next-test.branch [
-      else-loop-next-test w ↦ rw (get_or-eq_default l 0 w.loop-next-test.false)
+      | else-loop-next-test w ↦ rw (get_or-eq_default l 0 w.loop-next-test.false)
       | then-loop-next-test+then-not-is_digit w ↦ sym w.is_digit.ensures ∙ w.if-not-is_digit.true
     ] in
     let from = c.past_space-start.ensures in
