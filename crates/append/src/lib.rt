@@ -16,8 +16,8 @@ pub enum Appended {
 }
 
 // 01's append: whole samples of the bytes join the capture, a leftover byte is dropped; refuses with 1, 2 and 8.
-// What the contract means is in proofs/Theorems.antt: right-stays (right levels stay right), made-anew (from the level below), old-stay and new-follow (the samples),
-// lengths-stay, bytes-stay, nodes-stay and refused-leaves (all else stays), new-alone (what the written nodes depend on), pieces (in pieces as at once).
+// What the contract means is in proofs/Theorems.antt: right_stays (right levels stay right), made_anew (from the level below), old_stay and new_follow (the samples),
+// lengths_stay, bytes_stay, nodes_stay and refused_leaves (all else stays), new_alone (what the written nodes depend on), pieces (in pieces as at once).
 pub fn append(
     c: Capture,
     samples: &mut [u8],

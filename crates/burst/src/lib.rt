@@ -350,7 +350,7 @@ fn pair_of<'a>(
 }
 
 // 01's burst_at: the burst at a place or none, with the nodes that its searches read, or 1 or 2. Theorems, in
-// proofs/Answers.antt: burst-right, that on right levels both are the rules'; jumps-within, that neither end jumps more often
+// proofs/Answers.antt: burst_right, that on right levels both are the rules'; jumps_within, that neither end jumps more often
 // than the budget.
 pub fn burst_at<'a>(
     c: Capture,

@@ -203,7 +203,7 @@ pub enum Needed {
 }
 
 // How much memory a store needs, or 1 where no store has that capacity.
-// By `Calls.needs-enough` memory of these lengths is not refused.
+// By `Calls.needs_enough` memory of these lengths is not refused.
 pub fn needs(channels: usize, capacity: usize) -> Needed
     ensures { needed_of result ≡ unless (need_refusal (fresh channels capacity)) (memory_need (fresh channels capacity)) }
 {

@@ -33,7 +33,7 @@ fn count_in(summed: Summed) -> Changes
 }
 
 // The number of places in [a, min(b, len)), a itself left out, at which any line changes; or 1 or 2.
-// By `Answers.density-right` it is the rule's where levels are right.
+// By `Answers.density_right` it is the rule's where levels are right.
 pub fn density<'a>(
     c: Capture,
     samples: &[u8],

@@ -194,7 +194,7 @@ pub fn turns_in<'a>(
 }
 
 // 02's encoder: the position, and the steps forward, backward and skipped; or 1, 2 or 14.
-// By `Answers.encoder-right` it is the rule's where levels are right.
+// By `Answers.encoder_right` it is the rule's where levels are right.
 pub fn encoder<'a>(
     c: Capture,
     samples: &[u8],

@@ -207,7 +207,7 @@ fn armed_by(terms: Terms) -> Armed
     Armed::Unarmed
 }
 
-// 01's start of a recorder, over terms that are summed up. proofs/Begun: start-rule, for terms that come of a list; begun-sound, of the record.
+// 01's start of a recorder, over terms that are summed up. proofs/Begun: start_rule_lem, for terms that come of a list; begun_sound, of the record.
 pub fn start<'a>(
     channels: usize,
     capacity: usize,

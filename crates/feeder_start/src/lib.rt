@@ -11,7 +11,7 @@ use feeder::{Pretrigger, Started};
 use lines::Mask;
 use terms::TriggerTerm;
 
-// 01's start of a recorder. Its answer is 01's for the settings: feeder/proofs/Begun, start-rule.
+// 01's start of a recorder. Its answer is 01's for the settings: feeder/proofs/Begun, start_rule_lem.
 pub fn start_list<'a>(
     channels: usize,
     capacity: usize,

@@ -243,7 +243,7 @@ fn few(back: bool, pos: usize) -> usize
 }
 
 // The find of a capture of len samples, where it is one of the next few: with dense changes nothing more is looked at.
-// What it finds is the walk's, and so is the count (proofs/Samples.antt, near-finds); where it finds nothing the walk starts anew, and it
+// What it finds is the walk's, and so is the count (proofs/Samples.antt, near_finds); where it finds nothing the walk starts anew, and it
 // counts nothing. level is any level's slice.
 pub fn near(
     samples: &[u8],

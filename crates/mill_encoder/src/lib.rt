@@ -12,7 +12,7 @@ use lines::Mask;
 use mill::beyond;
 
 // The service's answer; or 1, 2 or 14, and then 12 for a line beyond the grant.
-// By `Answers.encoder-right` it is the rule's where levels are right.
+// By `Answers.encoder_right` it is the rule's where levels are right.
 pub fn encoder<'a>(
     c: Capture,
     samples: &[u8],

@@ -167,7 +167,7 @@ fn cut_summed(summed: Summed, grant: Mask) -> Shown
 }
 
 // What the granted lines did from a to b, b left out: the first sample, the last and the toggles, none where there are none, or 1, 2 or 13.
-// By `Answers.summary-right` it is the rule's where levels are right.
+// By `Answers.summary_right` it is the rule's where levels are right.
 pub fn summary<'a>(
     c: Capture,
     samples: &[u8],

@@ -15,7 +15,7 @@ use pixel::View;
 use render::{Drawn, draw, view_refusal};
 
 // render(view, width, output) for a mill: width pixels drawn, or 1, 2, 10 or 11 and nothing drawn.
-// By `Answers.render-right` they are the rule's where levels are right.
+// By `Answers.render_right` they are the rule's where levels are right.
 pub fn render<'a>(
     c: Capture,
     samples: &[u8],

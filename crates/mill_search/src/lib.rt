@@ -83,7 +83,7 @@ fn change<'a>(
 }
 
 // The next change after a place, none, or 1, 2, 12 or 13, and the nodes read.
-// Theorems, in proofs/Answers.antt: next-right, that on right levels it is the rules' next.
+// Theorems, in proofs/Answers.antt: next_right, that on right levels it is the rules' next.
 pub fn next_change<'a>(
     c: Capture,
     samples: &[u8],
@@ -101,7 +101,7 @@ pub fn next_change<'a>(
 }
 
 // The last change up to a place, none, or 1, 2, 12 or 13, and the nodes read.
-// Theorems, in proofs/Answers.antt: previous-right, that on right levels it is the rules' previous.
+// Theorems, in proofs/Answers.antt: previous_right, that on right levels it is the rules' previous.
 pub fn prev_change<'a>(
     c: Capture,
     samples: &[u8],
@@ -138,7 +138,7 @@ fn burst_from(from: usize, found: burst::Bursts) -> Bursts
     }
 }
 
-// The burst at a place, none, or 1, 2, 12 or 13. Theorems, in proofs/Answers.antt: burst-right, that on right levels it is the rules' burst.
+// The burst at a place, none, or 1, 2, 12 or 13. Theorems, in proofs/Answers.antt: burst_right, that on right levels it is the rules' burst.
 pub fn burst_at<'a>(
     c: Capture,
     samples: &[u8],

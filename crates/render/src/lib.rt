@@ -99,7 +99,7 @@ pub enum Drawn {
 }
 
 // 01's render(view, width, output): width pixels drawn, or 1, 2, 10 or 11 and nothing drawn.
-// By `Answers.render-right` they are the rule's where levels are right.
+// By `Answers.render_right` they are the rule's where levels are right.
 pub fn render<'a>(
     c: Capture,
     samples: &[u8],

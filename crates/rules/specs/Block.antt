@@ -50,7 +50,7 @@ abbrev pub field : ℕ → ℕ → List ℕ → List ℕ
 field a e block = take (e - a) (drop a block)
 
 -- a block with this number and so many bytes of payload, by its count, its number, its zeros, those behind the payload, and its check
--- (rules.proofs.Block.good-block: it is `block_of` its number and payload)
+-- (rules.proofs.Block.good_block_lem: it is `block_of` its number and payload)
 unfoldable pub good_block : ℕ → ℕ → List ℕ → Bool
 good_block number count block =
     same_bytes (field 2 4 block) (sample_bytes 2 count)

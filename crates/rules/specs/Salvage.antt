@@ -26,7 +26,7 @@ abbrev pub good_at : List ℕ → ℕ → Bool
 good_at file k = good_in (bytes_for (heading_in file)) k (block_in k file)
 
 -- ---- samples
--- the block that holds byte j of the samples, and the one of sample i: all its bytes stand there (rules.proofs.Salvage.in-one)
+-- the block that holds byte j of the samples, and the one of sample i: all its bytes stand there (rules.proofs.Salvage.in_one)
 abbrev pub block_of_byte : ℕ → ℕ
 block_of_byte j = j / payload_most + 1
 

@@ -6,7 +6,7 @@ use Rattle.std.specs.Int.Bits.{bit_and}
 abbrev pub unit_of : ℕ → ℕ
 unit_of channels = cond (ltb 8 channels) 2 1
 
--- the units that there are: "unit 1 or 2" (rules.proofs.Sample.unit-cases takes one apart)
+-- the units that there are: "unit 1 or 2" (rules.proofs.Sample.unit_cases takes one apart)
 pub record UnitSize (u : ℕ) : Type 0 where
   pub least : 1 ≤ u
   pub most : u ≤ 2

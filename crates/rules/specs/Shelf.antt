@@ -54,7 +54,7 @@ file_len h = block_size * (1 + blocks_for (bytes_for h))
 
 -- ---- which files there are
 -- "a file that no capture has" is one without this: some record passes row 1, and some sample memory row 2, and its file is this one.
--- `file_test` decides it (rules.proofs.Shelf.has-file).
+-- `file_test` decides it (rules.proofs.Shelf.has_file).
 pub record HasFile (file : List ℕ) : Type 0 where
   pub store : Store
   pub samples : List ℕ

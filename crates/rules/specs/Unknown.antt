@@ -18,7 +18,7 @@ Certain unit len unknown s mask i = (t : ℕ → ℕ) → Filling unit len unkno
 abbrev pub Possible : ℕ → ℕ → (ℕ → Bool) → (ℕ → ℕ) → ℕ → ℕ → Type 0
 Possible unit len unknown s mask i = (t : ℕ → ℕ) × Filling unit len unknown s t × (changed t mask i ≡ true)
 
--- computed (rules.proofs.Unknown: certain-is, possible-is)
+-- computed (rules.proofs.Unknown: certain_is, possible_is)
 abbrev pub certain_at : (ℕ → Bool) → (ℕ → ℕ) → ℕ → ℕ → Bool
 certain_at unknown s mask i = not (unknown (i - 1) || unknown i) && changed s mask i
 
@@ -48,7 +48,7 @@ search_at false test len from = next_at test len from
 abbrev pub unknown_search : Sureness → Bool → ℕ → (ℕ → ℕ) → ℕ → List Stretch → ℕ → ℕ → Option ℕ
 unknown_search sure back unit s len stretches mask from = search_at back (test_at sure unit (covers stretches) s mask) len from
 
--- ---- what that means, by fillings (rules.proofs.Unknown.unknown-is)
+-- ---- what that means, by fillings (rules.proofs.Unknown.unknown_is)
 abbrev pub Change : Sureness → ℕ → ℕ → (ℕ → Bool) → (ℕ → ℕ) → ℕ → ℕ → Type 0
 Change certain unit len unknown s mask i = Certain unit len unknown s mask i
 Change possible unit len unknown s mask i = Possible unit len unknown s mask i

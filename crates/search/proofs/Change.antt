@@ -1,5 +1,5 @@
 -- The theorems about next_change and prev_change. All that is known of the calls is what their contracts promise: `Post` of each one's generated `Reads`.
--- Where levels are right the answer is 01's next or previous (rules' next-some, next-none, previous-some and previous-none say what that is),
+-- Where levels are right the answer is 01's next or previous (rules' next_some, next_none, previous_some and previous_none say what that is),
 -- with the steps of 01's walk over the run, of which there are few; whatever memory holds, a place that is found lies in the range asked.
 use Prim.Native.Nat.{ℕ, ◌*◌, ◌≤◌}
 use mathlib.Core.Path.{◌≡◌, refl, sym, ap, ◌∙◌, subst}

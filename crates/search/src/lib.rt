@@ -342,7 +342,7 @@ fn given(place: Place) -> Found
 }
 
 // 01's Next: the smallest place after from, and below len, at which a masked line changes; and the nodes read.
-// Theorems, in proofs/Change.antt: next-right, that on right levels it is the rules' next, in the steps of 01's walk; next-range, on any memory.
+// Theorems, in proofs/Change.antt: next_right, that on right levels it is the rules' next, in the steps of 01's walk; next_range, on any memory.
 pub fn next_change<'a>(
     c: Capture,
     samples: &[u8],
@@ -363,7 +363,7 @@ pub fn next_change<'a>(
 }
 
 // 01's Previous: the largest place up to from, from 1 on and below len, at which a masked line changes; and the nodes read.
-// Theorems, in proofs/Change.antt: previous-right, that on right levels it is the rules' previous, in the steps of 01's walk; previous-range, on any memory.
+// Theorems, in proofs/Change.antt: previous_right, that on right levels it is the rules' previous, in the steps of 01's walk; previous_range, on any memory.
 pub fn prev_change<'a>(
     c: Capture,
     samples: &[u8],

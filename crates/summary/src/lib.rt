@@ -179,7 +179,7 @@ fn by_levels<'a>(
 // A range of up to this many samples is read sample by sample.
 const SHORT: usize = 64;
 
-// The node of [a, b), a < b ≤ len. By `Laws.summed-right` it is the rule's where levels are right.
+// The node of [a, b), a < b ≤ len. By `Laws.summed_right` it is the rule's where levels are right.
 pub fn summary_in<'a>(
     c: Capture,
     samples: &[u8],
@@ -229,7 +229,7 @@ pub fn summed_in<'a>(
 }
 
 // 01's Summary(a, b): the node of [a, min(b, len)), none where that is empty, or 1 or 2.
-// By `Answers.summary-right` it is the rule's where levels are right.
+// By `Answers.summary_right` it is the rule's where levels are right.
 pub fn summary<'a>(
     c: Capture,
     samples: &[u8],

@@ -1,5 +1,5 @@
 -- The theorems about the four calls. Where levels are right and samples are the unit's, an answer is 02's: the first place on the way that is changed in every
--- filling of the unknown stretches, or in some (rules' unknown-is says what that is).
+-- filling of the unknown stretches, or in some (rules' unknown_is says what that is).
 use mathlib.Core.Path.{◌≡◌, refl, sym, ap, ap₂, ◌∙◌, subst}
 use mathlib.Core.Bool.{Bool, true, false, cond, not, ◌&&◌, ◌||◌, false≢true}
 use mathlib.Core.List.{List, [], ◌∷◌}

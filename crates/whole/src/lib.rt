@@ -115,7 +115,7 @@ fn first_wrong<'a>(
 }
 
 // 01's whole: yes, or the first wrong node of those that cover stored samples, lowest level first; or 1 or 2.
-// By `Answers.whole-yes` it is yes exactly when the levels are right.
+// By `Answers.whole_yes` it is yes exactly when the levels are right.
 pub fn whole<'a>(
     c: Capture,
     samples: &[u8],
