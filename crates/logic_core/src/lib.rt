@@ -26,8 +26,7 @@ use lines::Mask;
 use pixel::View;
 
 // How much memory a store needs: bytes of samples, and numbers of the levels 1 to 4. Refuses with 1.
-#[unsafe(no_mangle)]
-pub extern "C" fn lc_needs(channels: usize, capacity: usize, sizes: &mut [usize; 5]) -> u32
+pub fn lc_needs(channels: usize, capacity: usize, sizes: &mut [usize; 5]) -> u32
     ensures { Out lent_numbers (plain (needed_for channels capacity)) result sizes.old sizes.new }
 {
     let answer = capture::needs(channels, capacity);
@@ -35,8 +34,7 @@ pub extern "C" fn lc_needs(channels: usize, capacity: usize, sizes: &mut [usize;
 }
 
 // 01's start of a store. Refuses with 1 and 2.
-#[unsafe(no_mangle)]
-pub extern "C" fn lc_start<'a>(
+pub fn lc_start<'a>(
     channels: usize,
     capacity: usize,
     samples: &[u8],
@@ -53,8 +51,7 @@ pub extern "C" fn lc_start<'a>(
 }
 
 // 01's append; the record's len is the new count. Refuses with 1, 2 and 8.
-#[unsafe(no_mangle)]
-pub extern "C" fn lc_append(
+pub fn lc_append(
     numbers: &mut [usize; 5],
     samples: &mut [u8],
     l1: &mut [Mask],
@@ -71,8 +68,7 @@ pub extern "C" fn lc_append(
 }
 
 // 01's Get(i). Refuses with 1, 2 and 9.
-#[unsafe(no_mangle)]
-pub extern "C" fn lc_get<'a>(
+pub fn lc_get<'a>(
     numbers: &[usize; 5],
     samples: &[u8],
     l1: &'a [Mask],
@@ -89,8 +85,7 @@ pub extern "C" fn lc_get<'a>(
 }
 
 // 01's Samples(start, count): the count copied. Refuses with 1, 2 and 11.
-#[unsafe(no_mangle)]
-pub extern "C" fn lc_samples<'a>(
+pub fn lc_samples<'a>(
     numbers: &[usize; 5],
     samples: &[u8],
     l1: &'a [Mask],
@@ -119,8 +114,7 @@ pub extern "C" fn lc_samples<'a>(
 }
 
 // 01's Raw(c): where the chunk's stored bytes lie in sample memory. It has no code.
-#[unsafe(no_mangle)]
-pub extern "C" fn lc_raw<'a>(
+pub fn lc_raw<'a>(
     numbers: &[usize; 5],
     samples: &[u8],
     l1: &'a [Mask],
@@ -139,8 +133,7 @@ pub extern "C" fn lc_raw<'a>(
 }
 
 // 01's whole: 0 where every node is right, 100 with the level and number of the first wrong one. Refuses with 1 and 2.
-#[unsafe(no_mangle)]
-pub extern "C" fn lc_whole<'a>(
+pub fn lc_whole<'a>(
     numbers: &[usize; 5],
     samples: &[u8],
     l1: &'a [Mask],
@@ -157,8 +150,7 @@ pub extern "C" fn lc_whole<'a>(
 }
 
 // 01's Summary(a, b): first, last and toggles, and the count of changes (02: CR 5), or 100 where the range is empty. Refuses with 1 and 2.
-#[unsafe(no_mangle)]
-pub extern "C" fn lc_summary<'a>(
+pub fn lc_summary<'a>(
     numbers: &[usize; 5],
     samples: &[u8],
     l1: &'a [Mask],
@@ -177,8 +169,7 @@ pub extern "C" fn lc_summary<'a>(
 }
 
 // The number of changes in [a, min(b, len)), 0 where that is empty (02: CR 5). Refuses with 1 and 2.
-#[unsafe(no_mangle)]
-pub extern "C" fn lc_density<'a>(
+pub fn lc_density<'a>(
     numbers: &[usize; 5],
     samples: &[u8],
     l1: &'a [Mask],
@@ -196,8 +187,7 @@ pub extern "C" fn lc_density<'a>(
 }
 
 // An encoder replayed from lines a and b: its position, and its steps forward, backward and skipped (02: CR 6). Refuses with 1, 2 and 14.
-#[unsafe(no_mangle)]
-pub extern "C" fn lc_encoder<'a>(
+pub fn lc_encoder<'a>(
     numbers: &[usize; 5],
     samples: &[u8],
     l1: &'a [Mask],
@@ -216,8 +206,7 @@ pub extern "C" fn lc_encoder<'a>(
 }
 
 // 01's Next: the place, or 100 where there is none, and the nodes read. Refuses with 1 and 2.
-#[unsafe(no_mangle)]
-pub extern "C" fn lc_next_change<'a>(
+pub fn lc_next_change<'a>(
     numbers: &[usize; 5],
     samples: &[u8],
     l1: &'a [Mask],
@@ -236,8 +225,7 @@ pub extern "C" fn lc_next_change<'a>(
 }
 
 // 01's Previous: the place, or 100 where there is none, and the nodes read. Refuses with 1 and 2.
-#[unsafe(no_mangle)]
-pub extern "C" fn lc_prev_change<'a>(
+pub fn lc_prev_change<'a>(
     numbers: &[usize; 5],
     samples: &[u8],
     l1: &'a [Mask],
@@ -256,8 +244,7 @@ pub extern "C" fn lc_prev_change<'a>(
 }
 
 // 01's burst_at: first, last, the jumps at the end and at the start, or 100 where there is none, and the nodes that its searches read. Refuses with 1 and 2.
-#[unsafe(no_mangle)]
-pub extern "C" fn lc_burst_at<'a>(
+pub fn lc_burst_at<'a>(
     numbers: &[usize; 5],
     samples: &[u8],
     l1: &'a [Mask],
@@ -291,8 +278,7 @@ pub extern "C" fn lc_burst_at<'a>(
 }
 
 // 01's render: width pixels, two numbers each, at the start of output. Refuses with 1, 2, 10 and 11.
-#[unsafe(no_mangle)]
-pub extern "C" fn lc_render<'a>(
+pub fn lc_render<'a>(
     numbers: &[usize; 5],
     samples: &[u8],
     l1: &'a [Mask],

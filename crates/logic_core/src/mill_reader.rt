@@ -15,8 +15,7 @@ use lines::Mask;
 use pixel::View;
 
 // The places that the run has, from first on and below end, and whether place 0 is a mark. Refuses with 1 and 2.
-#[unsafe(no_mangle)]
-pub extern "C" fn lc_mill_extent<'a>(
+pub fn lc_mill_extent<'a>(
     numbers: &[usize; 5],
     samples: &[u8],
     l1: &'a [Mask],
@@ -34,8 +33,7 @@ pub extern "C" fn lc_mill_extent<'a>(
 }
 
 // 01's Get. Refuses with 1, 2, 13 and 9.
-#[unsafe(no_mangle)]
-pub extern "C" fn lc_mill_get<'a>(
+pub fn lc_mill_get<'a>(
     numbers: &[usize; 5],
     samples: &[u8],
     l1: &'a [Mask],
@@ -53,8 +51,7 @@ pub extern "C" fn lc_mill_get<'a>(
 }
 
 // 01's Samples: the count copied. Refuses with 1, 2, 13 and 11.
-#[unsafe(no_mangle)]
-pub extern "C" fn lc_mill_samples<'a>(
+pub fn lc_mill_samples<'a>(
     numbers: &[usize; 5],
     samples: &[u8],
     l1: &'a [Mask],
@@ -85,8 +82,7 @@ pub extern "C" fn lc_mill_samples<'a>(
 }
 
 // 01's Summary: first, last and toggles, or 100 where the range is empty. Refuses with 1, 2 and 13.
-#[unsafe(no_mangle)]
-pub extern "C" fn lc_mill_summary<'a>(
+pub fn lc_mill_summary<'a>(
     numbers: &[usize; 5],
     samples: &[u8],
     l1: &'a [Mask],
@@ -105,8 +101,7 @@ pub extern "C" fn lc_mill_summary<'a>(
 }
 
 // 01's Next: the place, or 100 where there is none. Refuses with 1, 2, 12 and 13.
-#[unsafe(no_mangle)]
-pub extern "C" fn lc_mill_next_change<'a>(
+pub fn lc_mill_next_change<'a>(
     numbers: &[usize; 5],
     samples: &[u8],
     l1: &'a [Mask],
@@ -136,8 +131,7 @@ pub extern "C" fn lc_mill_next_change<'a>(
 }
 
 // 01's Previous: the place, or 100 where there is none. Refuses with 1, 2, 12 and 13.
-#[unsafe(no_mangle)]
-pub extern "C" fn lc_mill_prev_change<'a>(
+pub fn lc_mill_prev_change<'a>(
     numbers: &[usize; 5],
     samples: &[u8],
     l1: &'a [Mask],
@@ -167,8 +161,7 @@ pub extern "C" fn lc_mill_prev_change<'a>(
 }
 
 // 01's burst_at: first, last, and the jumps at the end and at the start, or 100 where there is none. Refuses with 1, 2, 12 and 13.
-#[unsafe(no_mangle)]
-pub extern "C" fn lc_mill_burst_at<'a>(
+pub fn lc_mill_burst_at<'a>(
     numbers: &[usize; 5],
     samples: &[u8],
     l1: &'a [Mask],
@@ -206,8 +199,7 @@ pub extern "C" fn lc_mill_burst_at<'a>(
 }
 
 // An encoder replayed from lines a and b, as the service's (02: CR 6). Refuses with 1, 2, 14 and 12.
-#[unsafe(no_mangle)]
-pub extern "C" fn lc_mill_encoder<'a>(
+pub fn lc_mill_encoder<'a>(
     numbers: &[usize; 5],
     samples: &[u8],
     l1: &'a [Mask],
@@ -227,8 +219,7 @@ pub extern "C" fn lc_mill_encoder<'a>(
 }
 
 // 01's render; start is a place as the mill counts. Refuses with 1, 2, 10 and 11.
-#[unsafe(no_mangle)]
-pub extern "C" fn lc_mill_render<'a>(
+pub fn lc_mill_render<'a>(
     numbers: &[usize; 5],
     samples: &[u8],
     l1: &'a [Mask],

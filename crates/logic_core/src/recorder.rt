@@ -9,8 +9,7 @@ ghost use Rattle.logic_core.specs.Recorder.{begun_for, PushesOut};
 use lines::Mask;
 
 // 01's start of a recorder. Terms are two bytes each. Refuses with 1 to 7.
-#[unsafe(no_mangle)]
-pub extern "C" fn lc_feeder_start<'a>(
+pub fn lc_feeder_start<'a>(
     channels: usize,
     capacity: usize,
     limit: usize,
@@ -47,8 +46,7 @@ pub extern "C" fn lc_feeder_start<'a>(
 }
 
 // 01's push: 0 while it goes on, 100 once it is complete. Refuses with 1, 2 and 8.
-#[unsafe(no_mangle)]
-pub extern "C" fn lc_push(
+pub fn lc_push(
     numbers: &mut [usize; 17],
     samples: &mut [u8],
     l1: &mut [Mask],

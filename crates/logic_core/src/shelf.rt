@@ -11,8 +11,7 @@ use codes::{capture_in, started_code};
 use lines::Mask;
 
 // How long a capture's file is, in bytes. Refuses with 1.
-#[unsafe(no_mangle)]
-pub extern "C" fn lc_file_len(numbers: &[usize; 5], len: &mut usize) -> u32
+pub fn lc_file_len(numbers: &[usize; 5], len: &mut usize) -> u32
     ensures { Out number (plain (length_answer (store_of (capture_in numbers.now)))) result len.old len.new }
 {
     let answer = shelf_head::file_len(capture_in(numbers));
@@ -21,8 +20,7 @@ pub extern "C" fn lc_file_len(numbers: &[usize; 5], len: &mut usize) -> u32
 
 // What block 0 of a file says: unit, len, whether there is a mark, the mark (0 if none). Looks at the first 512 bytes.
 // Refuses with 16 where no capture's file begins with them, or there are fewer.
-#[unsafe(no_mangle)]
-pub extern "C" fn lc_file_says(file: &[u8], said: &mut [usize; 4]) -> u32
+pub fn lc_file_says(file: &[u8], said: &mut [usize; 4]) -> u32
     ensures { Out said_numbers (plain (says_answer file.now)) result said.old said.new }
 {
     let answer = shelf_head::file_says(file);
@@ -30,8 +28,7 @@ pub extern "C" fn lc_file_says(file: &[u8], said: &mut [usize; 4]) -> u32
 }
 
 // The file of a capture, at the start of output (the rest of output is as it was); its length. Refuses with 1, 2 and 15.
-#[unsafe(no_mangle)]
-pub extern "C" fn lc_write<'a>(
+pub fn lc_write<'a>(
     numbers: &[usize; 5],
     samples: &[u8],
     l1: &'a [Mask],
@@ -49,8 +46,7 @@ pub extern "C" fn lc_write<'a>(
 
 // A capture from its file, into a new store of a capacity: its record; levels are built afresh. Refuses with 1 (the
 // capacity), 16 and 15.
-#[unsafe(no_mangle)]
-pub extern "C" fn lc_read(
+pub fn lc_read(
     capacity: usize,
     file: &[u8],
     samples: &mut [u8],
@@ -68,8 +64,7 @@ pub extern "C" fn lc_read(
 
 // A capture from a file with bad blocks, into a new store of a capacity (02: CR 8): its record, the unknown stretches, and
 // how many there are and how many samples were replaced; levels are built afresh. Refuses with 1 (the capacity), 17 and 15.
-#[unsafe(no_mangle)]
-pub extern "C" fn lc_salvage(
+pub fn lc_salvage(
     capacity: usize,
     file: &[u8],
     samples: &mut [u8],

@@ -10,8 +10,7 @@ use codes::capture_in;
 use lines::Mask;
 
 // The next certain change after a place, or 100 where there is none. Refuses with 1, 2 and 18.
-#[unsafe(no_mangle)]
-pub extern "C" fn lc_next_certain<'a>(
+pub fn lc_next_certain<'a>(
     numbers: &[usize; 5],
     samples: &[u8],
     l1: &'a [Mask],
@@ -40,8 +39,7 @@ pub extern "C" fn lc_next_certain<'a>(
 }
 
 // The last certain change up to a place, or 100 where there is none. Refuses with 1, 2 and 18.
-#[unsafe(no_mangle)]
-pub extern "C" fn lc_prev_certain<'a>(
+pub fn lc_prev_certain<'a>(
     numbers: &[usize; 5],
     samples: &[u8],
     l1: &'a [Mask],
@@ -70,8 +68,7 @@ pub extern "C" fn lc_prev_certain<'a>(
 }
 
 // The next possible change after a place, or 100 where there is none. Refuses with 1, 2 and 18.
-#[unsafe(no_mangle)]
-pub extern "C" fn lc_next_possible<'a>(
+pub fn lc_next_possible<'a>(
     numbers: &[usize; 5],
     samples: &[u8],
     l1: &'a [Mask],
@@ -100,8 +97,7 @@ pub extern "C" fn lc_next_possible<'a>(
 }
 
 // The last possible change up to a place, or 100 where there is none. Refuses with 1, 2 and 18.
-#[unsafe(no_mangle)]
-pub extern "C" fn lc_prev_possible<'a>(
+pub fn lc_prev_possible<'a>(
     numbers: &[usize; 5],
     samples: &[u8],
     l1: &'a [Mask],

@@ -1,4 +1,4 @@
-//! Makes the declarations of logic_core's exports, for C and for Rust, from the crate's own source, and names for the numbers
+//! Makes the declarations of logic_core_c's exports, for C and for Rust, from the crate's own source, and names for the numbers
 //! of records and behind out pointers from the constants by which the crates read and write them.
 //!
 //! What crosses: a number by value; `&[T]` as a pointer to const and a length, `&mut [T]` as a pointer and a length;
@@ -22,10 +22,10 @@ use difference::Item;
 use export::Export;
 use names::Names;
 use std::fs;
-use std::path::Path;
+use std::path::{Path, PathBuf};
 
 /// The crate whose functions the archive shows.
-const SOURCE: &str = "crates/logic_core/src";
+const SOURCE: &str = "crates/logic_core_c/src";
 const CRATES: &str = "crates";
 /// The files whose constants name numbers.
 const NAMES: [&str; 3] = [
@@ -47,7 +47,7 @@ pub struct Declarations {
 impl Declarations {
     /// Reads them from the repository. Err has a line for each thing that cannot be read.
     pub fn read(repository: &Path) -> Result<Declarations, Vec<String>> {
-        let exports = exports(&files(repository, SOURCE)?, &files(repository, CRATES)?)?;
+        let exports = exports(&files(repository, SOURCE)?, &sources(repository)?)?;
         let naming: Result<Vec<_>, _> = NAMES.iter().map(|name| file(repository, name)).collect();
         let names = names(&naming.map_err(|line| vec![line])?)?;
         let text = |name: &str| fs::read_to_string(repository.join(name)).unwrap_or_default();
@@ -107,22 +107,37 @@ fn file(repository: &Path, name: &str) -> Result<File, String> {
     Ok(File { name: name.into(), text })
 }
 
-/// The files of Rattle in a folder and the folders in it, in the order of their names.
-fn files(repository: &Path, folder: &str) -> Result<Vec<File>, Vec<String>> {
+/// What stands in a folder, by its name from the repository's root, in the order of the names.
+fn entries(repository: &Path, folder: &str) -> Result<Vec<(String, PathBuf)>, Vec<String>> {
     let failed = |error| vec![format!("{folder}: {error}")];
-    let mut names = Vec::new();
+    let mut found = Vec::new();
     for entry in fs::read_dir(repository.join(folder)).map_err(failed)? {
         let entry = entry.map_err(failed)?;
-        names.push((format!("{folder}/{}", entry.file_name().to_string_lossy()), entry.path()));
+        found.push((format!("{folder}/{}", entry.file_name().to_string_lossy()), entry.path()));
     }
-    names.sort();
+    found.sort();
+    Ok(found)
+}
+
+/// The files of Rattle in a folder and the folders in it, in the order of their names.
+fn files(repository: &Path, folder: &str) -> Result<Vec<File>, Vec<String>> {
     let mut found = Vec::new();
-    for (name, path) in names {
+    for (name, path) in entries(repository, folder)? {
         if path.is_dir() {
             found.extend(files(repository, &name)?);
         } else if name.ends_with(".rt") {
-            let text = fs::read_to_string(&path).map_err(failed)?;
-            found.push(File { name, text });
+            found.push(file(repository, &name).map_err(|line| vec![line])?);
+        }
+    }
+    Ok(found)
+}
+
+/// The source of all crates. What `rt` keeps beside it in out/ has files of Rattle too, and may be older.
+fn sources(repository: &Path) -> Result<Vec<File>, Vec<String>> {
+    let mut found = Vec::new();
+    for (name, path) in entries(repository, CRATES)? {
+        if path.join("src").is_dir() {
+            found.extend(files(repository, &format!("{name}/src"))?);
         }
     }
     Ok(found)

@@ -1,4 +1,4 @@
-//! Reads the exports of a crate: its functions that are marked `#[no_mangle] pub extern "C"`.
+//! Reads the exports of a crate: its functions that are marked `#[unsafe(no_mangle)] pub extern "C"`.
 
 use crate::export::{Export, Kind, Number, Parameter};
 use crate::{lines, File};
@@ -277,7 +277,8 @@ mod tests {
     }
 
     fn one(parameters: &str) -> Result<Vec<(Kind, &'static str)>, Vec<String>> {
-        let text = format!("#[no_mangle]\npub extern \"C\" fn lc_x{parameters} -> u32 {{ 0 }}");
+        let text =
+            format!("#[unsafe(no_mangle)]\npub extern \"C\" fn lc_x{parameters} -> u32 {{ 0 }}");
         let mut exports = read(&text)?;
         let export = exports.pop().unwrap();
         Ok(export.parameters.iter().map(|parameter| (parameter.kind, parameter.of.rust)).collect())
@@ -315,11 +316,11 @@ mod tests {
 
     #[test]
     fn only_what_is_marked_is_exported() {
-        let plain = "pub extern \"C\" fn lc_a() {}\n#[no_mangle]\npub extern \"C\" fn lc_b() {}\n// #[no_mangle]\n";
+        let plain = "pub extern \"C\" fn lc_a() {}\n#[unsafe(no_mangle)]\npub extern \"C\" fn lc_b() {}\n// #[unsafe(no_mangle)]\n";
         let exports = read(plain).unwrap();
         assert_eq!(exports.len(), 1);
         assert_eq!((&exports[0].name[..], exports[0].result), ("lc_b", None));
-        let odd = "#[no_mangle]\npub extern fn lc_c() {}";
+        let odd = "#[unsafe(no_mangle)]\npub extern fn lc_c() {}";
         assert_eq!(
             read(odd),
             Err(vec!["x.rt: 1 functions are marked no_mangle, 0 were read".into()])

@@ -4,7 +4,7 @@ use declare::{exports, names, Declarations, File};
 
 const SOURCE: &str = r#"
 // A question and a push.
-#[no_mangle]
+#[unsafe(no_mangle)]
 pub extern "C" fn lc_get<'a>(
     numbers: &[usize; 5],
     samples: &[u8],
@@ -15,12 +15,12 @@ pub extern "C" fn lc_get<'a>(
     i: usize,
     value: &mut Mask,
 ) -> u32
-    ensures { λ r. ⌜ r ≡ 0 ⌝ }
+    ensures { result ≡ 0 }
 {
     codes::got_code(capture::get(capture_in(numbers), samples, l1, l2, l3, l4, i), value)
 }
 
-#[no_mangle]
+#[unsafe(no_mangle)]
 pub extern "C" fn lc_push(numbers: &mut [usize; 17], samples: &mut [u8], l1: &mut [Mask], l2: &mut [Mask], l3: &mut [Mask], l4: &mut [Mask], bytes: &[u8])
 {
 }
@@ -290,8 +290,9 @@ fn names_that_cannot_be_told_apart_or_read_are_said() {
 
 #[test]
 fn people_say_where_a_new_export_stands() {
-    let more =
-        format!("{SOURCE}\n#[no_mangle]\npub extern \"C\" fn lc_new(x: &f64) -> i64 {{ 0 }}\n");
+    let more = format!(
+        "{SOURCE}\n#[unsafe(no_mangle)]\npub extern \"C\" fn lc_new(x: &f64) -> i64 {{ 0 }}\n"
+    );
     let Err(lines) = made(&more, HEADER) else { panic!("it stands nowhere") };
     assert_eq!(lines, ["include/logic_core.h: lc_new is missing; it.rt:25 makes it"]);
     let placed = planted(HEADER, "/* Pushes. */", "/* New. */\nvoid lc_new();\n\n/* Pushes. */");

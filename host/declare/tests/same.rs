@@ -37,8 +37,7 @@ fn index(archive: &[u8]) -> Vec<String> {
 fn the_archive_has_the_exports() {
     let named = env::var("LOGIC_CORE_LIB").ok().filter(|name| !name.is_empty());
     let folder = repository().join(named.unwrap_or("target/staticlib".into()));
-    let archive =
-        fs::read(folder.join("liblogic_core.a")).expect("rt staticlib logic_core makes it");
+    let archive = fs::read(folder.join("liblogic_core.a")).expect("tools/staticlib makes it");
     let index = index(&archive);
     let has: BTreeSet<_> = index.into_iter().filter(|name| name.starts_with("lc_")).collect();
     let exports: BTreeSet<_> = read().exports.into_iter().map(|export| export.name).collect();
