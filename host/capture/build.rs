@@ -13,7 +13,7 @@ fn main() {
     let archive = folder.join("liblogic_core.a");
     println!("cargo::rerun-if-changed={}", archive.display());
     if !archive.is_file() {
-        println!("cargo::error=no {named}/liblogic_core.a: make it with `rt staticlib logic_core`");
+        println!("cargo::error=no {named}/liblogic_core.a: make it with `tools/staticlib`");
         return;
     }
     println!("cargo::rustc-link-search=native={}", folder.display());

@@ -27,7 +27,7 @@ const MANY: usize = 1_000;
 
 pub fn run(seconds: u64, seed: u64) -> bool {
     if !port::LINKED {
-        println!("no port: `rt staticlib logic_core` makes target/staticlib/liblogic_core.a");
+        println!("no port: `tools/staticlib` makes target/staticlib/liblogic_core.a");
         return false;
     }
     let recorded = GROUPS.iter().map(|group| replay(group.name)).fold(true, |all, good| all & good);
