@@ -5,28 +5,30 @@ mod answers;
 
 use examples_store::Stored;
 use feeder::{Feeder, Pretrigger};
+use std::io;
 use terms::Condition;
 
 // Answers a case.
-fn say(number: u64, holds: bool) {
-    io::print_decimal(1, number);
-    if holds {
-        io::write_all(1, b" 1\n");
-        return;
-    }
-    io::write_all(1, b" 0\n");
+fn say(rt: &impl Print, number: u64, holds: bool) -> io::Result<()> {
+    let answer = u8::from(holds);
+    println!(rt; "{number} {answer}")
 }
 
 // 1 to 5: searches of A.
-fn searches(a: Stored) {
-    say(1, answers::found_at(examples_store::next(a, 0), 2));
-    say(2, answers::found_nothing(examples_store::next(a, 7)));
+fn searches(rt: &impl Print, a: Stored) -> io::Result<()> {
+    say(rt, 1, answers::found_at(examples_store::next(a, 0), 2))?;
+    say(rt, 2, answers::found_nothing(examples_store::next(a, 7)))?;
     say(
+        rt,
         3,
         answers::found_nothing(examples_store::next(a, 18446744073709551615)),
-    );
-    say(4, answers::found_at(examples_store::previous(a, 6), 4));
-    say(5, answers::found_at(examples_store::previous(a, 100), 7));
+    )?;
+    say(rt, 4, answers::found_at(examples_store::previous(a, 6), 4))?;
+    say(
+        rt,
+        5,
+        answers::found_at(examples_store::previous(a, 100), 7),
+    )
 }
 
 // 6: summary(0, 8) of A is 0, 3, 3 and the count 4 (02: CR 5), which is its density too.
@@ -38,33 +40,38 @@ fn summary_is_right(a: Stored) -> bool {
 }
 
 // 6 to 10: summaries of A, bursts of A and B.
-fn summaries(a: Stored, b: Stored) {
-    say(6, summary_is_right(a));
-    say(7, answers::no_node(examples_store::summary(a, 4, 4)));
+fn summaries(rt: &impl Print, a: Stored, b: Stored) -> io::Result<()> {
+    say(rt, 6, summary_is_right(a))?;
+    say(rt, 7, answers::no_node(examples_store::summary(a, 4, 4)))?;
     say(
+        rt,
         8,
         answers::burst_is(examples_store::burst(a, 3, 4, 0, 1), 2, 7, 1, 0),
-    );
+    )?;
     say(
+        rt,
         9,
         answers::burst_is(examples_store::burst(a, 3, 3, 0, 1), 2, 4, 0, 0),
-    );
+    )?;
     say(
+        rt,
         10,
         answers::burst_is(examples_store::burst(b, 5, 4, 3, 9), 1, 2, 0, 0),
-    );
+    )
 }
 
 // 11, 12: rows of A. The output past what is drawn stays 9.
-fn pixels(a: Stored) {
+fn pixels(rt: &impl Print, a: Stored) -> io::Result<()> {
     say(
+        rt,
         11,
         answers::four_are(examples_store::render(a, 0.0, 4.0, 2), 0, 1, 0, 3),
-    );
+    )?;
     say(
+        rt,
         12,
         answers::four_are(examples_store::render(a, 1.5, 0.5, 1), 0, 1, 9, 9),
-    );
+    )
 }
 
 // 13: 0 0 and 0 1 1 make the run 0 0 1 1, with mark 2.
@@ -120,14 +127,14 @@ fn get_is_right(a: Stored) -> bool {
     false
 }
 
-fn main() {
+fn main(rt: HostRuntime) -> io::Result<()> {
     let a = examples_store::holding(b"\x00\x00\x01\x01\x00\x02\x02\x03");
     let b = examples_store::holding(b"\x00\x01\x00\x00\x00\x00\x00\x00\x01\x00");
-    searches(a);
-    summaries(a, b);
-    pixels(a);
-    say(13, run_is_right());
-    say(14, first_sample_is_right());
-    say(15, seconds_are_right());
-    say(16, get_is_right(a));
+    searches(&rt, a)?;
+    summaries(&rt, a, b)?;
+    pixels(&rt, a)?;
+    say(&rt, 13, run_is_right())?;
+    say(&rt, 14, first_sample_is_right())?;
+    say(&rt, 15, seconds_are_right())?;
+    say(&rt, 16, get_is_right(a))
 }

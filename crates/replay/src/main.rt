@@ -3,63 +3,60 @@
 // and one line more for the first that did.
 #![tactic(auto)]
 
-use number::lesser;
+ghost use Rattle.std.specs.Prelude.{◌≡◌, ◌≢◌, ◌++◌, List, ℕ, IfOk, IfSome, take, codes, vec_len};
+
 use replay_list::state::State;
 use replay_list::{
     File, Level1, Level2, Level3, Level4, Output, Piece, Ring, Samples, replay_list,
 };
+use std::alloc::Allocator;
+use std::io::Read;
+use std::rt::{Env, Files};
+use std::{env, fs, io};
 
-fn write(bytes: &[u8]) {
-    io::write_all(1, bytes);
+// How many bytes of a list are read at most.
+const TEXT_LIMIT: u64 = 131072;
+
+// The name of a list is its path without ".txt".
+fn name_of(path: &str) -> &str
+    ensures cut { (name : List ℕ) → path.now ≡ name ++ codes ".txt" → result.now ≡ name }
+    ensures whole { ((name : List ℕ) → path.now ≢ name ++ codes ".txt") → result.now ≡ path.now }
+{
+    path.strip_suffix(".txt").unwrap_or(path)
 }
 
-fn write_number(n: usize) {
-    io::print_decimal(1, n as u64);
-}
-
-// The name of a list is its path, of n bytes, without ".txt".
-fn write_name(path: &[u8], n: usize) {
-    let k = lesser(n, path.len());
-    let e = k - lesser(k, 4);
-    write(&path[0..e]);
-}
-
-fn report(path: &[u8], n: usize, s: State) {
-    write_name(path, n);
-    write(b" ");
-    write_number(s.compared);
-    write(b" ");
-    write_number(s.different);
-    write(b"\n");
+fn report(rt: &impl Print, path: &str, s: State) -> io::Result<()> {
+    let name = name_of(path);
+    println!(rt; "{name} {} {}", s.compared, s.different)?;
     if s.different == 0 {
-        return;
+        return Ok(());
     }
-    write_name(path, n);
-    write(b" differs first in line ");
-    write_number(s.first);
-    write(b"\n");
+    println!(rt; "{name} differs first in line {}", s.first)
 }
 
-// Reads the list at a path of n bytes; how many bytes it has. A newline follows them, so that the last line ends there.
-fn read(path: &[u8], n: usize, text: &mut [u8]) -> usize {
-    let e = lesser(n, path.len());
-    let fd = os::open_read(&path[0..e]);
-    if fd < 0 {
-        os::fail(&path[0..e]);
-        return 0;
+// The first bytes of a list, as many as are read of it. They are all of its text: the last line ends where they end.
+fn text_of<A: Allocator, F: Read + Drop>(alloc: A, file: F) -> io::Result<Vec<u8, A>>
+    ensures { IfOk result (λ text. IfSome (F.remaining file) (λ bytes. text.items ≡ take 131072 bytes)) }
+{
+    let mut text = Vec::new(alloc);
+    file.take(TEXT_LIMIT).read_to_end(&mut text)?;
+    Ok(text)
+}
+
+// The list at a path. One that cannot be opened is reported, and has no lines.
+fn read<R: Files + Alloc + Eprint>(rt: &R, path: &str) -> io::Result<Vec<u8, R::A>> {
+    match fs::open(rt, path) {
+        Ok(file) => text_of(rt.alloc(), file),
+        Err(e) => {
+            eprintln!(rt; "{path}: {e}")?;
+            Ok(Vec::new(rt.alloc()))
+        }
     }
-    let count = io::read_full(fd, text);
-    libc::close(fd);
-    if count < text.len() {
-        text[count] = 10;
-    }
-    count
 }
 
 // The lists that the arguments name, one after the other. Each begins with zeros where files stand.
-fn lists(
-    path: &mut [u8; 256],
-    text: &mut [u8; 131072],
+fn lists<R: Files + Env + Alloc + Print + Eprint>(
+    rt: &R,
     samples: &mut Samples,
     l1: &mut Level1,
     l2: &mut Level2,
@@ -68,42 +65,55 @@ fn lists(
     ring: &mut Ring,
     output: &mut Output,
     piece: &mut Piece,
-) {
-    let count = os::arg_count();
-    let mut i = 1;
-    while i < count {
-        let n = os::arg(i, path);
-        let bytes = read(path, n, text);
+) -> io::Result<()> {
+    for path in env::args(rt)?.skip(1) {
+        let text = read(rt, &path)?;
         let mut file: File = [0; 65536];
         let s = replay_list(
-            text, bytes, samples, l1, l2, l3, l4, ring, output, piece, &mut file,
+            &text,
+            text.len(),
+            samples,
+            l1,
+            l2,
+            l3,
+            l4,
+            ring,
+            output,
+            piece,
+            &mut file,
         );
-        report(path, n, s);
-        i += 1;
+        report(rt, &path, s)?;
     }
+    Ok(())
 }
 
-fn main() {
-    let mut text = [0u8; 131072];
-    let mut samples: Samples = [0; 4194304];
-    let mut l1: Level1 = [0; 655360];
-    let mut l2: Level2 = [0; 20480];
-    let mut l3: Level3 = [0; 640];
-    let mut l4: Level4 = [0; 20];
-    let mut ring: Ring = [0; 524288];
-    let mut output: Output = [0; 131074];
-    let mut piece: Piece = [0; 65536];
-    let mut path = [0u8; 256];
+// The array that a Vec as long holds.
+fn array<T, const N: usize>(numbers: &mut Vec<T>) -> &mut [T; N]
+    requires { vec_len numbers.old ≡ N }
+    ensures { result.now ≡ numbers.old.items }
+{
+    numbers.as_mut_array().unwrap()
+}
+
+// What is lent is too large for the stack.
+fn main(rt: HostRuntime) -> io::Result<()> {
+    let mut samples = vec![in rt.alloc(); 0; 4194304]?;
+    let mut l1 = vec![in rt.alloc(); 0; 655360]?;
+    let mut l2 = vec![in rt.alloc(); 0; 20480]?;
+    let mut l3 = vec![in rt.alloc(); 0; 640]?;
+    let mut l4 = vec![in rt.alloc(); 0; 20]?;
+    let mut ring = vec![in rt.alloc(); 0; 524288]?;
+    let mut output = vec![in rt.alloc(); 0; 131074]?;
+    let mut piece = vec![in rt.alloc(); 0; 65536]?;
     lists(
-        &mut path,
-        &mut text,
-        &mut samples,
-        &mut l1,
-        &mut l2,
-        &mut l3,
-        &mut l4,
-        &mut ring,
-        &mut output,
-        &mut piece,
-    );
+        &rt,
+        array(&mut samples),
+        array(&mut l1),
+        array(&mut l2),
+        array(&mut l3),
+        array(&mut l4),
+        array(&mut ring),
+        array(&mut output),
+        array(&mut piece),
+    )
 }
