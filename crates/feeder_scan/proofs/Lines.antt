@@ -9,7 +9,6 @@ use native.Mathlib.Omega.{arith}
 use lib.Bits.{bit_and, bit_or, bit_xor, differ, and_zero_l, and_zero_r, or_zero_r, xor_zero_l, xor_self}
 use lib.Dec.{eqb}
 use borrow.Author.Tests.{eq-eqb, ne_eqb}
-use Rattle.rules.specs.Sample.{line}
 use Rattle.rules.specs.Trigger as rule
 use Rattle.rules.proofs.Bits.{line_lt, two_cases, lines_ext, line_and, line_or, line_xor, or_zero_right, or-sort}
 use Rattle.terms.specs.declared.Masks.{Masks}

@@ -1,5 +1,5 @@
 -- A mill's call in front of a service's: where the mill's rows pass, so do the service's rows 1 and 2, and the service's answer, shown to the mill, is the mill's.
-use Prim.Native.Nat.{ℕ, zero, suc, ◌≤◌}
+use Prim.Native.Nat.{ℕ, ◌≤◌}
 use mathlib.Core.Path.{◌≡◌, refl, sym, ap, ◌∙◌}
 use mathlib.Core.Bool.{Bool, true, false, cond}
 use mathlib.Core.List.{List, [], ◌++◌}

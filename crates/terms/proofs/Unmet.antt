@@ -1,11 +1,11 @@
 -- The lines that fail a term, gathered by OR, are none exactly when every term holds.
-use Prim.Native.Nat.{ℕ, zero, suc, ◌<◌}
+use Prim.Native.Nat.{ℕ, ◌<◌}
 use mathlib.Core.Path.{◌≡◌, refl, sym, ap, ap₂, ◌∙◌}
-use mathlib.Core.Bool.{Bool, true, false, ◌&&◌}
+use mathlib.Core.Bool.{Bool, ◌&&◌}
 use native.Mathlib.Decide.{ℕ_discrete}
 use lib.Bits.{bit_and, bit_or, bit_xor, differ, xor_self}
 use lib.Dec.{eqb}
-use borrow.Author.Tests.{eqb-true, eq-eqb, ne_eqb}
+use borrow.Author.Tests.{eq-eqb, ne_eqb}
 use Rattle.rules.specs.Sample.{line}
 use Rattle.rules.specs.Trigger.{Masks, matches}
 use Rattle.rules.proofs.Bits.{line_lt, two_cases, line_xor, lines_ext, or_zero, or_zero_left, or_zero_right}

@@ -1,5 +1,5 @@
 -- The code's terms and masks as 01's, and what a list of terms comes to, term by term.
-use Rattle.std.specs.Prelude.{Bool, true, false, cond, ◌||◌, List, [], ◌∷◌, map, ℕ, ◌^◌, ltb}
+use Rattle.std.specs.Prelude.{true, false, cond, ◌||◌, List, [], ◌∷◌, ℕ, ◌^◌, ltb}
 use Rattle.std.proofs.Math.Option.{Option, none, some}
 use Rattle.std.specs.Int.Bits.{bit_or}
 use Rattle.rules.specs.Refusal.{top_line}

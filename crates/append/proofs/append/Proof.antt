@@ -18,7 +18,7 @@ start_at p = p.before.before.before.before.before.before
 -- the start from the first test's call, and the levels then
 module _ (f : tie.After-refusal-wrong) where
   abbrev s : tie.Start
-  s = start_at f.before.before.before.before.before.before
+  s = start_at f.before
 
   abbrev levels : ℕ → List ℕ
   levels = level_of s.args.l1.now s.args.l2.now s.args.l3.now s.args.l4.now
@@ -82,14 +82,14 @@ returns-2 c =
 
 append-samples-requires : tie.Need-append_samples-requires
 append-samples-requires c κs =
-    let e = c.before.before in
+    let e = c.before.before.before.before.before.before.before in
     let a = (s e.before).args in
     room_of a.c a.bytes.now a.samples.now (levels e.before) (bounds e) (omega (arith, c.if-c-len.false, (bounds e).len_most))
 
 add-t24 : tie.Need-overflow_add-result
 add-t24 c =
-    let d = bounds c.before.before in
-    omega (arith, c.if-c-len.left, d.len_most, d.capacity_most)
+    let d = bounds c.before.before.before.before.before.before.before.before.before.before.before.before.before.before.before.before.before.before in
+    omega (arith, c.if-c-len.false, d.len_most, d.capacity_most)
 
 same-length-11 : tie.Need-shape_of-samples
 same-length-11 c = search rules
@@ -108,10 +108,10 @@ same-length-15 c = search rules
 
 returns-3 : tie.Need-returns
 returns-3 c =
-    let e = c.before.before in
-    let f = e.before in
+    let e = c.before.before.before.before.before.before.before.before.before.before.before.before.before.before.before.before.before.before in
+    let f = e.before.before.before.before.before.before.before.before.before.before.before.before.before.before in
     let a = (s f).args in
-    appends_done a.c a.bytes.now a.samples.now (levels f) (refused_none a.c a.bytes.now a.samples.now (levels f) f.refusal-wrong.ensures e.if-wrong-ne0.left (omega (arith, c.if-c-len.left, (bounds e).len_most))) _ _ c.append_samples.ensures
+    appends_done a.c a.bytes.now a.samples.now (levels f) (refused_none a.c a.bytes.now a.samples.now (levels f) f.refusal-wrong.ensures e.if-wrong-ne0.false (omega (arith, c.if-c-len.false, (bounds e).len_most))) _ _ c.append_samples.ensures
 
 pub append_spec : {M : Type 1} → statement M
 append_spec =

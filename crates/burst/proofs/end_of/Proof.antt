@@ -51,7 +51,7 @@ add_read c =
     omega (
       arith,
       jumping_read f.loop-jumps.invariant f.loop-jumps-test.true (reached f),
-      end_read a.unitsize a.len a.samples.now (level_of a.l1.now a.l2.now a.l3.now a.l4.now) a.mask f.pre.0.most a.gap a.start a.budget a.from,
+      end_read a.unitsize a.len a.samples.now (level_of a.l1.now a.l2.now a.l3.now a.l4.now) a.mask f.requires.0.most a.gap a.start a.budget a.from,
     )
 
 enum-known-change : tie.Need-enum_known-change invariant-loop decreases-loop

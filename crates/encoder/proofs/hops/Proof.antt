@@ -50,7 +50,7 @@ loop-holds c = (search rules, search rules, left_starts _ _ _ _ _ _)
 resume-requires : tie.Need-resume-i-requires invariant-loop decreases-loop
 resume-requires c κs =
     let s = start_at c.before in
-    (s.pre.0, omega (arith, c.loop-p.invariant.1), c.loop-p-test.true)
+    (s.requires.0, omega (arith, c.loop-p.invariant.1), c.loop-p-test.true)
 
 stretch-end-requires : tie.Need-stretch_end-end-requires invariant-loop decreases-loop
 stretch-end-requires c κs = (c.resume-i.ensures.low, c.resume-i.ensures.high, (start_at c.before.before).requires.0.most)
@@ -68,9 +68,9 @@ sub-scan-2 c = (stretch_ends c).least
 scan-requires : tie.Need-scan-t-requires invariant-loop decreases-loop
 scan-requires c κs =
     let s = start_at c.before.before.before in
-    let bytes = s.pre.0.bytes in
+    let bytes = s.requires.0.bytes in
     let e = stretch_ends c in
-    (bytes.unit_size, e.few, omega (arith, bytes.room, mul-le-mul_right s.args.unitsize (read c.loop-p.invariant.1 c.resume-i.ensures.low e.least e.most)), s.pre.1, s.pre.2)
+    (bytes.unit_size, e.few, omega (arith, bytes.room, mul-le-mul_right s.args.unitsize (read c.loop-p.invariant.1 c.resume-i.ensures.low e.least e.most)), s.requires.1, s.requires.2)
   where
     -- the last sample that is read is stored
     read : {f p i end len : ℕ} → f < p → p ≤ i → i ≤ end → end ≤ len → i - 1 + (end - i) + 1 ≤ len
@@ -126,8 +126,8 @@ returns c =
     let s = start_at c.before in
     let all = left_ends _ _ _ _ _ _ p.invariant.2 c.loop-p-test.false ∙ ap (λ (m : ℕ). hops_from s.args.unitsize (seek s m) (samples s) s.args.len s.args.a s.args.b s.args.len 1 true no_turns) c.pair_mask-mask.ensures in (
       all,
-      omega (arith, p.invariant.0, p.invariant.1, s.pre.0.most),
-      omega (arith, p.invariant.0, p.invariant.1, s.pre.0.most),
+      omega (arith, p.invariant.0, p.invariant.1, s.requires.0.most),
+      omega (arith, p.invariant.0, p.invariant.1, s.requires.0.most),
     )
 
 pub hops_spec : {M : Type 1} → statement M

@@ -38,13 +38,13 @@ sub-get c = search rules
 
 get-requires : tie.Need-get-value-requires
 get-requires c κs =
-    bytes_held c.args.unitsize c.args.len _ c.args.samples.now c.pre.0.bytes (omega (arith, c.pre.1, c.pre.2))
+    bytes_held c.args.unitsize c.args.len _ c.args.samples.now c.requires.0.bytes (omega (arith, c.requires.1, c.requires.2))
 
 pass-requires : tie.Need-pass-requires
 pass-requires c κs =
     let s = c.before in
     let e = c.chunk_end-hi.ensures in
-    (part_of_lem s.args.unitsize s.args.len c.chunk_end-hi.result s.args.samples.now (levels s) s.pre.0 (omega (arith, e)), omega arith, omega (arith, e, chunk_inside s.args.len s.args.p s.pre.2))
+    (part_of_lem s.args.unitsize s.args.len c.chunk_end-hi.result s.args.samples.now (levels s) s.requires.0 (omega (arith, e)), omega arith, omega (arith, e, chunk_inside s.args.len s.args.p s.requires.2))
 
 returns : tie.Need-returns-then-quiet
 returns c =

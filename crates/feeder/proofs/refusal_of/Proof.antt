@@ -15,7 +15,7 @@ use Rattle.feeder.proofs.refusal_of.Tie as tie
 
 module _ (f : tie.After-refusal-first) where
   abbrev s : tie.Start
-  s = f.before.before.before.before.before.before
+  s = f.before.before.before.before.before.before.before.before
 
   abbrev recorder : Recorder
   recorder = recorder_of s.args.f
@@ -43,22 +43,22 @@ returns-2 c =
 
 returns-3 : tie.Need-returns-then-first-ne0
 returns-3 c =
-    let d = c.before.before in
+    let d = c.before.before.before.before in
     refused_2 (recorder d) (lent d) (ring d) d.refusal-first.ensures c.if-first-eq1.false (sym c.setting_wrong.ensures ∙ c.if-setting_wrong.false) c.if-first-ne0.true
 
 mul-if4 : tie.Need-overflow_mul-f
 mul-if4 c =
-    let d = c.before.before in
+    let d = c.before.before.before.before.before.before in
     record { fits = need_fits (recorder d) (lent d) (ring d) d.refusal-first.ensures c.if-first-eq1.false (sym c.setting_wrong.ensures ∙ c.if-setting_wrong.false) }
 
 returns-4 : tie.Need-returns-then-ring-f
 returns-4 c =
-    let d = c.before.before in
+    let d = c.before.before.before.before.before.before.before in
     ring_row (recorder d) (lent d) (ring d) d.refusal-first.ensures c.if-first-eq1.false (sym c.setting_wrong.ensures ∙ c.if-setting_wrong.false) c.if-first-ne0.false true (lt-ltb _ _ c.if-ring-f.true)
 
 returns-5 : tie.Need-returns
 returns-5 c =
-    let d = c.before.before in
+    let d = c.before.before.before.before.before.before.before in
     ring_row (recorder d) (lent d) (ring d) d.refusal-first.ensures c.if-first-eq1.false (sym c.setting_wrong.ensures ∙ c.if-setting_wrong.false) c.if-first-ne0.false false (le-ltb _ _ c.if-ring-f.false)
 
 pub refusal_of_spec : {M : Type 1} → statement M

@@ -36,7 +36,7 @@ returns-2 c =
 
 returns-3 : tie.Need-returns-then-fresh-limit
 returns-3 c =
-    let f = c.before.before in
+    let f = c.before.before.before.before in
     let a = (s f).args in
     row_by (store_of a.fresh) (lent f) a.limit a.wrong (wish_of a.wish) a.rate f.refusal-first.ensures c.if-first-ne0.false
     false true _ _ c.if-wrong.false (lt-ltb _ _ c.if-fresh-limit.true) refl refl
@@ -46,7 +46,7 @@ wish-wrong-requires c κs = search rules
 
 returns-4 : tie.Need-returns-then-wish_wrong
 returns-4 c =
-    let f = c.before.before in
+    let f = c.before.before.before.before.before.before in
     let a = (s f).args in
     row_by (store_of a.fresh) (lent f) a.limit a.wrong (wish_of a.wish) a.rate f.refusal-first.ensures c.if-first-ne0.false
     false false true _ c.if-wrong.false (le-ltb _ _ c.if-fresh-limit.false) (sym c.wish_wrong.ensures ∙ c.if-wish_wrong.true) refl
@@ -56,14 +56,14 @@ number-wrong-requires c κs = search rules
 
 returns-5 : tie.Need-returns-then-number_wrong
 returns-5 c =
-    let f = c.before.before in
+    let f = c.before.before.before.before.before.before.before.before in
     let a = (s f).args in
     row_by (store_of a.fresh) (lent f) a.limit a.wrong (wish_of a.wish) a.rate f.refusal-first.ensures c.if-first-ne0.false
     false false false true c.if-wrong.false (le-ltb _ _ c.if-fresh-limit.false) (sym c.wish_wrong.ensures ∙ c.if-wish_wrong.false) (sym c.number_wrong.ensures ∙ c.if-number_wrong.true)
 
 returns-6 : tie.Need-returns
 returns-6 c =
-    let f = c.before.before in
+    let f = c.before.before.before.before.before.before.before.before in
     let a = (s f).args in
     row_by (store_of a.fresh) (lent f) a.limit a.wrong (wish_of a.wish) a.rate f.refusal-first.ensures c.if-first-ne0.false
     false false false false c.if-wrong.false (le-ltb _ _ c.if-fresh-limit.false) (sym c.wish_wrong.ensures ∙ c.if-wish_wrong.false) (sym c.number_wrong.ensures ∙ c.if-number_wrong.false)

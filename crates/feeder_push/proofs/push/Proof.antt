@@ -145,7 +145,7 @@ returns-3 c =
     let i = c.before.before.before in
     let f = i.before in
     let a = (s f).args in
-    pushed_fired a.f a.samples.now (levels f) a.ring.now a.bytes.now (free i) c.in-Waiting.m c.in-Waiting.is c.first_fire-i.result c.first_fire-i.ensures c.if-i-n.taken c.fire.result _ _ c.fire.ensures
+    pushed_fired a.f a.samples.now (levels f) a.ring.now a.bytes.now (free i) c.in-Waiting.m c.in-Waiting.is c.first_fire-i.result c.first_fire-i.ensures c.if-i-n.true c.fire.result _ _ c.fire.ensures
 
 wait-requires : tie.Need-wait-requires
 wait-requires c κs =

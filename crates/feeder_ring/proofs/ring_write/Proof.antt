@@ -1,6 +1,5 @@
 -- `ring_write::ring_write` meets its contract: one run, no slots, or around. Assumes nothing.
 use mathlib.Core.Path.{sym}
-use native.Mathlib.Omega.{arith}
 use borrow.Author.Rules.{rules}
 use Rattle.feeder_lists.proofs.Bytes.{bytes_none}
 use Rattle.feeder_ring.proofs.ring_write.Statement.{statement}

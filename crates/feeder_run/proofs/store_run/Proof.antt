@@ -29,7 +29,7 @@ run-of-requires c κs = search rules
 write-run-requires : tie.Need-write_run-requires
 write-run-requires c κs =
     let a = c.args in
-    write_room a.unitsize a.capacity a.len a.limit a.pre a.place a.samples.now (level_of a.l1.now a.l2.now a.l3.now a.l4.now) a.ring.now a.bytes.now a.w a.d a.n c.pre (sym c.is_full.ensures ∙ c.if-is_full.false) c.run_of-run.result c.run_of-run.ensures
+    write_room a.unitsize a.capacity a.len a.limit a.pre a.place a.samples.now (level_of a.l1.now a.l2.now a.l3.now a.l4.now) a.ring.now a.bytes.now a.w a.d a.n c.requires (sym c.is_full.ensures ∙ c.if-is_full.false) c.run_of-run.result c.run_of-run.ensures
 
 same_length : tie.Need-shape_of-samples
 same_length c = search rules
@@ -49,7 +49,7 @@ same-length-5 c = search rules
 returns-2 : tie.Need-returns
 returns-2 c =
     let a = c.args in
-    takes_some a.unitsize a.capacity a.len a.limit a.pre a.place a.samples.now (level_of a.l1.now a.l2.now a.l3.now a.l4.now) a.ring.now a.bytes.now a.w a.d a.n c.pre (sym c.is_full.ensures ∙ c.if-is_full.false) c.run_of-run.result c.run_of-run.ensures _ _ c.write_run.ensures
+    takes_some a.unitsize a.capacity a.len a.limit a.pre a.place a.samples.now (level_of a.l1.now a.l2.now a.l3.now a.l4.now) a.ring.now a.bytes.now a.w a.d a.n c.requires (sym c.is_full.ensures ∙ c.if-is_full.false) c.run_of-run.result c.run_of-run.ensures _ _ c.write_run.ensures
 
 pub store_run_spec : {M : Type 1} → statement M
 store_run_spec =

@@ -16,7 +16,7 @@ start_at p = p.before.before.before.before.before.before.before
 -- and from the arguments of the call
 abbrev start_of_call : tie.After-append_parts-arg-8-1 → tie.Start
 start_of_call p =
-    start_at p.before.before.before.before.before.before
+    start_at p.before.before.before.before.before.before.before.before.before.before.before.before.before
 
 mul-a : tie.Need-overflow_mul-a
 mul-a c = search rules
@@ -24,7 +24,7 @@ mul-a c = search rules
 add-a-end : tie.Need-overflow_add-a_end
 add-a-end c =
     let s = start_at c.before.before in
-    omega (arith, s.pre.end_fits, le-mul_of_pos_right (s.args.run.end + s.args.run.older) s.pre.room.unit_size.least)
+    omega (arith, s.requires.end_fits, le-mul_of_pos_right (s.args.run.end + s.args.run.older) s.requires.room.unit_size.least)
 
 mul-a-end : tie.Need-overflow_mul-a_end
 mul-a-end c = search rules
@@ -35,7 +35,7 @@ mul-b c = search rules
 add-b-end : tie.Need-overflow_add-b_end
 add-b-end c =
     let s = start_at c.before.before.before.before in
-    omega (arith, s.pre.start_fits, le-mul_of_pos_right (s.args.run.start + s.args.run.newer) s.pre.room.unit_size.least)
+    omega (arith, s.requires.start_fits, le-mul_of_pos_right (s.args.run.start + s.args.run.newer) s.requires.room.unit_size.least)
 
 mul-b-end : tie.Need-overflow_mul-b_end
 mul-b-end c = search rules
@@ -46,12 +46,12 @@ mul-c c = search rules
 add-c-end : tie.Need-overflow_add-c_end
 add-c-end c =
     let s = start_at c.before.before.before.before.before in
-    omega (arith, s.pre.own_fits, le-mul_of_pos_right (s.args.d + s.args.run.own) s.pre.room.unit_size.least)
+    omega (arith, s.requires.own_fits, le-mul_of_pos_right (s.args.d + s.args.run.own) s.requires.room.unit_size.least)
 
 mul-c-end : tie.Need-overflow_mul-c_end
 mul-c-end c =
     let s = start_at c.before.before.before.before.before in
-    omega (arith, s.pre.own_fits, s.good)
+    omega (arith, s.requires.own_fits, s.good)
 
 sub-append-parts : tie.Need-slice_bounds-append_parts-count
 sub-append-parts c = search rules
@@ -84,7 +84,7 @@ append-parts-requires : tie.Need-append_parts-requires
 append-parts-requires c κs =
     let s = start_of_call c in
     let a = s.args in
-    parts_room a.unitsize a.len a.run a.d (length a.samples.now) (level_of a.l1.now a.l2.now a.l3.now a.l4.now) a.ring.now a.bytes.now s.pre
+    parts_room a.unitsize a.len a.run a.d (length a.samples.now) (level_of a.l1.now a.l2.now a.l3.now a.l4.now) a.ring.now a.bytes.now s.requires
 
 same_length : tie.Need-shape_of-samples
 same_length c = search rules
@@ -103,9 +103,9 @@ same-length-5 c = search rules
 
 returns : tie.Need-returns
 returns c =
-    let s = start_of_call c.before in
+    let s = start_of_call c.before.before.before.before.before.before.before.before.before.before.before in
     let a = s.args in
-    run_written a.unitsize a.len a.run a.d (length a.samples.now) (level_of a.l1.now a.l2.now a.l3.now a.l4.now) a.ring.now a.bytes.now s.pre a.samples.now _ _ c.append_parts.ensures
+    run_written a.unitsize a.len a.run a.d (length a.samples.now) (level_of a.l1.now a.l2.now a.l3.now a.l4.now) a.ring.now a.bytes.now s.requires a.samples.now _ _ c.append_parts.ensures
 
 pub write_run_spec : {M : Type 1} → statement M
 write_run_spec =

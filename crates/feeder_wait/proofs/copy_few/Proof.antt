@@ -42,7 +42,7 @@ returns : tie.Need-returns-then-k-lt4
 unfolding list_from
 returns c =
     let a = c.args in
-    copied a.bytes.now a.at a.k 2 c.pre.held (a.k - 2) 0 (omega arith) (omega arith) (omega arith) a.ring.now c.pre.slots _ _ refl (omega arith) _ _ c.put_two.ensures c.put_two-then-k-lt4.ensures
+    copied a.bytes.now a.at a.k 2 c.requires.held (a.k - 2) 0 (omega arith) (omega arith) (omega arith) a.ring.now c.requires.slots _ _ refl (omega arith) _ _ c.put_two.ensures c.put_two-then-k-lt4.ensures
 
 shared-slice-read-a-2 : tie.Need-bounds-bytes-0-2
 shared-slice-read-a-2 c = search rules
@@ -93,7 +93,7 @@ returns-2 : tie.Need-returns
 unfolding list_from
 returns-2 c =
     let a = c.args in
-    copied a.bytes.now a.at a.k 4 c.pre.held 0 (a.k - 4) (omega arith) (omega arith) (omega arith) a.ring.now c.pre.slots _ _ (omega arith) refl _ _ c.put_four.ensures c.put_four-2.ensures
+    copied a.bytes.now a.at a.k 4 c.requires.held 0 (a.k - 4) (omega arith) (omega arith) (omega arith) a.ring.now c.requires.slots _ _ (omega arith) refl _ _ c.put_four.ensures c.put_four-2.ensures
 
 pub copy_few_spec : {M : Type 1} → statement M
 copy_few_spec =

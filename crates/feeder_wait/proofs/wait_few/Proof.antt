@@ -27,7 +27,7 @@ sub-get c = search rules
 
 get-requires : tie.Need-get-last-requires
 get-requires c κs =
-    held _ c.args.n _ _ (record { unit_size = c.pre.unit_size; room = c.pre.samples }) (omega (arith, c.pre.some_samples))
+    held _ c.args.n _ _ (record { unit_size = c.requires.unit_size; room = c.requires.samples }) (omega (arith, c.requires.some_samples))
 
 mul-copy-few : tie.Need-overflow_mul-place
 mul-copy-few c = record { fits = omega (arith, few_copy _ _ _ _ _ c.requires) }
@@ -71,7 +71,7 @@ same_length c = search rules
 returns-2 : tie.Need-returns
 returns-2 c =
     let a = c.args in
-    few_went a.numbers.now a.ring.now a.bytes.now a.unitsize a.n _ _ _ c.pre (sym c.fires.ensures ∙ c.if-fires.false) c.get-last.ensures c.lesser.ensures c.copy_few.ensures
+    few_went a.numbers.now a.ring.now a.bytes.now a.unitsize a.n _ _ _ c.requires (sym c.fires.ensures ∙ c.if-fires.false) c.get-last.ensures c.lesser.ensures c.copy_few.ensures
 
 pub wait_few_spec : {M : Type 1} → statement M
 wait_few_spec =

@@ -1,5 +1,4 @@
 -- `find::nth` meets its contract. Assumes nothing.
-use Prim.Native.Nat.{◌-◌}
 use mathlib.Core.Path.{sym, ap, ◌∙◌, subst}
 use mathlib.Core.Bool.{Bool}
 use native.Mathlib.Omega.{arith}

@@ -32,15 +32,15 @@ told : (s : tie.Start) (p : ℤ) (fits : SFits w64 p) (origin : ℕ) (t u : Bool
 told s p fits origin t u eo et eu = sym (ap₂ before_first eo (read_is p fits)) ∙ sym et ∙ eu
 
 -- rows 1 and 2 pass: 12 and 13 are left
-left : (c : tie.Else-number-ne0) → let s = c.before in (a b d : Bool) (n : ℕ) → s.args.outside ≡ a → before_first (origin_in s.args.c) s.args.p ≡ b → before_first (origin_in s.args.c) s.args.q ≡ d → n ≡ three a b d 0 → n ≡ first_of (store_rows (st s) (lent s) (own s))
-left c a b d n ea eb ed e = let s = c.before in rows_decide (st s) (lent s) (own s) c.refusal-number.ensures c.if-number-ne0.false n (e ∙ sym (λ i. three (ea i) (eb i) (ed i) 0))
+left : (c : tie.Else-number-ne0) → let s = c.before.before.before.before.before.before.before in (a b d : Bool) (n : ℕ) → s.args.outside ≡ a → before_first (origin_in s.args.c) s.args.p ≡ b → before_first (origin_in s.args.c) s.args.q ≡ d → n ≡ three a b d 0 → n ≡ first_of (store_rows (st s) (lent s) (own s))
+left c a b d n ea eb ed e = let s = c.before.before.before.before.before.before.before in rows_decide (st s) (lent s) (own s) c.refusal-number.ensures c.if-number-ne0.false n (e ∙ sym (λ i. three (ea i) (eb i) (ed i) 0))
 
 refusal-requires : tie.Need-refusal-number-requires
 refusal-requires c κs = search rules
 
 returns : tie.Need-returns-then-number-ne0
 returns c =
-    let s = c.before in
+    let s = c.before.before.before.before.before.before.before in
     rows_refuse (st s) (lent s) (own s) c.refusal-number.ensures c.if-number-ne0.true
 
 returns-2 : tie.Need-returns-then-outside
@@ -55,18 +55,18 @@ lies-before-requires c κs = search rules
 returns-3 : tie.Need-returns-then-lies_before
 returns-3 c =
     let k = c.before.before.before.before in
-    let s = k.before in
-    left k _ _ _ 13 c.if-outside.false (told s s.args.p s.fits.p _ _ true c.origin-from.ensures c.lies_before.ensures c.if-lies_before.true) refl refl
+    let s = k.before.before.before.before.before.before.before in
+    left k _ _ _ 13 c.if-outside.false (told s s.args.p s.ranges.p _ _ true c.origin-from.ensures c.lies_before.ensures c.if-lies_before.true) refl refl
 
 lies-before-requires-2 : tie.Need-lies_before-requires-2
 lies-before-requires-2 c κs = search rules
 
 -- both places
-both : (c : tie.After-lies_before-2) (u : Bool) → c.lies_before-2.result ≡ u → let s = c.before.before.before.before.before.before in (n : ℕ) → n ≡ three false false u 0 → n ≡ first_of (store_rows (st s) (lent s) (own s))
+both : (c : tie.After-lies_before-2) (u : Bool) → c.lies_before-2.result ≡ u → let s = c.before.before.before.before.before.before.before.before.before.before.before.before in (n : ℕ) → n ≡ three false false u 0 → n ≡ first_of (store_rows (st s) (lent s) (own s))
 both c u e n is =
-    let k = c.before.before in
-    let s = k.before in
-    left k _ _ _ n c.if-outside.false (told s s.args.p s.fits.p _ _ false c.origin-from.ensures c.lies_before.ensures c.if-lies_before.false) (told s s.args.q s.fits.q _ _ u c.origin-from.ensures c.lies_before-2.ensures e) is
+    let k = c.before.before.before.before.before in
+    let s = k.before.before.before.before.before.before.before in
+    left k _ _ _ n c.if-outside.false (told s s.args.p s.ranges.p _ _ false c.origin-from.ensures c.lies_before.ensures c.if-lies_before.false) (told s s.args.q s.ranges.q _ _ u c.origin-from.ensures c.lies_before-2.ensures e) is
 
 returns-4 : tie.Need-returns-then-lies_before-2
 returns-4 c = both c.before true c.if-lies_before-2.true 13 refl

@@ -47,7 +47,7 @@ module _ (f : tie.After-refusal-number) where
 
   -- what is shown at the place as it is read back is shown at the place
   answered : (r : Answer ℕ) → r ≡ answer p → r ≡ answer s.args.place
-  answered r e = e ∙ ap answer (read_is s.args.place s.fits.place)
+  answered r e = e ∙ ap answer (read_is s.args.place s.ranges.place)
 
 refusal-requires : tie.Need-refusal-number-requires
 refusal-requires c κs = search rules

@@ -45,7 +45,7 @@ module _ (f : tie.After-refusal-number) where
 
   -- what holds at the place as it is read back holds at the place
   answered : (r : Copied) (output' : List ℕ) → Copied-at p r output' → Copied-at s.args.start r output'
-  answered r output' h = subst (λ (z : ℤ). Copied-at z r output') (read_is s.args.start s.fits.start) h
+  answered r output' h = subst (λ (z : ℤ). Copied-at z r output') (read_is s.args.start s.ranges.start) h
 
 -- what the service answered and left, at the place as it is read back
 module _ (g : tie.After-samples-copied) where

@@ -55,7 +55,7 @@ module _ (f : tie.After-refusal-number) where
 
   -- what is shown at the places as they are read back is shown at the places
   answered : (r : Answer (Option Lines)) → r ≡ answer p q → r ≡ answer s.args.a s.args.b
-  answered r e = e ∙ ap₂ answer (read_is s.args.a s.fits.a) (read_is s.args.b s.fits.b)
+  answered r e = e ∙ ap₂ answer (read_is s.args.a s.ranges.a) (read_is s.args.b s.ranges.b)
 
 refusal-requires : tie.Need-refusal-number-requires
 refusal-requires c κs = search rules

@@ -39,7 +39,7 @@ unfolding burst_of
 returns c =
     let f = c.before in
     let t = s f in
-    asked_refused t.args.c t.args.samples.now (levels f) t.args.grant t.args.mask t.args.sample t.fits.sample f.beyond-outside.ensures f.refusal-number.ensures
+    asked_refused t.args.c t.args.samples.now (levels f) t.args.grant t.args.mask t.args.sample t.ranges.sample f.beyond-outside.ensures f.refusal-number.ensures
     (λ (y : ℤ). through (shown_burst (origin_in t.args.c)) (find f (place_at (origin_in t.args.c) y)))
     c.if-number-ne0.true
 
@@ -50,7 +50,7 @@ place-at-requires : tie.Need-place_at-i-requires
 place-at-requires c κs =
     let f = c.before.before in
     let t = s f in
-    asked_placed t.args.c t.args.samples.now (levels f) t.args.grant t.args.mask t.args.sample t.fits.sample f.beyond-outside.ensures f.refusal-number.ensures
+    asked_placed t.args.c t.args.samples.now (levels f) t.args.grant t.args.mask t.args.sample t.ranges.sample f.beyond-outside.ensures f.refusal-number.ensures
     c.if-number-ne0.false c.origin-base.result c.origin-base.ensures
 
 burst-at-requires : tie.Need-burst_at-requires
@@ -60,7 +60,7 @@ burst-from-requires : tie.Need-burst_from-requires
 burst-from-requires c κs =
     let f = c.before.before in
     let t = s f in
-    asked_counts t.args.c t.args.samples.now (levels f) t.args.grant t.args.mask t.args.sample t.fits.sample f.beyond-outside.ensures f.refusal-number.ensures
+    asked_counts t.args.c t.args.samples.now (levels f) t.args.grant t.args.mask t.args.sample t.ranges.sample f.beyond-outside.ensures f.refusal-number.ensures
     c.if-number-ne0.false c.origin-base.result c.origin-base.ensures
     (find f) c.place_at-i.result c.place_at-i.ensures (service.burst_as c.burst_at.result) (c.burst_at.ensures ∙ burst_asked t.args.c t.args.samples.now (levels f) t.args.mask t.args.max_gap t.args.tolerance t.args.budget c.place_at-i.result)
     SmallBurst (burst_small t.args.c t.args.samples.now (levels f) t.args.mask t.args.max_gap t.args.tolerance t.args.budget)
@@ -70,7 +70,7 @@ unfolding burst_of
 returns-2 c =
     let f = c.before.before in
     let t = s f in
-    asked_shown t.args.c t.args.samples.now (levels f) t.args.grant t.args.mask t.args.sample t.fits.sample f.beyond-outside.ensures f.refusal-number.ensures
+    asked_shown t.args.c t.args.samples.now (levels f) t.args.grant t.args.mask t.args.sample t.ranges.sample f.beyond-outside.ensures f.refusal-number.ensures
     c.if-number-ne0.false c.origin-base.result c.origin-base.ensures
     (find f) c.place_at-i.result c.place_at-i.ensures (service.burst_as c.burst_at.result) (c.burst_at.ensures ∙ burst_asked t.args.c t.args.samples.now (levels f) t.args.mask t.args.max_gap t.args.tolerance t.args.budget c.place_at-i.result)
     shown_burst _ c.burst_from.ensures

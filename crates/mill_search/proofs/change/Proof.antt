@@ -42,7 +42,7 @@ unfolding change_of
 returns c =
     let f = c.before in
     let t = s f in
-    asked_refused t.args.c t.args.samples.now (levels f) t.args.grant t.args.mask t.args.from t.fits.from f.beyond-outside.ensures f.refusal-number.ensures
+    asked_refused t.args.c t.args.samples.now (levels f) t.args.grant t.args.mask t.args.from t.ranges.from f.beyond-outside.ensures f.refusal-number.ensures
     (λ (y : ℤ). through (shown_place (origin_in t.args.c)) (find f t.args.backward (place_at (origin_in t.args.c) y)))
     c.if-number-ne0.true
 
@@ -53,7 +53,7 @@ place-at-requires : tie.Need-place_at-i-requires
 place-at-requires c κs =
     let f = c.before.before in
     let t = s f in
-    asked_placed t.args.c t.args.samples.now (levels f) t.args.grant t.args.mask t.args.from t.fits.from f.beyond-outside.ensures f.refusal-number.ensures c.if-number-ne0.false c.origin-base.result c.origin-base.ensures
+    asked_placed t.args.c t.args.samples.now (levels f) t.args.grant t.args.mask t.args.from t.ranges.from f.beyond-outside.ensures f.refusal-number.ensures c.if-number-ne0.false c.origin-base.result c.origin-base.ensures
 
 -- ---- the place is known: what either search answers
 module _ (a : tie.After-place_at-i) where
@@ -67,18 +67,18 @@ module _ (a : tie.After-place_at-i) where
   t = s f
 
   stored : Stored t.args.c.unitsize t.args.c.len t.args.samples.now (levels f)
-  stored = asked_stored t.args.c t.args.samples.now (levels f) t.args.grant t.args.mask t.args.from t.fits.from f.beyond-outside.ensures f.refusal-number.ensures o.if-number-ne0.left o.origin-base.result o.origin-base.ensures
+  stored = asked_stored t.args.c t.args.samples.now (levels f) t.args.grant t.args.mask t.args.from t.ranges.from f.beyond-outside.ensures f.refusal-number.ensures o.if-number-ne0.false o.origin-base.result o.origin-base.ensures
 
   -- a search in the direction asked
   module _ (backward : Bool) (same : t.args.backward ≡ backward) (place : Place) (answer : place_of place ≡ find f backward a.place_at-i.result) where
     answered : given (place_of place) ≡ unless (store_refusal (store_of t.args.c) (lent_of t.args.samples.now (levels f))) (find f t.args.backward a.place_at-i.result)
     answered =
         ap given (answer ∙ ap (λ (b : Bool). find f b a.place_at-i.result) (sym same))
-        ∙ asked_given t.args.c t.args.samples.now (levels f) t.args.grant t.args.mask t.args.from t.fits.from f.beyond-outside.ensures f.refusal-number.ensures o.if-number-ne0.left o.origin-base.result o.origin-base.ensures (find f t.args.backward a.place_at-i.result)
+        ∙ asked_given t.args.c t.args.samples.now (levels f) t.args.grant t.args.mask t.args.from t.ranges.from f.beyond-outside.ensures f.refusal-number.ensures o.if-number-ne0.false o.origin-base.result o.origin-base.ensures (find f t.args.backward a.place_at-i.result)
 
     counts : Counts SmallPlace o.origin-base.result (given (place_of place))
     counts =
-        asked_counts t.args.c t.args.samples.now (levels f) t.args.grant t.args.mask t.args.from t.fits.from f.beyond-outside.ensures f.refusal-number.ensures o.if-number-ne0.left o.origin-base.result o.origin-base.ensures
+        asked_counts t.args.c t.args.samples.now (levels f) t.args.grant t.args.mask t.args.from t.ranges.from f.beyond-outside.ensures f.refusal-number.ensures o.if-number-ne0.false o.origin-base.result o.origin-base.ensures
         (find f t.args.backward) a.place_at-i.result a.place_at-i.ensures (given (place_of place)) answered
         SmallPlace (change_small t.args.c t.args.samples.now (levels f) t.args.mask t.args.backward)
 
@@ -86,7 +86,7 @@ module _ (a : tie.After-place_at-i) where
         → shown ≡ change_of t.args.backward t.args.c t.args.samples.now (levels f) t.args.grant t.args.mask t.args.from
     unfolding change_of
     shows shown e =
-        asked_shown t.args.c t.args.samples.now (levels f) t.args.grant t.args.mask t.args.from t.fits.from f.beyond-outside.ensures f.refusal-number.ensures o.if-number-ne0.left o.origin-base.result o.origin-base.ensures
+        asked_shown t.args.c t.args.samples.now (levels f) t.args.grant t.args.mask t.args.from t.ranges.from f.beyond-outside.ensures f.refusal-number.ensures o.if-number-ne0.false o.origin-base.result o.origin-base.ensures
         (find f t.args.backward) a.place_at-i.result a.place_at-i.ensures (given (place_of place)) answered
         shown_place shown e
 

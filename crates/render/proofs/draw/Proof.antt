@@ -31,36 +31,36 @@ loop-holds c =
 
 pixel-range-requires : tie.Need-pixel_range-requires invariant-loop decreases-loop
 pixel-range-requires c κs =
-    let p = c.before.pre in
+    let p = c.before.requires in
     (omega (arith, c.loop-px-test.true, p.most), (p.counts, omega (arith, p.sound.len_most, p.sound.capacity_most)))
 
 pixel-node-requires : tie.Need-pixel_node-n-requires invariant-loop decreases-loop
 pixel-node-requires c κs =
-    record { sound = c.pre.sound; inside = subst (λ (r : Option Range). Inside r c.args.c.len) (sym c.pixel_range.ensures) (inside (range_from c.args.origin (view_as c.args.view) c.args.c.len) c.args.c.len (from_stored c.args.origin (view_as c.args.view) c.args.c.len) c.loop-px.px) }
+    record { sound = c.requires.sound; inside = subst (λ (r : Option Range). Inside r c.args.c.len) (sym c.pixel_range.ensures) (inside (range_from c.args.origin (view_as c.args.view) c.args.c.len) c.args.c.len (from_stored c.args.origin (view_as c.args.view) c.args.c.len) c.loop-px.px) }
 
 mul-output : tie.Need-overflow_mul-output invariant-loop decreases-loop
-mul-output c = omega (arith, c.loop-px-test.true, c.before.before.before.pre.most)
+mul-output c = omega (arith, c.loop-px-test.true, c.before.before.before.requires.most)
 
 mul-output-2 : tie.Need-offset_bounds-output-px invariant-loop decreases-loop
-mul-output-2 c = omega (arith, c.loop-px-test.true, c.before.before.before.pre.most)
+mul-output-2 c = omega (arith, c.loop-px-test.true, c.before.before.before.requires.most)
 
 slice-write-output : tie.Need-bounds-output-px invariant-loop decreases-loop
-slice-write-output c = omega (arith, c.loop-px-test.true, c.before.before.before.pre.room, c.loop-px.invariant.1)
+slice-write-output c = omega (arith, c.loop-px-test.true, c.before.before.before.requires.room, c.loop-px.invariant.1)
 
 mul-output-3 : tie.Need-overflow_mul-output-in-loop-px invariant-loop decreases-loop
-mul-output-3 c = omega (arith, c.loop-px-test.true, c.before.before.before.pre.most)
+mul-output-3 c = omega (arith, c.loop-px-test.true, c.before.before.before.requires.most)
 
 add-output : tie.Need-overflow_add-output invariant-loop decreases-loop
-add-output c = omega (arith, c.loop-px-test.true, c.before.before.before.pre.most)
+add-output c = omega (arith, c.loop-px-test.true, c.before.before.before.requires.most)
 
 mul-output-4 : tie.Need-offset_bounds-output-px-in-loop-px invariant-loop decreases-loop
-mul-output-4 c = omega (arith, c.loop-px-test.true, c.before.before.before.pre.most)
+mul-output-4 c = omega (arith, c.loop-px-test.true, c.before.before.before.requires.most)
 
 slice-write-output-2 : tie.Need-bounds-output-px-in-loop-px invariant-loop decreases-loop
-slice-write-output-2 c = simp length-set (omega (arith, c.loop-px-test.true, c.before.before.before.pre.room, c.loop-px.invariant.1))
+slice-write-output-2 c = simp length-set (omega (arith, c.loop-px-test.true, c.before.before.before.requires.room, c.loop-px.invariant.1))
 
 add-px : tie.Need-overflow_add-px invariant-loop decreases-loop
-add-px c = omega (arith, c.loop-px-test.true, c.before.before.before.pre.most)
+add-px c = omega (arith, c.loop-px-test.true, c.before.before.before.requires.most)
 
 loop-less : tie.Need-loop-px-smaller invariant-loop decreases-loop
 loop-less c = omega (arith, c.loop-px-test.true)
@@ -72,7 +72,7 @@ loop-again c =
     let n = summed (level_of a.l1.now a.l2.now a.l3.now a.l4.now) (sample_of a.c.unitsize a.samples.now) in (
       omega (arith, c.loop-px-test.true),
       simp length-set l.invariant.1,
-      drawn_turn n (range_from a.origin (view_as a.view) a.c.len) l.px (as_node c.pixel_node-n.result) a.output.now l.output (omega (arith, c.pre.room, c.loop-px-test.true)) l.invariant.2 (c.pixel_node-n.ensures ∙ ap (λ (r : Option Range). lines_of (pixel_node n r)) c.pixel_range.ensures),
+      drawn_turn n (range_from a.origin (view_as a.view) a.c.len) l.px (as_node c.pixel_node-n.result) a.output.now l.output (omega (arith, c.requires.room, c.loop-px-test.true)) l.invariant.2 (c.pixel_node-n.ensures ∙ ap (λ (r : Option Range). lines_of (pixel_node n r)) c.pixel_range.ensures),
     )
 
 same_length : tie.Need-shape_of-output invariant-loop decreases-loop

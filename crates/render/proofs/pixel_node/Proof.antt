@@ -22,8 +22,8 @@ enum-known-p c = search rules
 
 summary-in-requires : tie.Need-summary_in-requires
 summary-in-requires c κs =
-    let i = subst (λ (p : Pixel). Inside (range_as p) c.args.c.len) c.in-Span.is c.pre.inside in
-    record { sound = c.pre.sound; order = i.0; stored = i.1 }
+    let i = subst (λ (p : Pixel). Inside (range_as p) c.args.c.len) c.in-Span.is c.requires.inside in
+    record { sound = c.requires.sound; order = i.0; stored = i.1 }
 
 returns : tie.Need-returns-in-Blank
 returns c =

@@ -55,13 +55,13 @@ view-refusal-requires c κs = search rules
 
 returns-2 : tie.Need-returns-then-k-ne0
 returns-2 c =
-    let f = c.before.before in
+    let f = c.before.before.before in
     let a = (s f).args in
     draws_refused (node_at f) (st f) (lent f) (view_as a.view) a.width a.output.now (rows_decide (st f) (lent f) (own f) f.refusal-n.ensures c.if-n-ne0.false _ c.view_refusal-k.ensures) c.if-k-ne0.true
 
 draw-requires : tie.Need-draw-requires
 draw-requires c κs =
-    let f = c.before.before in
+    let f = c.before.before.before.before in
     let a = (s f).args in
     drawable (st f) (lent f) (view_as a.view) a.width (length a.output.now) (let_in f.refusal-n.ensures c.if-n-ne0.false) 0 (omega arith) (sym c.view_refusal-k.ensures ∙ c.if-k-ne0.false)
 
@@ -70,7 +70,7 @@ same_length c = search rules
 
 returns-3 : tie.Need-returns
 returns-3 c =
-    let f = c.before.before in
+    let f = c.before.before.before.before.before.before.before in
     let a = (s f).args in
     draws_done (node_at f) (st f) (lent f) (view_as a.view) a.width a.output.now (rows_decide (st f) (lent f) (own f) f.refusal-n.ensures c.if-n-ne0.false _ c.view_refusal-k.ensures) c.if-k-ne0.false _
     (c.draw.ensures ∙ ap (λ (range : ℕ → Option Range). drawn (node_at f) range a.width a.output.now) (fun_ext (from_first (view_as a.view) a.c.len)))

@@ -47,7 +47,7 @@ after-append-requires c κs = search rules
 
 loop-less : tie.Need-loop-a-smaller-then-o-lt50 invariant-loop decreases-loop
 loop-less c =
-    piece_falls _ _ _ _ _ _ c.loop-a-test.taken c.fill-p.ensures.less c.after_append-a.ensures
+    piece_falls _ _ _ _ _ _ c.loop-a-test.true c.fill-p.ensures.less c.after_append-a.ensures
 
 loop-again : tie.Need-loop-a-preserved-then-o-lt50 invariant-loop decreases-loop
 loop-again c =
@@ -79,7 +79,7 @@ after-push-requires c κs = search rules
 
 loop-less-2 : tie.Need-loop-a-smaller invariant-loop decreases-loop
 loop-less-2 c =
-    piece_falls _ _ _ _ _ _ c.loop-a-test.taken c.fill-p.ensures.less c.after_push-a.ensures
+    piece_falls _ _ _ _ _ _ c.loop-a-test.true c.fill-p.ensures.less c.after_push-a.ensures
 
 loop-again-2 : tie.Need-loop-a-preserved invariant-loop decreases-loop
 loop-again-2 c =

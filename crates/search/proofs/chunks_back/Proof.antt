@@ -45,18 +45,18 @@ told_at f r e = ap place_of (sym e) ∙ f.in_chunk-p.ensures
 -- after a chunk without a find, and past the quiet ones before it
 left_at : (f : tie.In-Nothing invariant-loop decreases-loop)
     → let t = f.before.before.before.before.before.before.before.before.before in
-    Stands t (t.loop-left.count + f.in-Nothing.n) (t.loop-left.left - 1)
+    Stands t (f.loop-left.count + f.in-Nothing.n) (f.loop-left.left - 1)
 left_at f =
     let p = f.loop-left in
-    coursing_on p.invariant.0 (p.left - 1) (omega arith) _ (told_at f.before.before.before _ f.in-Nothing.is) refl
+    coursing_on p.invariant.0 (p.left - 1) (omega arith) _ (told_at f.before _ f.in-Nothing.is) refl
 
 passed_at : (c : tie.After-quiet_chunks-passed invariant-loop decreases-loop)
     → let t = c.before.before.before.before.before.before.before.before.before.before in
-    Stands t (t.loop-left.count + c.in-Nothing.n + c.quiet_chunks-passed.result) (t.loop-left.left - 1 - c.quiet_chunks-passed.result)
+    Stands t (c.loop-left.count + c.in-Nothing.n + c.quiet_chunks-passed.result) (c.loop-left.left - 1 - c.quiet_chunks-passed.result)
 unfolding level_of
 passed_at c =
-    let t = c.before.before.before.before.before in
-    let ci = t.loop-left.left - 1 in
+    let t = c.before.before.before.before.before.before.before.before.before.before in
+    let ci = c.loop-left.left - 1 in
     quiet_passes t.args.unitsize t.args.len t.args.samples.now (levels_at t) (left_at c.before) (le_refl ci) c.quiet_chunks-passed.ensures (ci - c.quiet_chunks-passed.result) (omega (arith, c.quiet_chunks-passed.ensures.most))
 
 -- ---- the needs
@@ -96,9 +96,9 @@ add-count-2 c = omega (arith, coursing_fits (left_at c))
 quiet-chunks-requires : tie.Need-quiet_chunks-passed-requires invariant-loop decreases-loop
 unfolding level_of
 quiet-chunks-requires c κs =
-    let t = c.before.before.before.before in
-    let ci = t.loop-left.left - 1 in
-    chunks_held t.args.unitsize t.args.len t.args.samples.now (levels_at t) t.pre.0 true ci ci (le_refl ci) (λ _. omega arith) (λ z. absurd (true≢false z))
+    let t = c.before.before.before.before.before.before.before.before.before in
+    let ci = c.loop-left.left - 1 in
+    chunks_held t.args.unitsize t.args.len t.args.samples.now (levels_at t) t.requires.0 true ci ci (le_refl ci) (λ _. omega arith) (λ z. absurd (true≢false z))
 
 add-count-3 : tie.Need-overflow_add-count-in-loop-left invariant-loop decreases-loop
 add-count-3 c = omega (arith, coursing_fits (passed_at c))

@@ -48,20 +48,20 @@ told_at f r e = ap place_of (sym e) ∙ f.in_chunk-p.ensures
 -- after a chunk without a find, and past the quiet ones behind it
 left_at : (f : tie.In-Nothing invariant-loop decreases-loop)
     → let t = f.before.before.before.before.before.before.before.before.before in
-    Stands t (t.loop-ci.count + f.in-Nothing.n) (t.loop-ci.ci + 1)
+    Stands t (f.loop-ci.count + f.in-Nothing.n) (f.loop-ci.ci + 1)
 left_at f =
-    let t = f.before.before.before.before in
-    let p = t.loop-ci in
-    coursing_on p.invariant.0 (rest_at t (p.ci + 1)) (omega arith) _ (told_at f.before.before.before _ f.in-Nothing.is) refl
+    let t = f.before.before.before.before.before.before.before.before.before in
+    let p = f.loop-ci in
+    coursing_on p.invariant.0 (rest_at t (p.ci + 1)) (omega arith) _ (told_at f.before _ f.in-Nothing.is) refl
 
 passed_at : (c : tie.After-quiet_chunks-passed invariant-loop decreases-loop)
     → let t = c.before.before.before.before.before.before.before.before.before.before.before in
-    Stands t (t.loop-ci.count + c.in-Nothing.n + c.quiet_chunks-passed.result) (t.loop-ci.ci + 1 + c.quiet_chunks-passed.result)
+    Stands t (c.loop-ci.count + c.in-Nothing.n + c.quiet_chunks-passed.result) (c.loop-ci.ci + 1 + c.quiet_chunks-passed.result)
 unfolding level_of
 passed_at c =
-    let t = c.before.before.before.before.before.before in
+    let t = c.before.before.before.before.before.before.before.before.before.before.before in
     quiet_passes t.args.unitsize t.args.len t.args.samples.now (levels_at t) (left_at c.before.before) (omega arith) c.quiet_chunks-passed.ensures
-    (rest_at t (t.loop-ci.ci + 1 + c.quiet_chunks-passed.result)) (omega (arith, c.quiet_chunks-passed.ensures.most))
+    (rest_at t (c.loop-ci.ci + 1 + c.quiet_chunks-passed.result)) (omega (arith, c.quiet_chunks-passed.ensures.most))
 
 -- ---- the needs
 sub-end : tie.Need-overflow_sub-end invariant-loop decreases-loop
@@ -91,15 +91,15 @@ enum-known-p c = search rules
 
 add-count : tie.Need-overflow_add-count invariant-loop decreases-loop
 add-count c =
-    let t = c.before.before.before.before in
-    let p = t.loop-ci in
-    omega (arith, coursing_counts p.invariant.0 (rest_at t (p.ci + 1)) (omega arith) _ (told_at c.before.before.before _ c.in-At.is))
+    let t = c.before.before.before.before.before.before.before.before.before in
+    let p = c.loop-ci in
+    omega (arith, coursing_counts p.invariant.0 (rest_at t (p.ci + 1)) (omega arith) _ (told_at c.before _ c.in-At.is))
 
 returns : tie.Need-returns-in-At invariant-loop decreases-loop
 returns c =
-    let t = c.before.before.before.before in
-    let p = t.loop-ci in
-    coursing_found p.invariant.0 (rest_at t (p.ci + 1)) (omega arith) _ (told_at c.before.before.before _ c.in-At.is) (λ z. none-ne-some _ (sym z))
+    let t = c.before.before.before.before.before.before.before.before.before in
+    let p = c.loop-ci in
+    coursing_found p.invariant.0 (rest_at t (p.ci + 1)) (omega arith) _ (told_at c.before _ c.in-At.is) (λ z. none-ne-some _ (sym z))
 
 enum-known-p-2 : tie.Need-enum_known-p-in-Nothing-1 invariant-loop decreases-loop
 enum-known-p-2 c = search rules

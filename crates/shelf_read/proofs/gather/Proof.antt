@@ -54,7 +54,7 @@ part-copy-at-end c = search rules
 copy-at-requires : tie.Need-copy_at-requires invariant-loop decreases-loop
 copy-at-requires c κs =
     let l = c.before.before in
-    copy_fits l.loop-i.invariant (inside_at l) l.pre.0.size l.pre.1 l.lesser.ensures refl
+    copy_fits l.loop-i.invariant (inside_at l) l.requires.0.size l.requires.1 l.lesser.ensures refl
 
 add-i : tie.Need-overflow_add-i invariant-loop decreases-loop
 add-i c = search rules
@@ -65,7 +65,7 @@ loop-less c = search rules
 loop-again : tie.Need-loop-i-preserved invariant-loop decreases-loop
 loop-again c =
     let l = c.before.before.before in
-    gathering_on l.loop-i.invariant (inside_at l) l.pre.0.size l.pre.1 l.lesser.ensures refl c.copy_at.ensures
+    gathering_on l.loop-i.invariant (inside_at l) l.requires.0.size l.requires.1 l.lesser.ensures refl c.copy_at.ensures
 
 same_length : tie.Need-shape_of-samples invariant-loop decreases-loop
 same_length c = search rules

@@ -18,7 +18,7 @@ mul-gather : tie.Need-overflow_mul-c
 mul-gather c = search rules
 
 gather-requires : tie.Need-gather-requires
-gather-requires c κs = (blocks_room c.pre (behind_length c.args.file.now), samples_room c.pre)
+gather-requires c κs = (blocks_room c.requires (behind_length c.args.file.now), samples_room c.requires)
 
 rebuild-levels-requires : tie.Need-rebuild_levels-requires
 rebuild-levels-requires c κs = search rules

@@ -34,8 +34,8 @@ sub-settled c = search rules
 
 settled-requires : tie.Need-settled-requires invariant-loop decreases-loop
 settled-requires c κs =
-    let few = blocks_few c.pre in
-    (omega (arith, c.loop-i.invariant.few, inside_at c, few), omega (arith, c.loop-i.invariant.survey.sum, c.loop-i.invariant.survey.inside, c.pre.samples, c.pre.few), omega (arith, few, c.blocks_for-k.ensures))
+    let few = blocks_few c.requires in
+    (omega (arith, c.loop-i.invariant.few, inside_at c, few), omega (arith, c.loop-i.invariant.survey.sum, c.loop-i.invariant.survey.inside, c.requires.samples, c.requires.few), omega (arith, few, c.blocks_for-k.ensures))
 
 same_length : tie.Need-shape_of-list-then-settled invariant-loop decreases-loop
 same_length c = search rules
@@ -47,7 +47,7 @@ returns c =
     (ap (λ (k : ℕ). most_numbers t.loop-i.run (k - t.loop-i.i)) t.blocks_for-k.ensures) (c.settled.ensures c.if-settled.true)
 
 mul_at : tie.Need-overflow_mul-at invariant-loop decreases-loop
-mul_at c = omega (arith, block_inside c.pre c.loop-i.inv (inside_at c), c.pre.few)
+mul_at c = omega (arith, block_inside c.requires c.loop-i.inv (inside_at c), c.requires.few)
 
 block-known-requires : tie.Need-block_known-requires invariant-loop decreases-loop
 block-known-requires c κs = let t = c.before in (bytes_few t.before.pre, inside_at t)
@@ -61,7 +61,7 @@ lesser-requires c κs = search rules
 step-requires : tie.Need-step-run-requires invariant-loop decreases-loop
 step-requires c κs =
     let t = c.before.before.before in
-    (on_room t.pre t.loop-i.inv (inside_at t), omega (arith, c.lesser.ensures, t.pre.few))
+    (on_room t.requires t.loop-i.inv (inside_at t), omega (arith, c.lesser.ensures, t.requires.few))
 
 add-i : tie.Need-overflow_add-i invariant-loop decreases-loop
 add-i c = let t = c.before.before.before.before.before.before in omega (arith, inside_at t, blocks_few t.before.pre)
@@ -83,7 +83,7 @@ same-length-2 c = search rules
 returns-2 : tie.Need-returns invariant-loop decreases-loop
 returns-2 c =
     let t = c.before.before in
-    surveyed t.pre t.loop-i.invariant (ends_at t) t.args.room c.close-last.ensures.0 c.close-last.ensures.1
+    surveyed t.requires t.loop-i.invariant (ends_at t) t.args.room c.close-last.ensures.0 c.close-last.ensures.1
 
 pub survey_blocks_spec : {M : Type 1} → statement M
 survey_blocks_spec =

@@ -21,14 +21,14 @@ slice-relend-prefix-put-file : tie.Need-slice_bounds-put_file-end
 slice-relend-prefix-put-file c = search rules
 
 slice-aggregate-put-file : tie.Need-slice_bounds-put_file-end-2
-slice-aggregate-put-file c = sym (length-take-le c.args.size c.args.output.now c.pre.room)
+slice-aggregate-put-file c = sym (length-take-le c.args.size c.args.output.now c.requires.room)
 
 slice-aggregate-put-file-2 : tie.Need-slice_bounds-put_file-end-3
-slice-aggregate-put-file-2 c = sym (length-take-le _ c.args.samples.now c.pre.stored)
+slice-aggregate-put-file-2 c = sym (length-take-le _ c.args.samples.now c.requires.stored)
 
 put-file-requires : tie.Need-put_file-requires
 put-file-requires c κs =
-    in_room c.pre c.heading_of-h.ensures (length-take-le c.args.size c.args.output.now c.pre.room) (length-take-le _ c.args.samples.now c.pre.stored)
+    in_room c.requires c.heading_of-h.ensures (length-take-le c.args.size c.args.output.now c.requires.room) (length-take-le _ c.args.samples.now c.requires.stored)
 
 same_length : tie.Need-shape_of-output
 same_length c = search rules

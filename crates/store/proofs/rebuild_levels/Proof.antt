@@ -104,7 +104,7 @@ unfolding level_of
 rebuild-chunks-requires c κs =
     let i = c.before in
     let e = more i in
-    (omega arith, chunks_at e _ _ (omega (arith, i.if-len-top.false, e.if-n-eq0.left)) (omega arith))
+    (omega arith, chunks_at e _ _ (omega (arith, i.if-len-top.false, e.if-n-eq0.false)) (omega arith))
 
 rebuild-above-requires : tie.Need-rebuild_above-second-requires
 unfolding level_of

@@ -1,5 +1,5 @@
 -- `summary::chunk_summary` meets its contract: part by part the range is gathered. Assumes nothing.
-use Prim.Native.Nat.{◌-◌, ◌<◌}
+use Prim.Native.Nat.{◌-◌}
 use native.Mathlib.Omega.{arith}
 use borrow.Author.Rules.{rules}
 use Rattle.node.specs.Memory.{as_node, level_of}

@@ -37,14 +37,14 @@ raw-node-requires c κs =
     let a = c.args in
     let e = end_inside a.pos a.b c.best_level-l.result c.span-s.result c.run_end-end.result c.requires.2 c.best_level-l.ensures c.span-s.ensures.0 c.run_end-end.ensures in
     let r = c.requires.0 in
-    range_in_lem a.unitsize a.base a.b _ a.pos c.run_end-end.result r.unit_size r.samples c.pre.1 e.0 e.1
+    range_in_lem a.unitsize a.base a.b _ a.pos c.run_end-end.result r.unit_size r.samples c.requires.1 e.0 e.1
 
 returns : tie.Need-returns-then-l-eq0
 returns c =
     let a = c.args in
     let e = end_inside a.pos a.b c.best_level-l.result c.span-s.result c.run_end-end.result c.requires.2 c.best_level-l.ensures c.span-s.ensures.0 c.run_end-end.ensures in
     part_run a.pos a.b c.best_level-l.result c.span-s.result c.run_end-end.result c.requires.2 c.best_level-l.ensures c.span-s.ensures.0 c.run_end-end.ensures (level_of a.l1.now a.l2.now a.l3.now a.l4.now) (part_sample a.unitsize a.part.now a.base) a.counted (as_node c.raw_node.result) c.if-l-eq0.true
-    (told_on a.counted _ _ _ c.raw_node.ensures (shift_node (sample_of a.unitsize a.part.now) a.base a.pos c.run_end-end.result c.pre.1 e.0))
+    (told_on a.counted _ _ _ c.raw_node.ensures (shift_node (sample_of a.unitsize a.part.now) a.base a.pos c.run_end-end.result c.requires.1 e.0))
 
 level-of-requires : tie.Need-level_of-level-requires
 level-of-requires c κs = search rules

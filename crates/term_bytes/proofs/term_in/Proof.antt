@@ -1,12 +1,6 @@
 -- `term_bytes::term_in` meets its contract. Assumes nothing.
-use mathlib.Core.Path.{◌≡◌}
-use mathlib.Core.Bool.{Bool, cond}
-use Prim.Native.Nat.{ℕ}
-use lib.Dec.{ltb}
 use borrow.Author.Rules.{rules}
 use borrow.Author.Tests.{lt-ltb, le-ltb}
-use Rattle.terms.specs.declared.Condition.{Condition}
-use Rattle.terms.specs.declared.TriggerTerm.{TriggerTerm}
 use Rattle.term_bytes.proofs.term_in.Statement.{statement}
 use Rattle.term_bytes.proofs.term_in.Tie as tie
 

@@ -1,12 +1,11 @@
 -- `term_bytes::terms_in` meets its contract: what is summed up, with what the rest of the bytes adds, stays the same. Assumes nothing.
-use mathlib.Core.Path.{◌≡◌, refl, sym, ap, ap₂, ◌∙◌}
-use Prim.Native.Nat.{ℕ, ◌+◌, ◌-◌, ◌≤◌}
+use mathlib.Core.Path.{◌≡◌, sym, ap, ◌∙◌}
+use Prim.Native.Nat.{◌+◌, ◌-◌, ◌≤◌}
 use native.Mathlib.Omega.{arith}
-use lib.ListN.{length, get_or}
+use lib.ListN.{length}
 use borrow.Author.Rules.{rules}
 use Rattle.terms.specs.declared.Terms.{Terms}
-use Rattle.terms.specs.declared.TriggerTerm.{TriggerTerm}
-use Rattle.terms.specs.Terms.{no_terms, with_term, terms_of}
+use Rattle.terms.specs.Terms.{with_term, terms_of}
 use Rattle.term_bytes.specs.Bytes.{terms_in}
 use Rattle.term_bytes.proofs.Fold.{more, more_none, more_last, more_two}
 use Rattle.term_bytes.proofs.terms_in.Statement.{statement}

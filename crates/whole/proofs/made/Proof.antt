@@ -14,7 +14,7 @@ use Rattle.whole.proofs.made.Tie as tie
 mul-a : tie.Need-overflow_mul-a
 mul-a c =
     let a = c.args in
-    omega (arith, number_small (store_of a.c) a.samples.now (level_of a.l1.now a.l2.now a.l3.now a.l4.now) a.level a.j c.pre)
+    omega (arith, number_small (store_of a.c) a.samples.now (level_of a.l1.now a.l2.now a.l3.now a.l4.now) a.level a.j c.requires)
 
 add-lesser : tie.Need-overflow_add-a
 add-lesser c =
@@ -27,7 +27,7 @@ lesser-requires c κs = search rules
 raw-node-requires : tie.Need-raw_node-requires
 raw-node-requires c κs =
     let a = c.args in
-    samples_room (store_of a.c) a.samples.now (level_of a.l1.now a.l2.now a.l3.now a.l4.now) a.level a.j c.pre c.lesser-e.result c.if-level-eq1.true c.lesser-e.ensures
+    samples_room (store_of a.c) a.samples.now (level_of a.l1.now a.l2.now a.l3.now a.l4.now) a.level a.j c.requires c.lesser-e.result c.if-level-eq1.true c.lesser-e.ensures
 
 returns : tie.Need-returns-then-level-eq1
 returns c =
@@ -57,16 +57,16 @@ level-of-requires c κs = search rules
 join-nodes-requires : tie.Need-join_nodes-requires
 join-nodes-requires c κs =
     let a = c.args in
-    let r = join_room (store_of a.c) a.samples.now (level_of a.l1.now a.l2.now a.l3.now a.l4.now) a.level a.j c.pre c.lesser-e-2.result c.level_of.result.now (omega (arith, c.pre.low, c.if-level-eq1.false)) (c.lesser-e-2.ensures ∙ ap (min (a.j * 32 + 32)) c.nodes_of.ensures) c.level_of.ensures in
+    let r = join_room (store_of a.c) a.samples.now (level_of a.l1.now a.l2.now a.l3.now a.l4.now) a.level a.j c.requires c.lesser-e-2.result c.level_of.result.now (omega (arith, c.requires.low, c.if-level-eq1.false)) (c.lesser-e-2.ensures ∙ ap (min (a.j * 32 + 32)) c.nodes_of.ensures) c.level_of.ensures in
     (r.0, record { few = omega (arith, c.lesser-e-2.ensures); room = r.1 })
 
 returns-2 : tie.Need-returns
 returns-2 c =
     let a = c.args in
     let e = c.lesser-e-2.ensures ∙ ap (min (a.j * 32 + 32)) c.nodes_of.ensures in
-    let h : 2 ≤ a.level = omega (arith, c.pre.low, c.if-level-eq1.false) in
+    let h : 2 ≤ a.level = omega (arith, c.requires.low, c.if-level-eq1.false) in
     made_below (sample_of a.c.unitsize a.samples.now) a.c.len (level_of a.l1.now a.l2.now a.l3.now a.l4.now) a.level a.j c.lesser-e-2.result c.level_of.result.now _ h
-    (join_room (store_of a.c) a.samples.now (level_of a.l1.now a.l2.now a.l3.now a.l4.now) a.level a.j c.pre c.lesser-e-2.result c.level_of.result.now h e c.level_of.ensures).0
+    (join_room (store_of a.c) a.samples.now (level_of a.l1.now a.l2.now a.l3.now a.l4.now) a.level a.j c.requires c.lesser-e-2.result c.level_of.result.now h e c.level_of.ensures).0
     e c.level_of.ensures c.join_nodes.ensures
 
 pub made_spec : {M : Type 1} → statement M

@@ -19,7 +19,7 @@ level-of-requires c κs = search rules
 node-in-requires : tie.Need-node_in-kept-requires
 node-in-requires c κs =
     let a = c.args in
-    subst (λ (l : List ℕ). a.j * node_size + node_size ≤ length l) (sym c.level_of.ensures) (node_room (store_of a.c) (lent_of a.samples.now (level_of a.l1.now a.l2.now a.l3.now a.l4.now)) c.pre.sound a.level a.j c.pre.low c.pre.high c.pre.covers)
+    subst (λ (l : List ℕ). a.j * node_size + node_size ≤ length l) (sym c.level_of.ensures) (node_room (store_of a.c) (lent_of a.samples.now (level_of a.l1.now a.l2.now a.l3.now a.l4.now)) c.requires.sound a.level a.j c.requires.low c.requires.high c.requires.covers)
 
 made-requires : tie.Need-made-requires
 made-requires c κs = c.requires

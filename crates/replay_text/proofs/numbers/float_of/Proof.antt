@@ -1,8 +1,7 @@
 -- `recorded::numbers::float_of` meets its contract: a pattern above the infinity's, its sign taken off, is a NaN's. Assumes nothing.
-use mathlib.Core.Path.{◌≡◌, refl, sym, ◌∙◌, ap}
-use mathlib.Core.Bool.{true, not}
-use lib.Dec.{T}
-use lib.Ieee.{Float, inf, fin, div, binary64, nan, is_nan, of_bits, nan_bits}
+use mathlib.Core.Path.{◌≡◌, refl, sym, ◌∙◌}
+use mathlib.Core.Bool.{true}
+use lib.Ieee.{Float, inf, fin, div, binary64, nan, is_nan, of_bits}
 use lib.Ieee.Bits.{nan_bits_is, nan_bits_above}
 use borrow.Author.Tests.{lt-ltb, le-ltb}
 use borrow.Author.Rules.{rules}

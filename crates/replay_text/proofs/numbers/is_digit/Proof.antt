@@ -1,6 +1,5 @@
 -- `recorded::numbers::is_digit` meets its contract. Assumes nothing.
 use borrow.Author.Tests.{le-leb, lt-leb}
-use borrow.Author.Rules.{rules}
 use Rattle.replay_text.specs.Numbers.{is_digit}
 use Rattle.replay_text.proofs.numbers.is_digit.Statement.{statement}
 use Rattle.replay_text.proofs.numbers.is_digit.Tie as tie

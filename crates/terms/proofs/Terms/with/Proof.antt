@@ -1,5 +1,5 @@
 -- `terms::Terms::with` meets its contract: a line above the highest, and any other. Assumes nothing.
-use mathlib.Core.Path.{◌≡◌, ap, ◌∙◌}
+use mathlib.Core.Path.{ap, ◌∙◌}
 use borrow.Author.Rules.{rules}
 use Rattle.terms.specs.Terms.{with_line}
 use Rattle.terms.proofs.Fold.{with_wrong, with_line_lem}
