@@ -49,11 +49,6 @@ impl Tie {
 }
 
 impl Card {
-    /// Whether there is nothing to keep in it.
-    pub fn is_empty(&self) -> bool {
-        *self == Card::default()
-    }
-
     /// This, and what another says where this one does not. Comments and unknown stretches are of one file, and stay there.
     pub fn over(mut self, other: &Card) -> Card {
         self.rate = self.rate.or(other.rate);

@@ -11,8 +11,6 @@ pub enum Outcome {
     No,
     /// The answer rests on samples that nobody knows.
     Unknown,
-    /// The capacity was full, and the rest is left out.
-    Full,
 }
 
 impl Outcome {
@@ -30,7 +28,6 @@ impl Outcome {
             Outcome::Yes => 0,
             Outcome::No => 1,
             Outcome::Unknown => 3,
-            Outcome::Full => 4,
         }
     }
 }

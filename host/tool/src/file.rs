@@ -1,13 +1,12 @@
 //! Captures are loaded from files.
 
 use crate::args::Args;
-use crate::commands::only_with;
 use crate::failure::Failure;
 use crate::note;
 use crate::number;
 use crate::source::Source;
 use crate::sum::{Sum, Summed};
-use capture::{Capture, ReadError, Refusal, Said, MOST_SAMPLES};
+use capture::{Capture, ReadError, Refusal, MOST_SAMPLES};
 
 /// Bytes of raw samples that are read at once, whole samples of either unit.
 const PART: usize = 1 << 20;
@@ -25,10 +24,9 @@ pub fn load(
     source: &mut Source,
     sum: Option<&mut Sum>,
 ) -> Result<Capture, Failure> {
-    only_with(args, "--unit", &["--raw"])?;
     match args.read_value("--unit", number::unit)? {
         Some(unit) => {
-            let bytes = raw_bytes(source, unit, args.flag("--raw"))?;
+            let bytes = raw_bytes(source, unit)?;
             sum.into_iter().for_each(|sum| sum.add(&bytes));
             load_raw(command, source, unit, &bytes)
         }
@@ -61,21 +59,14 @@ fn load_shelf(
     })
 }
 
-/// What is said of a shelf file that is given as raw samples.
-pub const IS_SHELF: &str =
-    "it begins as a shelf file does: leave --unit away, or add --raw to read it as samples";
-
-/// The bytes of raw samples. Those that begin as a shelf file does are one by mistake, if --raw does not say otherwise.
-fn raw_bytes(source: &mut Source, unit: usize, raw: bool) -> Result<Vec<u8>, Failure> {
+/// The bytes of raw samples.
+fn raw_bytes(source: &mut Source, unit: usize) -> Result<Vec<u8>, Failure> {
     let mut bytes = Vec::new();
     loop {
         let read = bytes.len();
         bytes.resize(read + PART, 0);
         let count = source.full(&mut bytes[read..])?;
         bytes.truncate(read + count);
-        if !raw && Said::of(&bytes).is_ok() {
-            return Err(source.bad(IS_SHELF));
-        }
         if bytes.len() / unit > MOST_SAMPLES {
             return Err(source.bad(&format!("more than {MOST_SAMPLES} samples")));
         }

@@ -15,10 +15,6 @@ pub const DRIVE_STARTS: usize = 700_000;
 /// The lines of the turner's encoder that turn with it, A and B.
 pub const TURNER_ENCODER: [u8; 2] = [11, 12];
 
-/// The encoders: their names, lines A and B, and steps of a turn.
-pub const ENCODERS: [(&str, [u8; 2], usize); 2] =
-    [("turner", TURNER_ENCODER, TURN), ("chain", [8, 9], CHAIN_TURN)];
-
 /// The lines' names.
 pub const NAMES: [&str; 16] = [
     "head 1 laser",

@@ -8,7 +8,7 @@ use crate::failure::{bad, Failure};
 use crate::names::Names;
 use crate::reader::{from_first, Place, Reader};
 use crate::source::Source;
-use crate::stretches::unknown_in;
+use crate::stretches::{joined, unknown_in, List};
 use crate::sum::Sum;
 use crate::told::Told;
 use crate::{file, number};
@@ -18,13 +18,8 @@ use std::io::ErrorKind;
 use std::path::Path;
 
 /// The options of every command that reads a capture.
-pub const OPTIONS: [Known; 5] = [
-    ("--unit", Takes::Value),
-    ("--raw", Takes::Nothing),
-    ("--card", Takes::Value),
-    ("--no-card", Takes::Nothing),
-    ("--rate", Takes::Value),
-];
+pub const OPTIONS: [Known; 3] =
+    [("--unit", Takes::Value), ("--card", Takes::Value), ("--no-card", Takes::Nothing)];
 
 pub struct Given {
     pub capture: Capture,
@@ -32,8 +27,10 @@ pub struct Given {
     pub card: Card,
     /// What its card is tied by, where that was asked for.
     pub tie: Option<Tie>,
-    /// The name under which the file was given.
-    pub name: String,
+    /// Whether it has a card of its own.
+    pub has_card: bool,
+    /// What is unknown of it where --stretches names a list: the list's stretches, and the card's.
+    pub listed: Option<Vec<Stretch>>,
 }
 
 impl Given {
@@ -55,22 +52,26 @@ impl Given {
             (true, Failure::Bad(_)) => bad("the card cannot be read, or is of another file"),
             (_, failure) => failure,
         };
+        let list = List::asked(args)?;
         let papers = Papers::asked(args, file).map_err(said)?;
-        let mut sum = (begun || papers.own.is_some()).then(Sum::new);
+        let has_card = papers.has_own();
+        let mut sum = (begun || has_card).then(Sum::new);
         let mut source = Source::open(file)?;
-        let name = source.name.clone();
         let capture = file::load(command, args, &mut source, sum.as_mut())?;
+        let list = list.map(|list| list.of(&capture)).transpose()?;
         let sum = sum.map(|sum| sum.number());
         let mut card = papers.card(&capture, sum, begun).map_err(said)?;
         card.rate = rate.or(card.rate);
         let tie = sum.map(|sum| Tie::new(&capture, sum));
-        Ok(Given { capture, card, tie, name })
+        let listed = list.map(|list| joined(&list, &card.unknown));
+        Ok(Given { capture, card, tie, has_card, listed })
     }
 
     /// Who asks, and what they may know.
     pub fn asked(&self, args: &Args) -> Result<Asked<'_>, Failure> {
         let reader = Reader::asked(args, &self.capture, &self.card.names)?;
-        Ok(Asked::new(reader, &self.card))
+        let asked = Asked::new(reader, &self.card);
+        Ok(Asked { has_card: self.has_card, listed: self.listed.as_deref(), ..asked })
     }
 }
 
@@ -82,6 +83,10 @@ pub struct Asked<'a> {
     pub names: Names,
     pub encoders: Encoders,
     unknown: &'a [Stretch],
+    /// Whether there is a card of the capture's own.
+    pub has_card: bool,
+    /// Those of a list, where one is named.
+    pub listed: Option<&'a [Stretch]>,
 }
 
 impl<'a> Asked<'a> {
@@ -91,18 +96,18 @@ impl<'a> Asked<'a> {
             Reader::Service(_) => (names.clone(), encoders.clone()),
             Reader::Mill(mill) => (names.within(mill.grant()), encoders.within(mill.grant())),
         };
-        Asked { reader, rate: *rate, names, encoders, unknown }
+        Asked { reader, rate: *rate, names, encoders, unknown, has_card: false, listed: None }
     }
 
     /// The unknown stretches. A mill is not given them.
     pub fn stretches(&self) -> &'a [Stretch] {
         match self.reader {
-            Reader::Service(_) => self.unknown,
+            Reader::Service(_) => self.listed.unwrap_or(self.unknown),
             Reader::Mill(_) => &[],
         }
     }
 
-    /// What is told of the samples from place `a` up to `b`. A mill is told the same wherever it looks: it could find out
+    /// What the card tells of the samples from place `a` up to `b`. A mill is told the same wherever it looks: it could find out
     /// where stretches begin and end.
     pub fn told(&self, a: Place, b: Place) -> Told {
         match self.reader {
@@ -110,10 +115,7 @@ impl<'a> Asked<'a> {
             Reader::Mill(_) => Told::Word,
             Reader::Service(capture) => {
                 let [a, b] = [a, b].map(|place| from_first(place).min(capture.len()));
-                match unknown_in(self.unknown, a, b) {
-                    0 => Told::Nothing,
-                    count => Told::Count(count),
-                }
+                Told::of(unknown_in(self.unknown, a, b))
             }
         }
     }
@@ -140,7 +142,9 @@ impl Papers {
         }
         let folder = if file == "-" { None } else { folder_card(Path::new(file))? };
         let own = match args.path("--card") {
-            Some(path) if path == "-" && file == "-" => {
+            Some(path)
+                if path == "-" && (file == "-" || args.path("--stretches") == Some(path)) =>
+            {
                 return Err(bad("--card -: standard input is taken; name a file"));
             }
             Some(path) => Some(Paper::read(Source::open(path)?)?),
@@ -161,8 +165,13 @@ impl Papers {
     }
 
     /// What they say of a damaged file, of which this was salvaged: unit, length and mark are all that its card is held against.
-    pub fn of_damaged(self, salvaged: &Capture) -> Result<Card, Failure> {
-        self.own.map_or_else(|| Ok(Card::default()), |own| own.of(salvaged, None))
+    pub fn of_damaged(self, salvaged: &Capture) -> Result<Option<Card>, Failure> {
+        self.own.map(|own| own.of(salvaged, None)).transpose()
+    }
+
+    /// Whether the file has a card of its own.
+    pub fn has_own(&self) -> bool {
+        self.own.is_some()
     }
 }
 

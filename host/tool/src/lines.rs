@@ -1,6 +1,6 @@
 //! Lines as people write them.
 
-use crate::names::{self, Names};
+use crate::names::Names;
 use capture::Lines;
 
 /// All lines that samples of a unit have.
@@ -32,7 +32,7 @@ pub fn read(text: &str, unit: usize, names: &Names) -> Result<Vec<u8>, String> {
     for part in text.split(',') {
         let is_range = part.bytes().all(|byte| byte.is_ascii_digit() || byte == b'-');
         let (first, last) = match part.split_once('-') {
-            Some(ends) if is_range => ends,
+            Some(ends) if is_range || names.is_empty() => ends,
             _ => (part, part),
         };
         let line = |text| read_line(text, unit, names);
@@ -50,7 +50,7 @@ pub fn read_name(text: &str, unit: usize) -> Result<(u8, String), String> {
     let Some((line, name)) = text.split_once('=') else {
         return Err(format!("'{text}' is no name such as 3=turner"));
     };
-    Ok((read_line(line, unit, &Names::default())?, names::read(name)?))
+    Ok((read_line(line, unit, &Names::default())?, name.to_string()))
 }
 
 pub fn mask(lines: &[u8]) -> Lines {
@@ -129,7 +129,6 @@ mod tests {
         }
         assert_eq!(read("0,3-2", 1).unwrap_err(), "'3-2' runs backward");
         assert_eq!(read_name("3", 1).unwrap_err(), "'3' is no name such as 3=turner");
-        assert_eq!(read_name("3=4", 1).unwrap_err(), "'4' is no name: it reads as lines");
     }
 
     #[test]

@@ -115,7 +115,8 @@ fn overview(out: &mut dyn Write) -> Result<Outcome, Failure> {
         out,
         "Records, searches and draws captures of digital lines.\n\nlogic-capture COMMAND ..\n"
     )?;
-    for command in &COMMANDS {
+    // The text below tells of cards.
+    for command in COMMANDS.iter().filter(|command| command.name != "card") {
         writeln!(out, "  {:<8} {}", command.name, command.about)?;
     }
     out.write_all(include_bytes!("help/overview.txt"))?;

@@ -2,21 +2,17 @@
 
 use crate::failure::{Failure, Outcome};
 use crate::given::Asked;
-use crate::reader::{Place, Reader};
+use crate::lines;
+use crate::reader::Reader;
 use crate::stretches::known_node;
-use crate::{lines, time};
 use capture::Lines;
 use std::io::Write;
 
-/// Prints them, one a line, as far as the reader may know them. Behind a place stands its time, where there is a rate.
+/// Prints them, one a line, as far as the reader may know them. Behind a line stands its name, where a card has one.
 pub fn print(asked: &Asked, out: &mut dyn Write) -> Result<Outcome, Failure> {
     let Asked { reader, rate, names, .. } = asked;
     let (first, end) = (reader.first(), reader.end());
     let samples = end - first;
-    let timed = |place: Place| {
-        let time = rate.map(|rate| format!(" {}", time::written(place, rate)));
-        format!("{place}{}", time.unwrap_or_default())
-    };
     match reader {
         Reader::Service(_) => {
             writeln!(out, "unit {}", reader.unit())?;
@@ -25,11 +21,11 @@ pub fn print(asked: &Asked, out: &mut dyn Write) -> Result<Outcome, Failure> {
         Reader::Mill(mill) => {
             writeln!(out, "grant {}", lines::written(mill.grant(), names))?;
             writeln!(out, "samples {samples}")?;
-            writeln!(out, "first {}", timed(first))?;
-            writeln!(out, "end {}", timed(end))?;
+            writeln!(out, "first {first}")?;
+            writeln!(out, "end {end}")?;
         }
     }
-    writeln!(out, "mark {}", or_dash(reader.mark().map(timed)))?;
+    writeln!(out, "mark {}", or_dash(reader.mark()))?;
     writeln!(out, "rate {}", or_dash(*rate))?;
     let seconds = rate.map(|rate| samples as f64 / rate as f64);
     writeln!(out, "seconds {}", or_dash(seconds))?;

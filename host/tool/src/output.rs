@@ -1,7 +1,6 @@
 //! Where a file is written to.
 
 use crate::failure::{bad, Failure};
-use crate::given;
 use std::ffi::OsStr;
 use std::fs::{self, File};
 use std::io::{self, BufWriter, Write};
@@ -54,19 +53,14 @@ impl Output {
     }
 }
 
-/// A capture's plain file, and the card beside it.
-pub struct Carded {
-    file: Target,
-    card: CardOf,
-}
-
-/// The card beside a file that is to be written.
+/// A plain file, and what tells of it, beside it under its name with an ending: a list, and where there is one, a card.
 ///
-/// Both are whole and on the disk before either is moved into its place, and the old card is moved aside first: whatever
-/// happens, no card stands beside a file that it does not tell of.
-pub struct CardOf {
-    /// None where the file's card would be the folder's.
-    target: Option<Target>,
+/// All are whole and on the disk before any is moved into its place, and the old list and the old card are moved aside first:
+/// whatever happens, no list stands beside a file that it does not tell of, and no new card.
+pub struct Listed {
+    file: Target,
+    list: Target,
+    card: Option<Target>,
 }
 
 /// A file to be written beside its place, and its name.
@@ -75,47 +69,50 @@ struct Target {
     beside: Beside,
 }
 
-impl Carded {
-    pub fn open(path: &OsStr) -> Result<Carded, Failure> {
-        Ok(Carded { file: Target::open(path)?, card: CardOf::open(path)? })
+impl Listed {
+    pub fn open(path: &OsStr, ending: &str) -> Result<Listed, Failure> {
+        let mut list = path.to_os_string();
+        list.push(ending);
+        Ok(Listed { file: Target::open(path)?, list: Target::open(&list)?, card: None })
+    }
+
+    /// With a card of this name too.
+    pub fn carded(self, card: &OsStr) -> Result<Listed, Failure> {
+        Ok(Listed { card: Some(Target::open(card)?), ..self })
     }
 
     pub fn write(
         self,
         file: impl FnOnce(&mut dyn Write) -> io::Result<()>,
+        list: impl FnOnce(&mut dyn Write) -> io::Result<()>,
+    ) -> Result<(), Failure> {
+        self.write_all(file, list, |_| Ok(()))
+    }
+
+    /// Writes the card too, where there is one.
+    pub fn write_all(
+        self,
+        file: impl FnOnce(&mut dyn Write) -> io::Result<()>,
+        list: impl FnOnce(&mut dyn Write) -> io::Result<()>,
         card: impl FnOnce(&mut dyn Write) -> io::Result<()>,
     ) -> Result<(), Failure> {
         self.file.said(self.file.beside.write(file))?;
-        self.card.write(Some(card), || self.file.put())
-    }
-}
-
-impl CardOf {
-    /// The card of the file with this name.
-    pub fn open(file: &OsStr) -> Result<CardOf, Failure> {
-        let target = given::beside(file).map(|path| Target::open(&path)).transpose()?;
-        Ok(CardOf { target })
-    }
-
-    /// Puts the file into its place, and behind it the card, if there is one: an old card goes either way.
-    pub fn write(
-        self,
-        card: Option<impl FnOnce(&mut dyn Write) -> io::Result<()>>,
-        put: impl FnOnce() -> Result<(), Failure>,
-    ) -> Result<(), Failure> {
-        let Some(target) = self.target else { return put() };
-        let is_new = card.is_some();
-        card.map_or(Ok(()), |card| target.said(target.beside.write(card)))?;
-        let aside = target.said(target.beside.set_aside())?;
-        if let Err(failure) = put() {
-            // The old file is still there. Where its card cannot be put back, there is one failure to tell all the same.
-            let _ = aside.map(Beside::put);
+        self.list.said(self.list.beside.write(list))?;
+        if let Some(target) = &self.card {
+            target.said(target.beside.write(card))?;
+        }
+        let tell = [Some(self.list), self.card];
+        let mut aside = Vec::new();
+        let moved = tell.iter().flatten().try_for_each(|target| {
+            aside.extend(target.said(target.beside.set_aside())?);
+            Ok(())
+        });
+        if let Err(failure) = moved.and_then(|()| self.file.put()) {
+            // The old file is still there. Where what tells of it cannot be put back, there is one failure to tell all the same.
+            aside.into_iter().for_each(|old| drop(old.put()));
             return Err(failure);
         }
-        if is_new {
-            target.put()?;
-        }
-        Ok(())
+        tell.into_iter().flatten().try_for_each(Target::put)
     }
 }
 
@@ -243,29 +240,61 @@ mod tests {
     use std::env;
 
     #[test]
+    fn a_file_that_cannot_be_moved_leaves_the_old_list() {
+        let folder = env::temp_dir().join(format!("logic-capture-listed-{}", process::id()));
+        let _ = fs::remove_dir_all(&folder);
+        fs::create_dir(&folder).unwrap();
+        let (file, list) = (folder.join("a"), folder.join("a.list"));
+        fs::write(&list, "old").unwrap();
+        let written = |text: &'static [u8]| move |to: &mut dyn Write| to.write_all(text);
+
+        let output = Listed::open(file.as_os_str(), ".list").unwrap();
+        fs::create_dir(&file).unwrap();
+        let failure = output.write(written(b"file"), written(b"list")).unwrap_err();
+        assert_eq!(failure, bad(format!("{}: Is a directory (os error 21)", file.display())));
+        assert_eq!(fs::read(&list).unwrap(), b"old");
+        assert_eq!(fs::read_dir(&folder).unwrap().count(), 2);
+
+        fs::remove_dir(&file).unwrap();
+        let output = Listed::open(file.as_os_str(), ".list").unwrap();
+        output.write(written(b"file"), written(b"list")).unwrap();
+        assert_eq!(
+            (fs::read(&file).unwrap(), fs::read(&list).unwrap()),
+            (b"file".into(), b"list".into())
+        );
+        assert_eq!(fs::read_dir(&folder).unwrap().count(), 2);
+        fs::remove_dir_all(&folder).unwrap();
+    }
+
+    #[test]
     fn a_file_that_cannot_be_moved_leaves_the_old_card() {
         let folder = env::temp_dir().join(format!("logic-capture-carded-{}", process::id()));
         let _ = fs::remove_dir_all(&folder);
         fs::create_dir(&folder).unwrap();
         let (file, card) = (folder.join("a"), folder.join("a.card"));
         fs::write(&card, "old").unwrap();
+        let open = || {
+            let listed = Listed::open(file.as_os_str(), ".list").unwrap();
+            listed.carded(card.as_os_str()).unwrap()
+        };
         let written = |text: &'static [u8]| move |to: &mut dyn Write| to.write_all(text);
 
-        let output = Carded::open(file.as_os_str()).unwrap();
+        let output = open();
         fs::create_dir(&file).unwrap();
-        let failure = output.write(written(b"file"), written(b"card")).unwrap_err();
+        let failure = output.write_all(written(b"file"), written(b"list"), written(b"card"));
+        let failure = failure.unwrap_err();
         assert_eq!(failure, bad(format!("{}: Is a directory (os error 21)", file.display())));
         assert_eq!(fs::read(&card).unwrap(), b"old");
         assert_eq!(fs::read_dir(&folder).unwrap().count(), 2);
 
         fs::remove_dir(&file).unwrap();
-        let output = Carded::open(file.as_os_str()).unwrap();
-        output.write(written(b"file"), written(b"card")).unwrap();
+        let output = open();
+        output.write_all(written(b"file"), written(b"list"), written(b"card")).unwrap();
         assert_eq!(
             (fs::read(&file).unwrap(), fs::read(&card).unwrap()),
             (b"file".into(), b"card".into())
         );
-        assert_eq!(fs::read_dir(&folder).unwrap().count(), 2);
+        assert_eq!(fs::read_dir(&folder).unwrap().count(), 3);
         fs::remove_dir_all(&folder).unwrap();
     }
 }

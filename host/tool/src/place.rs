@@ -8,7 +8,7 @@ use crate::reader::{Place, Reader};
 use crate::time;
 use capture::Refusal;
 
-const FORM: &str = "a place is a number, a time, mark or end, as in 1000, 100ms or mark+10";
+const FORM: &str = "a place is a number, mark or end, as in mark+10";
 
 /// The place behind an option.
 pub fn asked(args: &Args, name: &'static str, asked: &Asked) -> Result<Option<Place>, Failure> {
@@ -19,15 +19,15 @@ pub fn asked(args: &Args, name: &'static str, asked: &Asked) -> Result<Option<Pl
 /// may be negative.
 fn read(text: &str, reader: &Reader, rate: Option<u64>) -> Result<Place, String> {
     let place = if let Some(rest) = text.strip_prefix("mark") {
-        let mark = reader.mark().ok_or("this capture has no mark");
-        offset(rest, rate).and_then(|offset| Ok(mark? + offset))?
+        reader.mark().ok_or("this capture has no mark")? + offset(rest, rate)?
     } else if let Some(rest) = text.strip_prefix("end") {
         reader.end() + offset(rest, rate)?
     } else {
         match (reader, text.strip_prefix('-')) {
-            (Reader::Mill(_), Some(text)) => -count(text, rate)?,
-            _ => count(text, rate)?,
+            (Reader::Mill(_), Some(text)) => count(text, rate).map(|count| -count),
+            _ => count(text, rate),
         }
+        .map_err(|what| if what == NO_NUMBER { FORM.into() } else { what })?
     };
     if place > reader.most() {
         return Err("too far".into());
@@ -57,16 +57,18 @@ fn count(text: &str, rate: Option<u64>) -> Result<Place, String> {
     match (rate, number::whole(text)) {
         (_, Ok(number)) => Ok(number as Place),
         (Some(rate), _) if is_time && time::split(text).is_some() => {
-            time::samples(text, rate).unwrap_or_else(|| Err(FORM.into()))
+            time::samples(text, rate).unwrap_or_else(|| Err(NO_NUMBER.into()))
         }
         (None, _) if is_time && time::split(text).is_some() => Err(NO_RATE.into()),
-        (_, Err(what)) if what == "not a whole number" => Err(FORM.into()),
         (_, Err(what)) => Err(what),
     }
 }
 
+/// What [`number::whole`] says of other text.
+const NO_NUMBER: &str = "not a whole number";
+
 /// What is said where a time is asked for and there is no rate.
-pub const NO_RATE: &str = "times need a rate: --rate HZ, or a card that has one";
+const NO_RATE: &str = "times need a rate: a card that has one, or --rate HZ where that is taken";
 
 #[cfg(test)]
 mod tests {
@@ -146,7 +148,7 @@ mod tests {
             ("marks", FORM),
             ("mark*2", FORM),
             ("mark€", FORM),
-            ("mark+", FORM),
+            ("mark+", "not a whole number"),
             ("mark-8", "before the first sample"),
             ("mark+18446744073709551615", "too far"),
             ("18446744073709551616", "above 18446744073709551615"),
@@ -178,7 +180,7 @@ mod tests {
         assert_eq!(read_at("1.2.3s", &service, Some(1000)).unwrap_err(), "not a time");
         for text in ["apples", "ms", "-1ms", "marks", "mark+ms", "1 ms"] {
             let what = read_at(text, &service, Some(1000)).unwrap_err();
-            assert!(what == FORM || what == "not a time", "{text} {what}");
+            assert!(what == FORM || what == NO_NUMBER || what == "not a time", "{text} {what}");
         }
     }
 }

@@ -2,12 +2,15 @@
 //! stored.
 
 use crate::args::Args;
-use crate::commands::exclude;
+use crate::commands::{exclude, only_with};
 use crate::failure::{bad, Failure};
 use crate::given::Asked;
 use crate::reader::{from_first, Place, Reader};
 use crate::stretches::known_runs;
 use capture::{Capture, Counted, Lines, Refusal, Stretch};
+
+/// The changes that may be asked for.
+const WAYS: [&str; 3] = ["--certain", "--possible", "--stored"];
 
 pub struct Search<'a> {
     asked: &'a Asked<'a>,
@@ -27,22 +30,36 @@ struct Across<'a> {
 }
 
 impl<'a> Search<'a> {
-    /// As --possible and --stored ask; without them for certain changes.
-    pub fn asked(args: &Args, asked: &'a Asked<'a>) -> Result<Search<'a>, Failure> {
-        let ways = ["--certain", "--possible", "--stored"];
-        for (at, one) in ways.iter().enumerate() {
-            ways[..at].iter().try_for_each(|other| exclude(args, other, one))?;
+    /// What is refused of the words alone.
+    pub fn usage(args: &Args) -> Result<(), Failure> {
+        for (at, one) in WAYS.iter().enumerate() {
+            WAYS[..at].iter().try_for_each(|other| exclude(args, other, one))?;
         }
         // Nodes are counted of stored changes alone.
-        ways[..2].iter().try_for_each(|way| exclude(args, way, "--read"))?;
-        let stretches = asked.stretches();
+        ["--read", "--stored"].iter().try_for_each(|other| exclude(args, "--stretches", other))?;
+        if args.flag("--stretches") && !args.flag("--certain") && !args.flag("--possible") {
+            return Err(bad("--stretches goes with --certain or --possible"));
+        }
+        Ok(())
+    }
+
+    /// As --certain, --possible and --stored ask; without them for changes that are certain by the card. Only a capture that
+    /// has a card, or is given a list, can have unknown samples.
+    pub fn asked(args: &Args, asked: &'a Asked<'a>) -> Result<Search<'a>, Failure> {
         let capture = match asked.reader {
-            Reader::Service(capture) => capture,
-            Reader::Mill(_) if ways[..2].iter().any(|way| args.flag(way)) => {
-                return Err(bad("--grant: unknown stretches are not given to mills"));
+            Reader::Service(capture) if asked.has_card => capture,
+            Reader::Service(capture) => {
+                only_with(args, "--stretches", &WAYS[..2])?;
+                capture
             }
-            Reader::Mill(_) => return Ok(Search { asked, across: None }),
+            // A mill is not told whether there is a card.
+            Reader::Mill(_) => {
+                only_with(args, "--stretches", &WAYS[..2])?;
+                return Ok(Search { asked, across: None });
+            }
         };
+        WAYS[..2].iter().try_for_each(|way| exclude(args, way, "--read"))?;
+        let stretches = asked.stretches();
         if stretches.is_empty() || args.flag("--stored") {
             return Ok(Search { asked, across: None });
         }

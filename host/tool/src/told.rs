@@ -15,6 +15,14 @@ pub enum Told {
 }
 
 impl Told {
+    /// Of so many unknown samples.
+    pub fn of(count: usize) -> Told {
+        match count {
+            0 => Told::Nothing,
+            _ => Told::Count(count),
+        }
+    }
+
     /// The word, if there is anything to tell.
     pub fn word(self) -> Option<String> {
         match self {

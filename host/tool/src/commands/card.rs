@@ -6,7 +6,7 @@ use crate::card::Card;
 use crate::encoders::{self, Named};
 use crate::failure::{bad, Failure, Outcome};
 use crate::given::{beside, Given};
-use crate::names::Names;
+use crate::names;
 use crate::output::Output;
 use crate::{lines, told::Told};
 use capture::{Capture, Encoder, Lines};
@@ -19,6 +19,8 @@ pub const COMMAND: Command = Command {
     options: &[
         ("--name", Takes::Values),
         ("--encoder", Takes::Values),
+        ("--rate", Takes::Value),
+        ("--stretches", Takes::Value),
         ("--write", Takes::Nothing),
         ("--grant", Takes::Refused("a card tells of all lines, and is not given to mills")),
     ],
@@ -29,11 +31,10 @@ pub const COMMAND: Command = Command {
 fn run(args: &Args, out: &mut dyn Write) -> Result<Outcome, Failure> {
     let given = Given::to_be_tied("card", args)?;
     let asked = given.asked(args)?;
-    let told = asked.told_of_all();
     let Given { capture, card, tie, .. } = &given;
-    let card = options(args, Card::default())?.over(card);
-    let card =
-        Card { unknown: given.card.unknown.clone(), comments: given.card.comments.clone(), ..card };
+    let unknown = asked.stretches().to_vec();
+    let told = Told::of(unknown.iter().map(|stretch| stretch.count).sum());
+    let card = Card { unknown, comments: card.comments.clone(), ..options(args, card)?.over(card) };
     let tie = tie.as_ref().ok_or_else(|| bad("no sum was made"))?;
     let totals = totals(capture, &card, told)?;
     if args.flag("--write") {
@@ -50,16 +51,17 @@ fn run(args: &Args, out: &mut dyn Write) -> Result<Outcome, Failure> {
     Ok(if rests { told.outcome(Outcome::Yes) } else { Outcome::Yes })
 }
 
-/// What the options --name and --encoder say.
-pub fn options(args: &Args, names_of: Card) -> Result<Card, Failure> {
+/// What the options --name and --encoder say; lines of an encoder may have names that are known.
+fn options(args: &Args, known: &Card) -> Result<Card, Failure> {
     let mut card = Card::default();
     for text in args.texts("--name") {
         let text = text?;
         let named = lines::read_name(text, Lines::BITS as usize / 8);
+        let named = named.and_then(|(line, name)| Ok((line, names::read(&name)?)));
         let (line, name) = named.map_err(|what| bad(format!("--name {text}: {what}")))?;
         card.names.put(line, name);
     }
-    let names: Names = card.clone().over(&names_of).names;
+    let names = card.clone().over(known).names;
     for text in args.texts("--encoder") {
         let text = text?;
         let encoder = encoders::read(text, &names);

@@ -18,8 +18,10 @@ pub const COMMAND: Command = Command {
         ("--to", Takes::Value),
         ("--total", Takes::Nothing),
         ("--times", Takes::Nothing),
+        ("--rate", Takes::Value),
         ("--hex", Takes::Nothing),
         ("--bits", Takes::Nothing),
+        ("--stretches", Takes::Value),
         ("--certain", Takes::Nothing),
         ("--possible", Takes::Nothing),
         ("--stored", Takes::Nothing),
@@ -28,6 +30,7 @@ pub const COMMAND: Command = Command {
     reads: true,
     run: |args, out| {
         exclude(args, "--total", "--times")?;
+        Search::usage(args)?;
         let given = Given::load("changes", args)?;
         let asked = given.asked(args)?;
         let reader = &asked.reader;

@@ -3,11 +3,8 @@
 use super::Command;
 use crate::args::{Args, Takes};
 use crate::card::Card;
-use crate::encoders::Named;
 use crate::failure::{bad, Failure, Outcome};
-use crate::frame::{
-    self, DRIVE, DRIVE_STARTS, ENCODERS, NAMES, RATE, SAMPLES, TURN, TURNER_ENCODER,
-};
+use crate::frame::{self, DRIVE, DRIVE_STARTS, NAMES, RATE, SAMPLES, TURN, TURNER_ENCODER};
 use crate::given::Asked;
 use crate::names::Names;
 use crate::output::Output;
@@ -47,7 +44,6 @@ fn run(args: &Args, out: &mut dyn Write) -> Result<Outcome, Failure> {
         return Err(bad("the demonstration reads no file; -o FILE saves its capture"));
     }
     let (output, raw) = (file_behind(args, "--output")?, file_behind(args, "--raw")?);
-    let card = card();
 
     let samples: Vec<Lines> = (0..SAMPLES).map(frame::sample).collect();
     let bytes: Vec<u8> = samples.iter().flat_map(|sample| sample.to_le_bytes()).collect();
@@ -63,6 +59,7 @@ fn run(args: &Args, out: &mut dyn Write) -> Result<Outcome, Failure> {
     writeln!(out, "A scanner frame: four heads, two encoders and a log turner on 16 lines.")?;
     writeln!(out, "{SAMPLES} samples went by in pushes of {PUSH}. The recorder waited for the turner's drive,")?;
     writeln!(out, "{DRIVE}=rising, and kept {LIMIT} of them, a quarter from before that:\n")?;
+    let card = Card { rate: Some(RATE), ..Card::default() };
     numbers::print(&Asked::new(Reader::Service(&capture), &card), out)?;
     writeln!(out)?;
     draw(&capture, args.flag("--ascii"), out)?;
@@ -80,18 +77,6 @@ fn run(args: &Args, out: &mut dyn Write) -> Result<Outcome, Failure> {
         if agrees { "finds the same places and the same steps" } else { "does not agree" };
     writeln!(out, "A plain scan of all {LIMIT} samples {verdict}.")?;
     Ok(Outcome::of(agrees && turned.position == 0))
-}
-
-/// What is known of the frame.
-fn card() -> Card {
-    let mut card = Card { rate: Some(RATE), ..Card::default() };
-    for (line, name) in (0..).zip(NAMES) {
-        card.names.put(line, name.into());
-    }
-    for (name, [a, b], steps) in ENCODERS {
-        card.encoders.put(Named { name: name.into(), a, b, steps });
-    }
-    card
 }
 
 /// The file to write that an option names.

@@ -10,7 +10,7 @@ pub const COMMAND: Command = Command {
     name: "info",
     about: "Prints a capture's numbers",
     help: include_str!("../help/info.txt"),
-    options: &[("--grant", Takes::Value)],
+    options: &[("--rate", Takes::Value), ("--grant", Takes::Value)],
     reads: true,
     run: |args, out| {
         let given = Given::load("info", args)?;

@@ -23,7 +23,6 @@ use crate::failure::{bad, Failure, Outcome};
 use crate::given::{self, Asked};
 use crate::lines;
 use crate::number;
-use crate::place;
 use crate::told::Told;
 use crate::wave::MOST_COLUMNS;
 use capture::Counted;
@@ -108,7 +107,7 @@ fn print_found(
 /// The rate, where an option asks for times.
 fn needed_rate(args: &Args, option: &str, rate: Option<u64>) -> Result<Option<u64>, Failure> {
     match (args.flag(option), rate) {
-        (true, None) => Err(bad(format!("{option}: {}", place::NO_RATE))),
+        (true, None) => Err(bad(format!("{option} needs --rate HZ, or a card that has a rate"))),
         (true, rate) => Ok(rate),
         (false, _) => Ok(None),
     }

@@ -13,6 +13,7 @@ pub const COMMAND: Command = Command {
     options: &[
         ("--lines", Takes::Value),
         ("--from", Takes::Value),
+        ("--stretches", Takes::Value),
         ("--certain", Takes::Nothing),
         ("--possible", Takes::Nothing),
         ("--stored", Takes::Nothing),
@@ -21,6 +22,7 @@ pub const COMMAND: Command = Command {
     ],
     reads: true,
     run: |args, out| {
+        Search::usage(args)?;
         let given = Given::load("prev", args)?;
         let asked = given.asked(args)?;
         let search = Search::asked(args, &asked)?;

@@ -4,6 +4,7 @@ use super::{chosen_lines, exclude, only_with, read_width, Command};
 use crate::args::{Args, Takes};
 use crate::failure::{bad, Failure, Outcome};
 use crate::given::{Asked, Given};
+use crate::names::Names;
 use crate::output::Output;
 use crate::text::{self, Style};
 use crate::value::Form;
@@ -29,6 +30,7 @@ pub const COMMAND: Command = Command {
         ("--spp", Takes::Value),
         ("--hex", Takes::Nothing),
         ("--bits", Takes::Nothing),
+        ("--stretches", Takes::Value),
         ("--grant", Takes::Value),
     ],
     reads: true,
@@ -41,7 +43,7 @@ const SVG_WIDTH: usize = 1000;
 
 fn run(args: &Args, out: &mut dyn Write) -> Result<Outcome, Failure> {
     only_with(args, "--pixels", &["--start", "--spp", "--hex", "--bits"])?;
-    for name in ["--ascii", "--svg", "--from", "--to", "--name"] {
+    for name in ["--ascii", "--svg", "--from", "--to", "--name", "--stretches"] {
         exclude(args, "--pixels", name)?;
     }
     exclude(args, "--ascii", "--svg")?;
@@ -61,7 +63,10 @@ fn run(args: &Args, out: &mut dyn Write) -> Result<Outcome, Failure> {
         note("render", "no samples to draw");
         return Ok(Outcome::No);
     };
-    wave.shade(&given.capture, asked.stretches());
+    let unknown = asked.stretches();
+    if !unknown.is_empty() {
+        wave.shade(&given.capture, unknown);
+    }
     let mark = reader.mark();
     match picture {
         Some(picture) => picture.write(out, |file| svg::draw(file, &wave, &chosen, mark, width))?,
@@ -96,13 +101,18 @@ fn pixels(
 
 /// The chosen lines, each with its number and its name. Names behind --name go before those of cards.
 fn labelled(args: &Args, asked: &Asked) -> Result<Vec<(u8, String)>, Failure> {
-    let mut names = asked.names.clone();
+    let mut given = Names::default();
     for text in args.texts("--name") {
         let text = text?;
         let named = lines::read_name(text, asked.reader.unit());
         let (line, name) = named.map_err(|what| bad(format!("--name {text}: {what}")))?;
-        names.put(line, name);
+        // The first name of a line is its name.
+        if given.of(line).is_none() {
+            given.put(line, name);
+        }
     }
+    let mut names = asked.names.clone();
+    given.iter().for_each(|(line, name)| names.put(line, name.into()));
     let label = |line: u8| match names.of(line) {
         Some(name) => (line, format!("{line:>2} {name}")),
         None => (line, format!("{line:>2}")),

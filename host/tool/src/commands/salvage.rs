@@ -4,10 +4,10 @@ use super::{needed, Command};
 use crate::args::{Args, Takes};
 use crate::card::{Card, Tie};
 use crate::failure::{bad, Failure, Outcome};
-use crate::given::Papers;
-use crate::output::Carded;
+use crate::given::{beside, Papers};
+use crate::output::Listed;
 use crate::source::Source;
-use crate::stretches::joined;
+use crate::stretches::{self, joined};
 use crate::sum::Sum;
 use crate::told::Told;
 use capture::{Capture, Salvaged, Stretch};
@@ -27,6 +27,10 @@ pub const COMMAND: Command = Command {
     run,
 };
 
+/// What is said where the card beside the file would be the folder's.
+const NO_CARD: &str =
+    "INPUT has a card, and a file of this name can have none beside it; see --no-card";
+
 fn run(args: &Args, out: &mut dyn Write) -> Result<Outcome, Failure> {
     let path = needed(args.path("--output"), "-o FILE")?;
     if path == "-" {
@@ -35,21 +39,40 @@ fn run(args: &Args, out: &mut dyn Write) -> Result<Outcome, Failure> {
     let file = args.file().ok_or_else(|| bad("which file? - is standard input"))?;
     let mut source = Source::open(file)?;
     let papers = Papers::asked(args, file)?;
-    let output = Carded::open(path)?;
+    let mut output = Listed::open(path, stretches::ENDING)?;
+    if papers.has_own() {
+        let card = beside(path).ok_or_else(|| bad(NO_CARD))?;
+        output = output.carded(&card)?;
+    }
     let salvaged =
         Capture::salvage_from(&mut source, None).map_err(|error| source.bad(&error.to_string()))?;
     let Salvaged { capture, stretches, .. } = &salvaged;
-    // What was unknown before is unknown still, wherever the blocks of its zeros are good.
-    let card = papers.of_damaged(capture)?;
-    let unknown = joined(stretches, &card.unknown);
-    let card = Card { unknown, ..card };
-    let mut bytes = Vec::with_capacity(capture.file_len());
-    capture.write_to(&mut bytes).map_err(|error| source.bad(&error.to_string()))?;
-    let tie = Tie::new(capture, Sum::of(&bytes));
     // Saved before anything is printed: who reads that may not read to its end.
-    output.write(|to| to.write_all(&bytes), |to| card.write(to, &tie, &[]))?;
-    print(&salvaged, &card.unknown, out)?;
-    Ok(match (salvaged.replaced, card.unknown.is_empty()) {
+    let unknown = match papers.of_damaged(capture)? {
+        None => {
+            output.write(
+                |to| capture.write_to(to).map(|_| ()),
+                |to| stretches::write(to, stretches),
+            )?;
+            stretches.clone()
+        }
+        Some(card) => {
+            // What was unknown before is unknown still, wherever the blocks of its zeros are good.
+            let unknown = joined(stretches, &card.unknown);
+            let card = Card { unknown, ..card };
+            let mut bytes = Vec::with_capacity(capture.file_len());
+            capture.write_to(&mut bytes).map_err(|error| source.bad(&error.to_string()))?;
+            let tie = Tie::new(capture, Sum::of(&bytes));
+            output.write_all(
+                |to| to.write_all(&bytes),
+                |to| stretches::write(to, &card.unknown),
+                |to| card.write(to, &tie, &[]),
+            )?;
+            card.unknown
+        }
+    };
+    print(&salvaged, &unknown, out)?;
+    Ok(match (salvaged.replaced, unknown.is_empty()) {
         (0, true) => Outcome::Yes,
         (0, false) => Outcome::Unknown,
         _ => Outcome::No,

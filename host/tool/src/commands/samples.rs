@@ -5,7 +5,6 @@ use crate::args::Takes;
 use crate::failure::Outcome;
 use crate::given::Given;
 use crate::reader::{from_first, Place};
-use crate::stretches::known_runs;
 use crate::value::Form;
 use crate::{lines, place};
 
@@ -35,17 +34,19 @@ pub const COMMAND: Command = Command {
         let form = Form::asked(args)?;
         let mut block = [0; BLOCK];
         let mut place = from;
+        let stretches = asked.stretches();
+        let begin = stretches.partition_point(|s| s.first + s.count <= from_first(from));
+        let mut unknown = stretches[begin..].iter().peekable();
         while place < to {
             let part = &mut block[..(to - place).min(BLOCK as Place) as usize];
             reader.samples_to(place, part)?;
-            // Run by run of what is known, and what is unknown between these.
-            let [a, b] = [place, place + part.len() as Place].map(from_first);
-            let mut known = known_runs(asked.stretches(), a, b).peekable();
-            for (at, sample) in (a..b).zip(part) {
-                while known.next_if(|&(_, end)| end <= at).is_some() {}
-                let sample = match known.peek() {
-                    Some(&(begin, _)) if begin <= at => form.written(*sample & mask, reader.unit()),
-                    _ => "?".into(),
+            for sample in part {
+                // Of the service alone it is told what is unknown.
+                let at = from_first(place);
+                unknown.next_if(|stretch| stretch.first + stretch.count <= at);
+                let sample = match unknown.peek() {
+                    Some(stretch) if stretch.first <= at => "?".into(),
+                    _ => form.written(*sample & mask, reader.unit()),
                 };
                 writeln!(out, "{place} {sample}")?;
                 place += 1;

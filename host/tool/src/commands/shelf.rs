@@ -142,17 +142,14 @@ fn print(
     let (unit, len, mark) = (capture.unit(), capture.len(), or_dash(capture.mark()));
     write!(out, "sound unit={unit} samples={len} mark={mark}")?;
     for &(a, b) in pairs {
-        write!(out, " {a},{b}={}", total(capture, a, b)?)?;
+        write!(out, " {a},{b}={}", capture.encoder(a, b)?.position)?;
     }
     for Named { name, a, b, .. } in card.encoders.iter() {
         let name = word(OsStr::new(name));
         write!(out, " {name}={}", total(capture, (*a).into(), (*b).into())?)?;
     }
     let unknown: usize = card.unknown.iter().map(|stretch| stretch.count).sum();
-    if unknown > 0 {
-        write!(out, "{}", Told::Count(unknown).behind())?;
-    }
-    writeln!(out)?;
+    writeln!(out, "{}", Told::of(unknown).behind())?;
     Ok(unknown == 0)
 }
 
