@@ -9,7 +9,7 @@ use native.Mathlib.Omega.{arith}
 use lib.ListN.{length, get_or, length-append}
 use lib.Seq.{paste}
 use contract.Lifetimes.{Lfts}
-use denote.Ref.{MutBor, at_last}
+use denote.Ref.{Bor, MutBor, at_last}
 use Rattle.rules.specs.Node.{span, top_level, level_node}
 use Rattle.rules.specs.Sample.{sample_of, sample_count}
 use Rattle.rules.specs.Refusal.{node_size}
@@ -55,7 +55,7 @@ pub record Called (c : Capture) (m : Memory) (bytes : List ℕ) (v : Appended) (
   pub r2 : Ref
   pub r3 : Ref
   pub r4 : Ref
-  pub b : Ref
+  pub b : Bor (List ℕ)
   pub s_is : s.now ≡ m.samples
   pub r1_is : r1.now ≡ m.l1
   pub r2_is : r2.now ≡ m.l2

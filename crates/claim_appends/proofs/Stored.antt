@@ -25,7 +25,7 @@ use Rattle.append.specs.Append.{number_of, record_of, grown, refusal_of, taken_o
 use Rattle.append.proofs.Answer.{refused_full, refused_none, taken_none, taken_all}
 use Rattle.append.proofs.Theorems.{Called, equations, right_stays, old_stay, new_follow, lengths_stay}
 use Rattle.append.proofs.Theorems as call
-use Rattle.claim_captures.specs.Words.{Memory, levels, at, AreBytes}
+use Rattle.claim_captures.specs.Words.{Memory, levels, at, AreBytes, shown_at}
 use Rattle.claim_captures.specs.Claim.{Held}
 use Rattle.claim_captures.proofs.Words.{WordList, no_words, words_taken}
 use Rattle.claim_captures.proofs.Alike.{captures_alike}
@@ -45,7 +45,7 @@ called c m bytes v m' may = record {
   r2 = at_last may.1.l2 m.l2;
   r3 = at_last may.1.l3 m.l3;
   r4 = at_last may.1.l4 m.l4;
-  b = at_last may.2 bytes;
+  b = shown_at may.2 bytes;
   s_is = refl;
   r1_is = refl;
   r2_is = refl;

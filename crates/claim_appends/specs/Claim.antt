@@ -4,7 +4,6 @@
 use Rattle.std.specs.Prelude.{◌≡◌, Bool, cond, List, [], ◌∷◌, ◌++◌, ◌↔◌, ℕ, ◌+◌, leb, length}
 use Rattle.std.proofs.Math.Option.{none}
 use contract.Lifetimes.{Lfts}
-use denote.Ref.{at_last}
 use Rattle.rules.specs.Sample.{unit_of, sample_count, samples_of}
 use Rattle.rules.specs.Refusal.{store_refusal, fresh}
 use Rattle.capture.specs.declared.Capture.{Capture}
@@ -15,7 +14,7 @@ use Rattle.capture.proofs.start.Reads as start
 use Rattle.append.specs.declared.Appended.{Appended}
 use Rattle.append.specs.Append.{number_of, record_of}
 use Rattle.append.proofs.append.Reads as append
-use Rattle.claim_captures.specs.Words.{Memory, levels, Ref, Places, lending, Same, AreBytes}
+use Rattle.claim_captures.specs.Words.{Memory, levels, Same, AreBytes, Ref, Places, lending, lending_mut, shown_at}
 use Rattle.claim_captures.specs.Claim.{Held, Answers, LookAlike, Additive}
 
 -- ---- what start and append may answer, by their contracts
@@ -24,7 +23,7 @@ MayStart channels capacity m v = (κs : Lfts 2) × (p : Places) × start.Post κ
 
 -- append may answer v and leave m'
 abbrev pub MayAppend : Capture → Memory → List ℕ → Appended → Memory → Type 0
-MayAppend c m bytes v m' = (κs : Lfts 6) × (p : Places) × (b : Ref) × append.Post κs (lending c p m (at_last b bytes, tt)) v (lending c p m' (at_last b bytes, tt))
+MayAppend c m bytes v m' = (κs : Lfts 6) × (p : Places) × (b : Ref) × append.Post κs (lending_mut c p m (shown_at b bytes, tt)) v (lending_mut c p m' (shown_at b bytes, tt))
 
 -- ---- lists of appends
 -- each gets the record and the whole memory as the last one left them; its number is 0, or that of its refusal

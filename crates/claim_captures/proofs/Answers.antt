@@ -62,7 +62,7 @@ use Rattle.render.specs.declared.Drawn.{Drawn}
 use Rattle.render.specs.declared.Drawn.TheVariants as drawn-as
 use Rattle.render.specs.Render.{drawn_of, drawn}
 use Rattle.render.proofs.Answers.{render_row}
-use Rattle.claim_captures.specs.Words.{Memory, levels, Ref, Places, at, Answered}
+use Rattle.claim_captures.specs.Words.{Memory, levels, at, Answered, Ref, Shown, Places, shown_at}
 use Rattle.claim_captures.specs.Claim.{MayGet, MaySummary, MayDensity, MayNext, MayPrevious, MayBurst, MayEncoder, MaySamples, MayRender, samples_of, samples_in, pixels_of, pixels_in, Held, Answers}
 
 -- ---- an answer for each value
@@ -202,20 +202,20 @@ module _ {run : List ℕ} {mark : Option ℕ} (c : Capture) (m : Memory) (h : He
   answered told for asked rule-of over_memory below = allowing told for (λ v e. over_memory v e ∙ asked_run (λ x n. []) (λ f x n. rule-of f n) (λ z. below))
 
   -- memory, lent somewhere
-  abbrev ms : Ref
-  ms = at_last anywhere m.samples
+  abbrev ms : Shown
+  ms = shown_at anywhere m.samples
 
-  abbrev m1 : Ref
-  m1 = at_last anywhere m.l1
+  abbrev m1 : Shown
+  m1 = shown_at anywhere m.l1
 
-  abbrev m2 : Ref
-  m2 = at_last anywhere m.l2
+  abbrev m2 : Shown
+  m2 = shown_at anywhere m.l2
 
-  abbrev m3 : Ref
-  m3 = at_last anywhere m.l3
+  abbrev m3 : Shown
+  m3 = shown_at anywhere m.l3
 
-  abbrev m4 : Ref
-  m4 = at_last anywhere m.l4
+  abbrev m4 : Shown
+  m4 = shown_at anywhere m.l4
 
   get_is : (i : ℕ) → Answered (MayGet c m i) got_of (unless (first_of (get_row (length run) i ∷ [])) (at run i))
   get_is i = allowing got_of got_for_lem (λ v e. e ∙ asked_run (λ x n. get_row n i ∷ []) (λ f x n. f i) (λ z. agree i (leb-false c.len i ((row_passed 9 0 (leb c.len i) (zero-lt-suc 8)).0 z).0)))

@@ -46,7 +46,7 @@ use Rattle.render.specs.declared.Drawn.{Drawn}
 use Rattle.render.specs.declared.Drawn.TheVariants as drawn
 use Rattle.render.proofs.render.Reads as render-call
 use Rattle.claim_captures.specs.Turns.{Replayed, Reversed}
-use Rattle.claim_captures.specs.Words.{Memory, levels, Ref, Places, lending, at, Same, OfUnit, AddUp, Answered, Usize, F64, Agree}
+use Rattle.claim_captures.specs.Words.{Memory, levels, at, Same, OfUnit, AddUp, Answered, Usize, F64, Agree, Ref, Places, lending}
 
 -- ---- what each call may answer, by its contract; a question leaves what it was lent
 abbrev pub MayGet : Capture → Memory → ℕ → Got → Type 0

@@ -3,7 +3,7 @@ use Rattle.std.specs.Prelude.{◌≡◌, true, List, [], ◌∷◌, ℕ, ◌+◌
 use Rattle.std.proofs.Math.Option.{Option}
 use Rattle.std.specs.Float.{binary64}
 use Rattle.std.specs.Float.Ieee.{fits}
-use denote.Ref.{MutBor, at_last}
+use denote.Ref.{Bor, MutBor, at_last}
 use Rattle.rules.specs.SampleBytes.{Bytes}
 use Rattle.rules.specs.Cutting.{Rising, cut_end, parts_sum, borders_sum}
 use Rattle.claim_alike.specs.Alike as alike
@@ -25,6 +25,9 @@ levels m = level_of m.l1 m.l2 m.l3 m.l4
 abbrev pub Ref : Type 0
 Ref = MutBor (List ℕ)
 
+abbrev pub Shown : Type 0
+Shown = Bor (List ℕ)
+
 pub record Places : Type 0 where
   pub samples : Ref
   pub l1 : Ref
@@ -32,9 +35,17 @@ pub record Places : Type 0 where
   pub l3 : Ref
   pub l4 : Ref
 
+-- what a `&` lends at such a reference: where it points, and what stands there; what a `&mut` lends is `at_last`
+abbrev pub shown_at : {X : Type 0} → MutBor X → X → Bor X
+shown_at r x = record { ref_ptr = r.ref_ptr; now = x }
+
 -- arguments of a call: its record, the samples and levels as they are lent, and the others
-abbrev pub lending : {A B : Type 0} → A → Places → Memory → B → A × (Ref × (Ref × (Ref × (Ref × (Ref × B)))))
-lending c p m others = (c, (at_last p.samples m.samples, (at_last p.l1 m.l1, (at_last p.l2 m.l2, (at_last p.l3 m.l3, (at_last p.l4 m.l4, others))))))
+abbrev pub lending : {A B : Type 0} → A → Places → Memory → B → A × (Shown × (Shown × (Shown × (Shown × (Shown × B)))))
+lending c p m others = (c, (shown_at p.samples m.samples, (shown_at p.l1 m.l1, (shown_at p.l2 m.l2, (shown_at p.l3 m.l3, (shown_at p.l4 m.l4, others))))))
+
+-- and those of a call that may change memory
+abbrev pub lending_mut : {A B : Type 0} → A → Places → Memory → B → A × (Ref × (Ref × (Ref × (Ref × (Ref × B)))))
+lending_mut c p m others = (c, (at_last p.samples m.samples, (at_last p.l1 m.l1, (at_last p.l2 m.l2, (at_last p.l3 m.l3, (at_last p.l4 m.l4, others))))))
 
 -- ---- runs
 -- "In their rules s and len are the run's."

@@ -40,7 +40,7 @@ use Rattle.codes.specs.Code.{plain, perhaps, Out}
 use Rattle.codes.specs.Sought.{Sought}
 use Rattle.codes.specs.Record.{capture_in, lines_numbers, node_numbers, count_number, burst_numbers, number}
 use Rattle.logic_core.specs.Asked.{DrawsOut}
-use Rattle.claim_captures.specs.Words.{Memory, levels, Ref, Places, at, Answered}
+use Rattle.claim_captures.specs.Words.{Memory, levels, at, Answered, Places, shown_at}
 use Rattle.claim_captures.specs.Claim.{Held}
 use Rattle.claim_captures.specs.Claim as calls
 use Rattle.claim_captures.proofs.Answers.{answers, agree, right, asked_run, copied_inside, drawn_for, anywhere, somewhere}
@@ -305,12 +305,12 @@ module _ {run : List ℕ} {mark : Option ℕ} (numbers : List ℕ) (m : Memory) 
           where
             row : v.output ≡ render (at run) (length run) (view_of start spp) width ++ drop (2 * width) output
             row =
-                render_row ([], ([], ([], tt))) c (at_last anywhere m.samples) (at_last anywhere m.l1) (at_last anywhere m.l2) (at_last anywhere m.l3) (at_last anywhere m.l4) view width (at_last anywhere output) r.0 v.output call (right c m h) e
+                render_row ([], ([], ([], tt))) c (shown_at anywhere m.samples) (shown_at anywhere m.l1) (shown_at anywhere m.l2) (shown_at anywhere m.l3) (shown_at anywhere m.l4) view width (at_last anywhere output) r.0 v.output call (right c m h) e
                 ∙ ap (λ (l : List ℕ). l ++ drop (2 * width) output) (render_below t (at run) c.len (agree c m h) (view_of start spp) width ∙ ap (λ (n : ℕ). render (at run) n (view_of start spp) width) h.len_is)
         go (suc n) e = λ i. record { code = (out.code-is ∙ e) i; output = same i }
           where
             same : v.output ≡ output
-            same = render_refused ([], ([], ([], tt))) c (at_last anywhere m.samples) (at_last anywhere m.l1) (at_last anywhere m.l2) (at_last anywhere m.l3) (at_last anywhere m.l4) view width (at_last anywhere output) r.0 v.output call (λ z. suc-ne-zero n (sym e ∙ z))
+            same = render_refused ([], ([], ([], tt))) c (shown_at anywhere m.samples) (shown_at anywhere m.l1) (shown_at anywhere m.l2) (shown_at anywhere m.l3) (shown_at anywhere m.l4) view width (at_last anywhere output) r.0 v.output call (λ z. suc-ne-zero n (sym e ∙ z))
 
     render_is : Answered (MayRender numbers m start spp width output) (λ v. v)
         (drawn (unless (first_of (view_rows (view_of start spp) width (length output))) (render (at run) (length run) (view_of start spp) width)) width output)

@@ -15,7 +15,7 @@ use Rattle.term_bytes.specs.Bytes.{terms_in}
 use Rattle.feeder_codes.specs.Recorder.{wish_in}
 use Rattle.logic_core.proofs.recorder.lc_feeder_start.Reads as lc-feeder-start
 use Rattle.logic_core.proofs.recorder.lc_push.Reads as lc-push
-use Rattle.claim_captures.specs.Words.{levels, Ref, Places, lending, Same, AreBytes}
+use Rattle.claim_captures.specs.Words.{levels, Same, AreBytes, Ref, Places, lending, lending_mut, shown_at}
 use Rattle.claim_captures.specs.Words as words
 use Rattle.claim_captures.specs.Turns.{Replayed, Reversed}
 use Rattle.claim_exports.specs.Questions.{One, mark_in, Answers, LookAlike, Additive, SaysTurns}
@@ -45,15 +45,15 @@ abbrev pub MayStart : Given → Memory → List ℕ → ℕ → ℕ → List ℕ
 MayStart g m numbers cut code numbers' cut' =
     (κs : Lfts 6) × (t : Ref) × (p : Places) × (r n : Ref) × (o : One)
     × lc-feeder-start.Post κs
-    (g.channels, (g.capacity, (g.limit, (at_last t g.terms, (g.seconds, (g.wish, lending g.rate p m.store (at_last r m.ring, (at_last n numbers, (at_last o cut, tt)))))))))
+    (g.channels, (g.capacity, (g.limit, (shown_at t g.terms, (g.seconds, (g.wish, lending g.rate p m.store (shown_at r m.ring, (at_last n numbers, (at_last o cut, tt)))))))))
     code
-    (g.channels, (g.capacity, (g.limit, (at_last t g.terms, (g.seconds, (g.wish, lending g.rate p m.store (at_last r m.ring, (at_last n numbers', (at_last o cut', tt)))))))))
+    (g.channels, (g.capacity, (g.limit, (shown_at t g.terms, (g.seconds, (g.wish, lending g.rate p m.store (shown_at r m.ring, (at_last n numbers', (at_last o cut', tt)))))))))
 
 -- lc_push may give a code and leave these numbers and this memory
 abbrev pub MayPush : List ℕ → Memory → List ℕ → ℕ → List ℕ → Memory → Type 0
 MayPush numbers m bytes code numbers' m' =
     (κs : Lfts 8) × (n : Ref) × (p : Places) × (r b : Ref)
-    × lc-push.Post κs (lending (at_last n numbers) p m.store (at_last r m.ring, (at_last b bytes, tt))) code (lending (at_last n numbers') p m'.store (at_last r m'.ring, (at_last b bytes, tt)))
+    × lc-push.Post κs (lending_mut (at_last n numbers) p m.store (at_last r m.ring, (shown_at b bytes, tt))) code (lending_mut (at_last n numbers') p m'.store (at_last r m'.ring, (shown_at b bytes, tt)))
 
 -- "each later one gets the record that the push before it returned and the same memory, whole, as that push left it"; with the code of each
 pub data Pushing : List ℕ → Memory → List (List ℕ) → List ℕ → List ℕ → Memory → Type 0 where

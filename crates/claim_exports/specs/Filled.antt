@@ -10,7 +10,7 @@ use Rattle.capture.specs.Record.{lent_of}
 use Rattle.capture.specs.Numbers.{len_in}
 use Rattle.logic_core.proofs.lc_start.Reads as lc-start
 use Rattle.logic_core.proofs.lc_append.Reads as lc-append
-use Rattle.claim_captures.specs.Words.{Memory, levels, Ref, Places, lending, Same, AreBytes}
+use Rattle.claim_captures.specs.Words.{Memory, levels, Same, AreBytes, Ref, Places, lending, lending_mut, shown_at}
 use Rattle.claim_appends.specs.Claim.{stored_from, numbers_from}
 use Rattle.claim_captures.specs.Turns.{Replayed, Reversed}
 use Rattle.claim_exports.specs.Questions.{mark_in, Answers, LookAlike, Additive, SaysTurns}
@@ -25,7 +25,7 @@ MayStore channels capacity m numbers code numbers' =
 abbrev pub MayAppend : List ℕ → Memory → List ℕ → ℕ → List ℕ → Memory → Type 0
 MayAppend numbers m bytes code numbers' m' =
     (κs : Lfts 7) × (n : Ref) × (p : Places) × (b : Ref)
-    × lc-append.Post κs (lending (at_last n numbers) p m (at_last b bytes, tt)) code (lending (at_last n numbers') p m' (at_last b bytes, tt))
+    × lc-append.Post κs (lending_mut (at_last n numbers) p m (shown_at b bytes, tt)) code (lending_mut (at_last n numbers') p m' (shown_at b bytes, tt))
 
 -- each gets the numbers and the whole memory as the last one left them; with the code of each
 pub data Appending : List ℕ → Memory → List (List ℕ) → List ℕ → List ℕ → Memory → Type 0 where

@@ -25,7 +25,7 @@ use Rattle.logic_core.proofs.lc_burst_at.Reads as lc-burst-at
 use Rattle.logic_core.proofs.lc_encoder.Reads as lc-encoder
 use Rattle.logic_core.proofs.lc_render.Reads as lc-render
 use Rattle.codes.specs.Turned.{turns_in}
-use Rattle.claim_captures.specs.Words.{Memory, Ref, Places, lending, at, AddUp, Answered, Agree, Usize, F64}
+use Rattle.claim_captures.specs.Words.{Memory, at, AddUp, Answered, Agree, Usize, F64, Ref, Places, lending, shown_at}
 
 -- ---- the record's numbers: which is which, capture.specs.Numbers says
 abbrev pub mark_in : List ℕ → Option ℕ
@@ -47,7 +47,7 @@ pub record Got : Type 0 where
 abbrev pub MayGet : List ℕ → Memory → ℕ → ℕ → Got → Type 0
 MayGet numbers m i value v =
     (κs : Lfts 4) × (n : Ref) × (p : Places) × (o : One)
-    × lc-get.Post κs (lending (at_last n numbers) p m (i, (at_last o value, tt))) v.code (lending (at_last n numbers) p m (i, (at_last o v.value, tt)))
+    × lc-get.Post κs (lending (shown_at n numbers) p m (i, (at_last o value, tt))) v.code (lending (shown_at n numbers) p m (i, (at_last o v.value, tt)))
 
 -- 0 with the number; a refusal's, and what stood there
 abbrev pub got : Answer ℕ → ℕ → Got
@@ -63,7 +63,7 @@ pub record Copied : Type 0 where
 abbrev pub MaySamples : List ℕ → Memory → ℕ → ℕ → List ℕ → ℕ → Copied → Type 0
 MaySamples numbers m start count output old v =
     (κs : Lfts 5) × (n : Ref) × (p : Places) × (o : Ref) × (k : One)
-    × lc-samples.Post κs (lending (at_last n numbers) p m (start, (count, (at_last o output, (at_last k old, tt))))) v.code (lending (at_last n numbers) p m (start, (count, (at_last o v.output, (at_last k v.copied, tt)))))
+    × lc-samples.Post κs (lending (shown_at n numbers) p m (start, (count, (at_last o output, (at_last k old, tt))))) v.code (lending (shown_at n numbers) p m (start, (count, (at_last o v.output, (at_last k v.copied, tt)))))
 
 -- 0 with the samples, and after them what output held; a refusal's number, and all as it was
 abbrev pub copies : Answer (List ℕ) → List ℕ → ℕ → Copied
@@ -79,7 +79,7 @@ pub record Summed : Type 0 where
 abbrev pub MaySummary : List ℕ → Memory → ℕ → ℕ → List ℕ → ℕ → Summed → Type 0
 MaySummary numbers m a b node count v =
     (κs : Lfts 5) × (n : Ref) × (p : Places) × (o : Ref) × (k : One)
-    × lc-summary.Post κs (lending (at_last n numbers) p m (a, (b, (at_last o node, (at_last k count, tt))))) v.code (lending (at_last n numbers) p m (a, (b, (at_last o v.node, (at_last k v.count, tt)))))
+    × lc-summary.Post κs (lending (shown_at n numbers) p m (a, (b, (at_last o node, (at_last k count, tt))))) v.code (lending (shown_at n numbers) p m (a, (b, (at_last o v.node, (at_last k v.count, tt)))))
 
 -- 0 with first, last, toggles and the count; 100 where the range is empty
 abbrev pub summed : Option Node → List ℕ → ℕ → Summed
@@ -99,7 +99,7 @@ cut_summed (some n) old = record { code = 0; node = n.first ∷ n.last ∷ n.tog
 abbrev pub MayDensity : List ℕ → Memory → ℕ → ℕ → ℕ → Got → Type 0
 MayDensity numbers m a b count v =
     (κs : Lfts 4) × (n : Ref) × (p : Places) × (k : One)
-    × lc-density.Post κs (lending (at_last n numbers) p m (a, (b, (at_last k count, tt)))) v.code (lending (at_last n numbers) p m (a, (b, (at_last k v.value, tt))))
+    × lc-density.Post κs (lending (shown_at n numbers) p m (a, (b, (at_last k count, tt)))) v.code (lending (shown_at n numbers) p m (a, (b, (at_last k v.value, tt))))
 
 -- ---- lc_next_change and lc_prev_change: the code, and the numbers behind `place` and `read`
 pub record Found : Type 0 where
@@ -110,12 +110,12 @@ pub record Found : Type 0 where
 abbrev pub MayNext : List ℕ → Memory → ℕ → ℕ → ℕ → ℕ → Found → Type 0
 MayNext numbers m mask from place read v =
     (κs : Lfts 5) × (n : Ref) × (p : Places) × (o r : One)
-    × lc-next-change.Post κs (lending (at_last n numbers) p m (mask, (from, (at_last o place, (at_last r read, tt))))) v.code (lending (at_last n numbers) p m (mask, (from, (at_last o v.place, (at_last r v.read, tt)))))
+    × lc-next-change.Post κs (lending (shown_at n numbers) p m (mask, (from, (at_last o place, (at_last r read, tt))))) v.code (lending (shown_at n numbers) p m (mask, (from, (at_last o v.place, (at_last r v.read, tt)))))
 
 abbrev pub MayPrevious : List ℕ → Memory → ℕ → ℕ → ℕ → ℕ → Found → Type 0
 MayPrevious numbers m mask from place read v =
     (κs : Lfts 5) × (n : Ref) × (p : Places) × (o r : One)
-    × lc-prev-change.Post κs (lending (at_last n numbers) p m (mask, (from, (at_last o place, (at_last r read, tt))))) v.code (lending (at_last n numbers) p m (mask, (from, (at_last o v.place, (at_last r v.read, tt)))))
+    × lc-prev-change.Post κs (lending (shown_at n numbers) p m (mask, (from, (at_last o place, (at_last r read, tt))))) v.code (lending (shown_at n numbers) p m (mask, (from, (at_last o v.place, (at_last r v.read, tt)))))
 
 -- 0 with the place; 100 where there is none; the nodes read either way
 abbrev pub found : Option ℕ → ℕ → ℕ → Found
@@ -131,8 +131,8 @@ pub record Bursted : Type 0 where
 abbrev pub MayBurst : List ℕ → Memory → ℕ → ℕ → ℕ → ℕ → ℕ → List ℕ → ℕ → Bursted → Type 0
 MayBurst numbers m mask sample gap tolerance budget ends read v =
     (κs : Lfts 5) × (n : Ref) × (p : Places) × (o : Ref) × (r : One)
-    × lc-burst-at.Post κs (lending (at_last n numbers) p m (mask, (sample, (gap, (tolerance, (budget, (at_last o ends, (at_last r read, tt)))))))) v.code
-    (lending (at_last n numbers) p m (mask, (sample, (gap, (tolerance, (budget, (at_last o v.ends, (at_last r v.read, tt))))))))
+    × lc-burst-at.Post κs (lending (shown_at n numbers) p m (mask, (sample, (gap, (tolerance, (budget, (at_last o ends, (at_last r read, tt)))))))) v.code
+    (lending (shown_at n numbers) p m (mask, (sample, (gap, (tolerance, (budget, (at_last o v.ends, (at_last r v.read, tt))))))))
 
 -- 0 with first, last, the jumps at the end and at the start; 100 where there is none; the nodes read either way
 abbrev pub bursted : Option Burst → ℕ → List ℕ → Bursted
@@ -148,7 +148,7 @@ pub record Turned : Type 0 where
 abbrev pub MayEncoder : List ℕ → Memory → ℕ → ℕ → ℤ → List ℕ → Turned → Type 0
 MayEncoder numbers m a b position counts v =
     (κs : Lfts 5) × (n : Ref) × (p : Places) × (o : Signed) × (k : Ref)
-    × lc-encoder.Post κs (lending (at_last n numbers) p m (a, (b, (at_last o position, (at_last k counts, tt))))) v.code (lending (at_last n numbers) p m (a, (b, (at_last o v.position, (at_last k v.counts, tt)))))
+    × lc-encoder.Post κs (lending (shown_at n numbers) p m (a, (b, (at_last o position, (at_last k counts, tt))))) v.code (lending (shown_at n numbers) p m (a, (b, (at_last o v.position, (at_last k v.counts, tt)))))
 
 -- 0 with the position, and forward, backward and skipped; a refusal's number, and what stood there
 abbrev pub turned : Answer Turns → ℤ → List ℕ → Turned
@@ -166,7 +166,7 @@ view_of start spp = record { start = start; spp = spp }
 abbrev pub MayRender : List ℕ → Memory → Float → Float → ℕ → List ℕ → Drawn → Type 0
 MayRender numbers m start spp width output v =
     (κs : Lfts 4) × (n : Ref) × (p : Places) × (o : Ref)
-    × lc-render.Post κs (lending (at_last n numbers) p m (start, (spp, (width, (at_last o output, tt))))) v.code (lending (at_last n numbers) p m (start, (spp, (width, (at_last o v.output, tt)))))
+    × lc-render.Post κs (lending (shown_at n numbers) p m (start, (spp, (width, (at_last o output, tt))))) v.code (lending (shown_at n numbers) p m (start, (spp, (width, (at_last o v.output, tt)))))
 
 -- 0 with the pixels, and after them what output held; a refusal's number, and output as it was
 abbrev pub drawn : Answer (List ℕ) → ℕ → List ℕ → Drawn

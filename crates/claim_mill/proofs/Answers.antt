@@ -54,7 +54,7 @@ use Rattle.encoder.specs.Answer.{encoded_of}
 use Rattle.mill_encoder.proofs.Answers.{encoder_right}
 use Rattle.mill_render.specs.Render.{mill_drawn}
 use Rattle.mill_render.proofs.Answers.{render_row}
-use Rattle.claim_captures.specs.Words.{Memory, levels, Ref, at, Answered}
+use Rattle.claim_captures.specs.Words.{Memory, levels, at, Answered, Shown, shown_at}
 use Rattle.claim_captures.specs.Claim.{samples_in, pixels_in, Held}
 use Rattle.claim_captures.proofs.Answers.{got_for_lem, copied_for_lem, encoded_for, counted_for, drawn_for, seen_as, copy_seen, copied_list, copied_inside, anywhere, somewhere, allowing, agree, right, asked_run}
 use Rattle.claim_mill.specs.Claim.{MayExtent, MayGet, MaySamples, MaySummary, MayNext, MayPrevious, MayBurst, MayEncoder, MayRender, place, MillAnswers}
@@ -97,20 +97,20 @@ module _ {run : List ℕ} {mark : Option ℕ} (c : Capture) (m : Memory) (h : He
   lent = lent_of m.samples (levels m)
 
   -- memory, lent somewhere
-  abbrev ms : Ref
-  ms = at_last anywhere m.samples
+  abbrev ms : Shown
+  ms = shown_at anywhere m.samples
 
-  abbrev m1 : Ref
-  m1 = at_last anywhere m.l1
+  abbrev m1 : Shown
+  m1 = shown_at anywhere m.l1
 
-  abbrev m2 : Ref
-  m2 = at_last anywhere m.l2
+  abbrev m2 : Shown
+  m2 = shown_at anywhere m.l2
 
-  abbrev m3 : Ref
-  m3 = at_last anywhere m.l3
+  abbrev m3 : Shown
+  m3 = shown_at anywhere m.l3
 
-  abbrev m4 : Ref
-  m4 = at_last anywhere m.l4
+  abbrev m4 : Shown
+  m4 = shown_at anywhere m.l4
 
   extent_is : Answered (MayExtent c m) bounded_of (given (extent_for mark (length run)))
   extent_is = allowing bounded_of bounded_for_lem (λ v e. e ∙ asked_run c m h (λ x n. []) (λ f x n. extent_for x n) (λ z. refl))

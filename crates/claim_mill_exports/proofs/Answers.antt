@@ -43,7 +43,7 @@ use Rattle.codes.specs.Record.{capture_in, lines_numbers, number}
 use Rattle.mill_codes.specs.Written.{first_place, end_place, marked_number, jump_numbers, BurstOut}
 use Rattle.mill_codes.specs.Written as written
 use Rattle.logic_core.specs.Mill.{CopiesOut, DrawsOut}
-use Rattle.claim_captures.specs.Words.{Memory, levels, at, Answered}
+use Rattle.claim_captures.specs.Words.{Memory, levels, at, Answered, shown_at}
 use Rattle.claim_captures.specs.Claim.{Held}
 use Rattle.claim_captures.proofs.Answers.{agree, right, drawn_for, anywhere, somewhere, asked_run, copied_inside}
 use Rattle.claim_mill.specs.Claim as calls
@@ -287,11 +287,11 @@ module _ {run : List ℕ} {mark : Option ℕ} (numbers : List ℕ) (m : Memory) 
           where
             drawn_row : v.output ≡ row t (mark_of c.trigger) c.len ++ drop (2 * width) output
             drawn_row =
-                render_row ([], ([], ([], tt))) c (at_last anywhere m.samples) (at_last anywhere m.l1) (at_last anywhere m.l2) (at_last anywhere m.l3) (at_last anywhere m.l4) grant view width (at_last anywhere output) r.0 v.output call (right c m h) e
+                render_row ([], ([], ([], tt))) c (shown_at anywhere m.samples) (shown_at anywhere m.l1) (shown_at anywhere m.l2) (shown_at anywhere m.l3) (shown_at anywhere m.l4) grant view width (at_last anywhere output) r.0 v.output call (right c m h) e
         go (suc n) e = λ i. record { code = (out.code-is ∙ e) i; output = same i }
           where
             same : v.output ≡ output
-            same = render_refused ([], ([], ([], tt))) c (at_last anywhere m.samples) (at_last anywhere m.l1) (at_last anywhere m.l2) (at_last anywhere m.l3) (at_last anywhere m.l4) grant view width (at_last anywhere output) r.0 v.output call (λ z. suc-ne-zero n (sym e ∙ z))
+            same = render_refused ([], ([], ([], tt))) c (shown_at anywhere m.samples) (shown_at anywhere m.l1) (shown_at anywhere m.l2) (shown_at anywhere m.l3) (shown_at anywhere m.l4) grant view width (at_last anywhere output) r.0 v.output call (λ z. suc-ne-zero n (sym e ∙ z))
 
     render_is : Answered (MayRender numbers m grant start spp width output) (λ v. v)
         (drawn (unless (first_of (view_rows (view_of start spp) width (length output))) (cut_pixels grant (row_by (node_of (at run)) (range_from (origin_of mark) (view_of start spp) (length run)) 0 width))) width output)

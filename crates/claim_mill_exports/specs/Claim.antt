@@ -26,7 +26,7 @@ use Rattle.logic_core.proofs.mill_reader.lc_mill_prev_change.Reads as lc-mill-pr
 use Rattle.logic_core.proofs.mill_reader.lc_mill_burst_at.Reads as lc-mill-burst-at
 use Rattle.logic_core.proofs.mill_reader.lc_mill_encoder.Reads as lc-mill-encoder
 use Rattle.logic_core.proofs.mill_reader.lc_mill_render.Reads as lc-mill-render
-use Rattle.claim_captures.specs.Words.{Memory, Ref, Places, lending, at, Same, Answered, Agree}
+use Rattle.claim_captures.specs.Words.{Memory, at, Same, Answered, Agree, Ref, Places, lending, shown_at}
 use Rattle.claim_captures.specs.Turns.{Replayed, Reversed}
 use Rattle.claim_exports.specs.Questions.{One, Signed, Got, got, Copied, copies, CutSummed, cut_summed, Turned, turned, ReadsAs, Drawn, drawn, view_of}
 use Rattle.claim_exports.specs.Claim.{Recording, run, mark, asked}
@@ -41,7 +41,7 @@ pub record Bounded : Type 0 where
 abbrev pub MayExtent : List ℕ → Memory → ℤ → ℤ → ℕ → Bounded → Type 0
 MayExtent numbers m first end marked v =
     (κs : Lfts 6) × (n : Ref) × (p : Places) × (f e : Signed) × (o : One)
-    × lc-mill-extent.Post κs (lending (at_last n numbers) p m (at_last f first, (at_last e end, (at_last o marked, tt)))) v.code (lending (at_last n numbers) p m (at_last f v.first, (at_last e v.end, (at_last o v.marked, tt))))
+    × lc-mill-extent.Post κs (lending (shown_at n numbers) p m (at_last f first, (at_last e end, (at_last o marked, tt)))) v.code (lending (shown_at n numbers) p m (at_last f v.first, (at_last e v.end, (at_last o v.marked, tt))))
 
 abbrev pub bounded : Extent → Bounded
 bounded e = record { code = 0; first = e.first; end = e.end; marked = cond e.marked 1 0 }
@@ -50,19 +50,19 @@ bounded e = record { code = 0; first = e.first; end = e.end; marked = cond e.mar
 abbrev pub MayGet : List ℕ → Memory → ℕ → ℤ → ℕ → Got → Type 0
 MayGet numbers m grant place value v =
     (κs : Lfts 4) × (n : Ref) × (p : Places) × (o : One)
-    × lc-mill-get.Post κs (lending (at_last n numbers) p m (grant, (place, (at_last o value, tt)))) v.code (lending (at_last n numbers) p m (grant, (place, (at_last o v.value, tt))))
+    × lc-mill-get.Post κs (lending (shown_at n numbers) p m (grant, (place, (at_last o value, tt)))) v.code (lending (shown_at n numbers) p m (grant, (place, (at_last o v.value, tt))))
 
 -- ---- lc_mill_samples: as lc_samples
 abbrev pub MaySamples : List ℕ → Memory → ℕ → ℤ → ℕ → List ℕ → ℕ → Copied → Type 0
 MaySamples numbers m grant start count output old v =
     (κs : Lfts 5) × (n : Ref) × (p : Places) × (o : Ref) × (k : One)
-    × lc-mill-samples.Post κs (lending (at_last n numbers) p m (grant, (start, (count, (at_last o output, (at_last k old, tt)))))) v.code (lending (at_last n numbers) p m (grant, (start, (count, (at_last o v.output, (at_last k v.copied, tt))))))
+    × lc-mill-samples.Post κs (lending (shown_at n numbers) p m (grant, (start, (count, (at_last o output, (at_last k old, tt)))))) v.code (lending (shown_at n numbers) p m (grant, (start, (count, (at_last o v.output, (at_last k v.copied, tt))))))
 
 -- ---- lc_mill_summary: as lc_summary, without a count; a refusal gives its number and leaves what stood behind the pointers, here and below
 abbrev pub MaySummary : List ℕ → Memory → ℕ → ℤ → ℤ → List ℕ → CutSummed → Type 0
 MaySummary numbers m grant a b node v =
     (κs : Lfts 4) × (n : Ref) × (p : Places) × (o : Ref)
-    × lc-mill-summary.Post κs (lending (at_last n numbers) p m (grant, (a, (b, (at_last o node, tt))))) v.code (lending (at_last n numbers) p m (grant, (a, (b, (at_last o v.node, tt)))))
+    × lc-mill-summary.Post κs (lending (shown_at n numbers) p m (grant, (a, (b, (at_last o node, tt))))) v.code (lending (shown_at n numbers) p m (grant, (a, (b, (at_last o v.node, tt)))))
 
 abbrev pub summed_by : Answer (Option Lines) → List ℕ → CutSummed
 summed_by (refused n) old = record { code = n; node = old }
@@ -77,12 +77,12 @@ pub record Found : Type 0 where
 abbrev pub MayNext : List ℕ → Memory → ℕ → ℕ → ℤ → ℤ → ℕ → Found → Type 0
 MayNext numbers m grant mask from place read v =
     (κs : Lfts 5) × (n : Ref) × (p : Places) × (o : Signed) × (r : One)
-    × lc-mill-next-change.Post κs (lending (at_last n numbers) p m (grant, (mask, (from, (at_last o place, (at_last r read, tt)))))) v.code (lending (at_last n numbers) p m (grant, (mask, (from, (at_last o v.place, (at_last r v.read, tt))))))
+    × lc-mill-next-change.Post κs (lending (shown_at n numbers) p m (grant, (mask, (from, (at_last o place, (at_last r read, tt)))))) v.code (lending (shown_at n numbers) p m (grant, (mask, (from, (at_last o v.place, (at_last r v.read, tt))))))
 
 abbrev pub MayPrevious : List ℕ → Memory → ℕ → ℕ → ℤ → ℤ → ℕ → Found → Type 0
 MayPrevious numbers m grant mask from place read v =
     (κs : Lfts 5) × (n : Ref) × (p : Places) × (o : Signed) × (r : One)
-    × lc-mill-prev-change.Post κs (lending (at_last n numbers) p m (grant, (mask, (from, (at_last o place, (at_last r read, tt)))))) v.code (lending (at_last n numbers) p m (grant, (mask, (from, (at_last o v.place, (at_last r v.read, tt))))))
+    × lc-mill-prev-change.Post κs (lending (shown_at n numbers) p m (grant, (mask, (from, (at_last o place, (at_last r read, tt)))))) v.code (lending (shown_at n numbers) p m (grant, (mask, (from, (at_last o v.place, (at_last r v.read, tt))))))
 
 -- 0 with the place; 100 where there is none; the nodes read either way
 abbrev pub found_at : Option ℤ → ℕ → ℤ → Found
@@ -105,9 +105,9 @@ abbrev pub MayBurst : List ℕ → Memory → ℕ → ℕ → ℤ → ℕ → �
 MayBurst numbers m grant mask sample gap tolerance budget first last jumps read v =
     (κs : Lfts 7) × (n : Ref) × (p : Places) × (f l : Signed) × (j : Ref) × (r : One)
     × lc-mill-burst-at.Post κs
-    (lending (at_last n numbers) p m (grant, (mask, (sample, (gap, (tolerance, (budget, (at_last f first, (at_last l last, (at_last j jumps, (at_last r read, tt)))))))))))
+    (lending (shown_at n numbers) p m (grant, (mask, (sample, (gap, (tolerance, (budget, (at_last f first, (at_last l last, (at_last j jumps, (at_last r read, tt)))))))))))
     v.code
-    (lending (at_last n numbers) p m (grant, (mask, (sample, (gap, (tolerance, (budget, (at_last f v.first, (at_last l v.last, (at_last j v.jumps, (at_last r v.read, tt)))))))))))
+    (lending (shown_at n numbers) p m (grant, (mask, (sample, (gap, (tolerance, (budget, (at_last f v.first, (at_last l v.last, (at_last j v.jumps, (at_last r v.read, tt)))))))))))
 
 -- 0 with both places, the jumps at the end and at the start; 100 where there is none; the nodes read either way
 abbrev pub bursted_at : Option MillBurst → ℕ → ℤ → ℤ → List ℕ → Bursted
@@ -122,13 +122,13 @@ bursted (given w) first last jumps read = bursted_at w.found w.steps first last 
 abbrev pub MayEncoder : List ℕ → Memory → ℕ → ℕ → ℕ → ℤ → List ℕ → Turned → Type 0
 MayEncoder numbers m grant a b position counts v =
     (κs : Lfts 5) × (n : Ref) × (p : Places) × (o : Signed) × (k : Ref)
-    × lc-mill-encoder.Post κs (lending (at_last n numbers) p m (grant, (a, (b, (at_last o position, (at_last k counts, tt)))))) v.code (lending (at_last n numbers) p m (grant, (a, (b, (at_last o v.position, (at_last k v.counts, tt))))))
+    × lc-mill-encoder.Post κs (lending (shown_at n numbers) p m (grant, (a, (b, (at_last o position, (at_last k counts, tt)))))) v.code (lending (shown_at n numbers) p m (grant, (a, (b, (at_last o v.position, (at_last k v.counts, tt))))))
 
 -- ---- lc_mill_render: as lc_render
 abbrev pub MayRender : List ℕ → Memory → ℕ → Float → Float → ℕ → List ℕ → Drawn → Type 0
 MayRender numbers m grant start spp width output v =
     (κs : Lfts 4) × (n : Ref) × (p : Places) × (o : Ref)
-    × lc-mill-render.Post κs (lending (at_last n numbers) p m (grant, (start, (spp, (width, (at_last o output, tt)))))) v.code (lending (at_last n numbers) p m (grant, (start, (spp, (width, (at_last o v.output, tt))))))
+    × lc-mill-render.Post κs (lending (shown_at n numbers) p m (grant, (start, (spp, (width, (at_last o output, tt)))))) v.code (lending (shown_at n numbers) p m (grant, (start, (spp, (width, (at_last o v.output, tt))))))
 
 -- ---- answers: the run's granted lines, at places that count from its mark
 -- the place of the run that a mill's place is

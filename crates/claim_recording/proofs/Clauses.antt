@@ -9,19 +9,19 @@ use prog.Routine.{Routine}
 use types.Logic.{Logic}
 use contract.Lifetimes.{Lfts}
 use contract.Monad.{Fun, fact}
-use denote.Ref.{MutBor, at_last}
+use denote.Ref.{Bor}
 use Rattle.terms.specs.declared.TriggerTerm.{TriggerTerm}
 use Rattle.feeder.specs.declared.Pretrigger.{Pretrigger}
 use Rattle.feeder.specs.declared.Started.{Started}
 use Rattle.feeder_start.specs.contracts.start_list as start-list
 use Rattle.feeder_start.proofs.start_list.Met as start-met
 use Rattle.feeder_start.proofs.start_list.Statement as start-stated
-use Rattle.claim_captures.specs.Words.{Ref, Places}
+use Rattle.claim_captures.specs.Words.{Shown, Places, shown_at}
 use Rattle.claim_recording.specs.Claim.{Memory, Given, MayStart}
 
 -- what start is given, with the references by which terms and memory are lent
-abbrev given_as : Given → MutBor (List TriggerTerm) → Places → Ref → Memory
-    → ℕ × (ℕ × (ℕ × (MutBor (List TriggerTerm) × (Pretrigger × (ℕ × (Ref × (Ref × (Ref × (Ref × (Ref × (Ref × Unit {0})))))))))))
+abbrev given_as : Given → Bor (List TriggerTerm) → Places → Shown → Memory
+    → ℕ × (ℕ × (ℕ × (Bor (List TriggerTerm) × (Pretrigger × (ℕ × (Shown × (Shown × (Shown × (Shown × (Shown × (Shown × Unit {0})))))))))))
 given_as g ts p o m = (
   g.channels,
   (
@@ -29,12 +29,12 @@ given_as g ts p o m = (
     (
       g.limit,
       (
-        at_last ts g.terms,
+        record { ref_ptr = ts.ref_ptr; now = g.terms },
         (
           g.wish,
           (
             g.rate,
-            (at_last p.samples m.store.samples, (at_last p.l1 m.store.l1, (at_last p.l2 m.store.l2, (at_last p.l3 m.store.l3, (at_last p.l4 m.store.l4, (at_last o m.ring, tt)))))),
+            (shown_at p.samples m.store.samples, (shown_at p.l1 m.store.l1, (shown_at p.l2 m.store.l2, (shown_at p.l3 m.store.l3, (shown_at p.l4 m.store.l4, (record { ref_ptr = o.ref_ptr; now = m.ring }, tt)))))),
           ),
         ),
       ),
@@ -44,7 +44,7 @@ given_as g ts p o m = (
 
 -- at every model of the logic
 module _ {M : Type 1} {𝓤 : Ura M} (𝓛 : Logic 𝓤) (mem : machine.Memory → SProp 𝓤) (run : Routine → Fun 𝓤)
-    (κs : Lfts 4) (g : Given) (ts : MutBor (List TriggerTerm)) (p : Places) (o : Ref) (m : Memory) where
+    (κs : Lfts 4) (g : Given) (ts : Bor (List TriggerTerm)) (p : Places) (o : Shown) (m : Memory) where
   pub start_asks : (start-list.clauses 𝓛 mem run κs (given_as g ts p o m)).requires tt ≡ emp 𝓤
   start_asks = refl
 

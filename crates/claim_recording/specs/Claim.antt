@@ -25,7 +25,7 @@ use Rattle.feeder.specs.Start.{started_of, settings_of}
 use Rattle.feeder_push.specs.declared.Pushed.{Pushed}
 use Rattle.feeder_push.specs.Push.{reply_as, feeder_in}
 use Rattle.feeder_push.proofs.push.Reads as push
-use Rattle.claim_captures.specs.Words.{levels, Ref, Places, lending, Same, AreBytes}
+use Rattle.claim_captures.specs.Words.{levels, Same, AreBytes, Ref, Places, lending_mut, shown_at}
 use Rattle.claim_captures.specs.Turns.{Replayed, Reversed}
 use Rattle.claim_captures.specs.Claim.{Held, Answers, LookAlike, Additive, SaysTurns}
 use Rattle.claim_captures.specs.Words as captures
@@ -60,7 +60,7 @@ MayStart g m v = started_of v ≡ start_rule (settings g) (lengths m.store) (len
 abbrev pub MayPush : Feeder → Memory → List ℕ → Pushed → Memory → Type 0
 MayPush f m bytes v m' =
     (κs : Lfts 7) × (p : Places) × (g b : Ref)
-    × push.Post κs (lending f p m.store (at_last g m.ring, (at_last b bytes, tt))) v (lending f p m'.store (at_last g m'.ring, (at_last b bytes, tt)))
+    × push.Post κs (lending_mut f p m.store (at_last g m.ring, (shown_at b bytes, tt))) v (lending_mut f p m'.store (at_last g m'.ring, (shown_at b bytes, tt)))
 
 -- ---- recordings
 -- "each later one gets the record that the push before it returned and the same memory, whole, as that push left it", with what each was told.

@@ -7,7 +7,7 @@ use Rattle.rules.specs.Salvage.{Salvaged}
 use Rattle.shelf_salvage.specs.declared.SalvageResult.{SalvageResult}
 use Rattle.shelf_salvage.specs.Salvage.{salvage_of}
 use Rattle.shelf_salvage.proofs.salvage.Reads as salvage-call
-use Rattle.claim_captures.specs.Words.{Memory, Ref, Places, lending}
+use Rattle.claim_captures.specs.Words.{Memory, Ref, Places, lending_mut, shown_at}
 use Rattle.claim_shelf.specs.Claim.{Writes, Reads}
 use Rattle.claim_salvage.specs.Files.{Salvages}
 
@@ -15,7 +15,7 @@ use Rattle.claim_salvage.specs.Files.{Salvages}
 abbrev pub MaySalvage : ℕ → List ℕ → Memory → List ℕ → SalvageResult → Memory → List ℕ → Type 0
 MaySalvage capacity file m list v m' list' =
     (κs : Lfts 7) × (p : Places) × (f l : Ref)
-    × salvage-call.Post κs (capacity, lending (at_last f file) p m (at_last l list, tt)) v (capacity, lending (at_last f file) p m' (at_last l list', tt))
+    × salvage-call.Post κs (capacity, lending_mut (shown_at f file) p m (at_last l list, tt)) v (capacity, lending_mut (shown_at f file) p m' (at_last l list', tt))
 
 -- its answer, as 02's
 abbrev pub Salvage : ℕ → List ℕ → Memory → List ℕ → Answer Salvaged → Memory → List ℕ → Type 0

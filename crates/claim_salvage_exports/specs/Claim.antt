@@ -7,7 +7,7 @@ use Rattle.rules.specs.Answer.{Answer, unless}
 use Rattle.rules.specs.Salvage.{Salvaged}
 use Rattle.shelf_codes.specs.Salvaged.{salvaged_in}
 use Rattle.logic_core.proofs.shelf.lc_salvage.Reads as lc-salvage
-use Rattle.claim_captures.specs.Words.{Memory, Ref, Places, lending}
+use Rattle.claim_captures.specs.Words.{Memory, Ref, Places, lending_mut, shown_at}
 use Rattle.claim_salvage.specs.Files.{Salvages}
 use Rattle.claim_shelf_exports.specs.Claim.{Writes, Reads}
 
@@ -15,7 +15,7 @@ use Rattle.claim_shelf_exports.specs.Claim.{Writes, Reads}
 abbrev pub MaySalvage : ℕ → List ℕ → Memory → List ℕ → List ℕ → List ℕ → ℕ → List ℕ → List ℕ → Memory → List ℕ → Type 0
 MaySalvage capacity file m list numbers counts code numbers' counts' m' list' =
     (κs : Lfts 9) × (p : Places) × (f l n k : Ref)
-    × lc-salvage.Post κs (capacity, lending (at_last f file) p m (at_last l list, (at_last n numbers, (at_last k counts, tt)))) code (capacity, lending (at_last f file) p m' (at_last l list', (at_last n numbers', (at_last k counts', tt))))
+    × lc-salvage.Post κs (capacity, lending_mut (shown_at f file) p m (at_last l list, (at_last n numbers, (at_last k counts, tt)))) code (capacity, lending_mut (shown_at f file) p m' (at_last l list', (at_last n numbers', (at_last k counts', tt))))
 
 -- what it says: code 0 with the record and the counts behind the pointers, or the number of a refusal
 abbrev pub Salvage : ℕ → List ℕ → Memory → List ℕ → Answer Salvaged → Memory → List ℕ → Type 0

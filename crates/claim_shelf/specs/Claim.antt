@@ -15,7 +15,7 @@ use Rattle.shelf_head.specs.declared.FileLength.TheVariants as length
 use Rattle.shelf_head.specs.Head.{length_of}
 use Rattle.shelf_write.proofs.write.Reads as write-call
 use Rattle.shelf_read.proofs.read.Reads as read-call
-use Rattle.claim_captures.specs.Words.{Memory, Ref, Places, lending}
+use Rattle.claim_captures.specs.Words.{Memory, Ref, Places, lending, lending_mut, shown_at}
 use Rattle.claim_captures.specs.Claim.{Held, LookAlike}
 use Rattle.claim_recording.specs.Claim.{Recording, store}
 use Rattle.claim_shelf.specs.Files.{Enough, Files}
@@ -27,7 +27,7 @@ MayWrite c m output v output' = (κs : Lfts 3) × (p : Places) × (o : Ref) × w
 -- read may answer v and leave m'
 abbrev pub MayRead : ℕ → List ℕ → Memory → Started → Memory → Type 0
 MayRead capacity file m v m' =
-    (κs : Lfts 6) × (p : Places) × (f : Ref) × read-call.Post κs (capacity, lending (at_last f file) p m tt) v (capacity, lending (at_last f file) p m' tt)
+    (κs : Lfts 6) × (p : Places) × (f : Ref) × read-call.Post κs (capacity, lending_mut (shown_at f file) p m tt) v (capacity, lending_mut (shown_at f file) p m' tt)
 
 -- their answers, as 02's
 abbrev pub Writes : Store → Memory → List ℕ → Answer ℕ → List ℕ → Type 0

@@ -10,7 +10,7 @@ use Rattle.capture.specs.Record.{store_of}
 use Rattle.codes.specs.Record.{capture_in}
 use Rattle.logic_core.proofs.shelf.lc_write.Reads as lc-write
 use Rattle.logic_core.proofs.shelf.lc_read.Reads as lc-read
-use Rattle.claim_captures.specs.Words.{Memory, Ref, Places, lending}
+use Rattle.claim_captures.specs.Words.{Memory, Ref, Places, lending, lending_mut, shown_at}
 use Rattle.claim_captures.specs.Claim.{Held}
 use Rattle.claim_shelf.specs.Files.{Enough, Files}
 use Rattle.claim_exports.specs.Questions.{One, LookAlike}
@@ -20,13 +20,13 @@ use Rattle.claim_exports.specs.Claim.{Recording, asked}
 abbrev pub MayWrite : List ℕ → Memory → List ℕ → ℕ → ℕ → ℕ → List ℕ → Type 0
 MayWrite numbers m output old code new output' =
     (κs : Lfts 5) × (n : Ref) × (p : Places) × (o : Ref) × (k : One)
-    × lc-write.Post κs (lending (at_last n numbers) p m (at_last o output, (at_last k old, tt))) code (lending (at_last n numbers) p m (at_last o output', (at_last k new, tt)))
+    × lc-write.Post κs (lending (shown_at n numbers) p m (at_last o output, (at_last k old, tt))) code (lending (shown_at n numbers) p m (at_last o output', (at_last k new, tt)))
 
 -- lc_read may give a code, and leave these numbers and this memory
 abbrev pub MayRead : ℕ → List ℕ → Memory → List ℕ → ℕ → List ℕ → Memory → Type 0
 MayRead capacity file m numbers code numbers' m' =
     (κs : Lfts 7) × (p : Places) × (f n : Ref)
-    × lc-read.Post κs (capacity, lending (at_last f file) p m (at_last n numbers, tt)) code (capacity, lending (at_last f file) p m' (at_last n numbers', tt))
+    × lc-read.Post κs (capacity, lending_mut (shown_at f file) p m (at_last n numbers, tt)) code (capacity, lending_mut (shown_at f file) p m' (at_last n numbers', tt))
 
 -- what they say: code 0 with the length or the record behind the pointer, or the number of a refusal
 abbrev pub Writes : Store → Memory → List ℕ → Answer ℕ → List ℕ → Type 0

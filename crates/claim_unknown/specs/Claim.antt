@@ -2,7 +2,6 @@
 use Rattle.std.specs.Prelude.{◌≡◌, Bool, true, false, List, ℕ}
 use Rattle.std.proofs.Math.Option.{Option, none}
 use contract.Lifetimes.{Lfts}
-use denote.Ref.{at_last}
 use Rattle.rules.specs.Answer.{Answer}
 use Rattle.rules.specs.Unknown.{Sureness, certain, possible}
 use Rattle.capture.specs.declared.Capture.{Capture}
@@ -12,7 +11,7 @@ use Rattle.unknown.proofs.next_certain.Reads as next-certain
 use Rattle.unknown.proofs.prev_certain.Reads as prev-certain
 use Rattle.unknown.proofs.next_possible.Reads as next-possible
 use Rattle.unknown.proofs.prev_possible.Reads as prev-possible
-use Rattle.claim_captures.specs.Words.{Memory, Ref, Places, lending}
+use Rattle.claim_captures.specs.Words.{Memory, Ref, Places, lending, shown_at}
 use Rattle.claim_captures.specs.Claim as captures
 use Rattle.claim_appends.specs.Claim.{Filling, stored}
 use Rattle.claim_recording.specs.Claim.{Recording, run, mark, store}
@@ -22,10 +21,10 @@ use Rattle.claim_unknown.specs.Searches.{Searches, SalvagedSearched, MadeAlike}
 
 -- each call may answer v; it leaves what it was lent
 abbrev pub MayLocate : Sureness → Bool → Capture → Memory → List ℕ → ℕ → ℕ → Located → Type 0
-MayLocate certain false c m list mask from v = (κs : Lfts 3) × (p : Places) × (l : Ref) × next-certain.Post κs (lending c p m (at_last l list, (mask, (from, tt)))) v (lending c p m (at_last l list, (mask, (from, tt))))
-MayLocate certain true c m list mask from v = (κs : Lfts 3) × (p : Places) × (l : Ref) × prev-certain.Post κs (lending c p m (at_last l list, (mask, (from, tt)))) v (lending c p m (at_last l list, (mask, (from, tt))))
-MayLocate possible false c m list mask from v = (κs : Lfts 3) × (p : Places) × (l : Ref) × next-possible.Post κs (lending c p m (at_last l list, (mask, (from, tt)))) v (lending c p m (at_last l list, (mask, (from, tt))))
-MayLocate possible true c m list mask from v = (κs : Lfts 3) × (p : Places) × (l : Ref) × prev-possible.Post κs (lending c p m (at_last l list, (mask, (from, tt)))) v (lending c p m (at_last l list, (mask, (from, tt))))
+MayLocate certain false c m list mask from v = (κs : Lfts 3) × (p : Places) × (l : Ref) × next-certain.Post κs (lending c p m (shown_at l list, (mask, (from, tt)))) v (lending c p m (shown_at l list, (mask, (from, tt))))
+MayLocate certain true c m list mask from v = (κs : Lfts 3) × (p : Places) × (l : Ref) × prev-certain.Post κs (lending c p m (shown_at l list, (mask, (from, tt)))) v (lending c p m (shown_at l list, (mask, (from, tt))))
+MayLocate possible false c m list mask from v = (κs : Lfts 3) × (p : Places) × (l : Ref) × next-possible.Post κs (lending c p m (shown_at l list, (mask, (from, tt)))) v (lending c p m (shown_at l list, (mask, (from, tt))))
+MayLocate possible true c m list mask from v = (κs : Lfts 3) × (p : Places) × (l : Ref) × prev-possible.Post κs (lending c p m (shown_at l list, (mask, (from, tt)))) v (lending c p m (shown_at l list, (mask, (from, tt))))
 
 -- its answer, as 02's
 abbrev pub Locates : Sureness → Bool → Capture → Memory → List ℕ → ℕ → ℕ → Answer (Option ℕ) → Type 0

@@ -12,7 +12,7 @@ use Rattle.logic_core.proofs.unknown_stretches.lc_next_certain.Reads as lc-next-
 use Rattle.logic_core.proofs.unknown_stretches.lc_prev_certain.Reads as lc-prev-certain
 use Rattle.logic_core.proofs.unknown_stretches.lc_next_possible.Reads as lc-next-possible
 use Rattle.logic_core.proofs.unknown_stretches.lc_prev_possible.Reads as lc-prev-possible
-use Rattle.claim_captures.specs.Words.{Memory, Ref, Places, lending}
+use Rattle.claim_captures.specs.Words.{Memory, Ref, Places, lending, shown_at}
 use Rattle.claim_exports.specs.Questions.{One, LookAlike}
 use Rattle.claim_exports.specs.Claim.{Recording, run, mark, asked}
 use Rattle.claim_exports.specs.Filled.{Filling, stored}
@@ -24,16 +24,16 @@ use Rattle.claim_salvage_exports.specs.Claim.{Salvage}
 abbrev pub MayLocate : Sureness → Bool → List ℕ → Memory → List ℕ → ℕ → ℕ → ℕ → ℕ → ℕ → Type 0
 MayLocate certain false numbers m list mask from place code place' =
     (κs : Lfts 5) × (n : Ref) × (p : Places) × (l : Ref) × (o : One)
-    × lc-next-certain.Post κs (lending (at_last n numbers) p m (at_last l list, (mask, (from, (at_last o place, tt))))) code (lending (at_last n numbers) p m (at_last l list, (mask, (from, (at_last o place', tt)))))
+    × lc-next-certain.Post κs (lending (shown_at n numbers) p m (shown_at l list, (mask, (from, (at_last o place, tt))))) code (lending (shown_at n numbers) p m (shown_at l list, (mask, (from, (at_last o place', tt)))))
 MayLocate certain true numbers m list mask from place code place' =
     (κs : Lfts 5) × (n : Ref) × (p : Places) × (l : Ref) × (o : One)
-    × lc-prev-certain.Post κs (lending (at_last n numbers) p m (at_last l list, (mask, (from, (at_last o place, tt))))) code (lending (at_last n numbers) p m (at_last l list, (mask, (from, (at_last o place', tt)))))
+    × lc-prev-certain.Post κs (lending (shown_at n numbers) p m (shown_at l list, (mask, (from, (at_last o place, tt))))) code (lending (shown_at n numbers) p m (shown_at l list, (mask, (from, (at_last o place', tt)))))
 MayLocate possible false numbers m list mask from place code place' =
     (κs : Lfts 5) × (n : Ref) × (p : Places) × (l : Ref) × (o : One)
-    × lc-next-possible.Post κs (lending (at_last n numbers) p m (at_last l list, (mask, (from, (at_last o place, tt))))) code (lending (at_last n numbers) p m (at_last l list, (mask, (from, (at_last o place', tt)))))
+    × lc-next-possible.Post κs (lending (shown_at n numbers) p m (shown_at l list, (mask, (from, (at_last o place, tt))))) code (lending (shown_at n numbers) p m (shown_at l list, (mask, (from, (at_last o place', tt)))))
 MayLocate possible true numbers m list mask from place code place' =
     (κs : Lfts 5) × (n : Ref) × (p : Places) × (l : Ref) × (o : One)
-    × lc-prev-possible.Post κs (lending (at_last n numbers) p m (at_last l list, (mask, (from, (at_last o place, tt))))) code (lending (at_last n numbers) p m (at_last l list, (mask, (from, (at_last o place', tt)))))
+    × lc-prev-possible.Post κs (lending (shown_at n numbers) p m (shown_at l list, (mask, (from, (at_last o place, tt))))) code (lending (shown_at n numbers) p m (shown_at l list, (mask, (from, (at_last o place', tt)))))
 
 abbrev pub Locates : Sureness → Bool → List ℕ → Memory → List ℕ → ℕ → ℕ → Answer (Option ℕ) → Type 0
 Locates sure back numbers m list mask from answer =

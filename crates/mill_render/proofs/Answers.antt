@@ -6,6 +6,7 @@ use mathlib.Core.Option.{Option}
 use lib.ListN.{length, drop}
 use contract.Lifetimes.{Lfts}
 use denote.Ref.{MutBor, at_last}
+use denote.Bor.{Bor}
 use Rattle.rules.specs.Sample.{sample_of}
 use Rattle.rules.specs.Node.{node_of}
 use Rattle.rules.specs.Pixel.{Range, row_by, cut_pixels, range_from}
@@ -27,7 +28,7 @@ use Rattle.mill_render.proofs.Drawing.{shown_none, shown_rest, shown_same}
 use Rattle.mill_render.proofs.render.Reads as reads
 
 -- a call with these arguments, its answer r, and what it leaves in output
-module _ (κs : Lfts 3) (c : Capture) (samples l1 l2 l3 l4 : MutBor (List ℕ)) (grant : ℕ) (view : View) (width : ℕ) (output : MutBor (List ℕ)) (r : Drawn) (output' : List ℕ) where
+module _ (κs : Lfts 3) (c : Capture) (samples l1 l2 l3 l4 : Bor (List ℕ)) (grant : ℕ) (view : View) (width : ℕ) (output : MutBor (List ℕ)) (r : Drawn) (output' : List ℕ) where
   abbrev pub levels : ℕ → List ℕ
   levels = level_of l1.now l2.now l3.now l4.now
 

@@ -5,6 +5,7 @@ use mathlib.Core.List.{List, ◌++◌}
 use lib.ListN.{length, drop}
 use contract.Lifetimes.{Lfts}
 use denote.Ref.{MutBor, at_last}
+use denote.Bor.{Bor}
 use Rattle.rules.specs.Sample.{sample_of}
 use Rattle.rules.specs.Node.{node_of}
 use Rattle.rules.specs.Pixel.{pixel_range, render}
@@ -25,7 +26,7 @@ use Rattle.render.proofs.Row.{drawn_none, drawn_rest, drawn_same}
 use Rattle.render.proofs.render.Reads as reads
 
 -- a call with these arguments, its answer r, and what it leaves in output
-module _ (κs : Lfts 3) (c : Capture) (samples l1 l2 l3 l4 : MutBor (List ℕ)) (view : View) (width : ℕ) (output : MutBor (List ℕ)) (r : Drawn) (output' : List ℕ) where
+module _ (κs : Lfts 3) (c : Capture) (samples l1 l2 l3 l4 : Bor (List ℕ)) (view : View) (width : ℕ) (output : MutBor (List ℕ)) (r : Drawn) (output' : List ℕ) where
   abbrev pub levels : ℕ → List ℕ
   levels = level_of l1.now l2.now l3.now l4.now
 

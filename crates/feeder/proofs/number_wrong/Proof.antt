@@ -4,7 +4,7 @@ use mathlib.Core.Bool.{Bool, true, false, ◌||◌}
 use Prim.Native.Nat.{ℕ}
 use borrow.Author.Rules.{rules}
 use lib.Dec.{ltb}
-use lib.Ieee.{Float, isNan}
+use lib.Ieee.{Float, is_nan}
 use Rattle.rules.specs.Refusal.{number_wrong}
 use Rattle.feeder.specs.Record.{wish_of}
 use Rattle.feeder.specs.declared.Pretrigger.{Pretrigger}
@@ -13,7 +13,7 @@ use Rattle.feeder.proofs.number_wrong.Statement.{statement}
 use Rattle.feeder.proofs.number_wrong.Tie as tie
 
 -- seconds, by what `is_nan` told
-second : (wish : Pretrigger) (t : Float) (rate : ℕ) (b : Bool) → wish ≡ Seconds t → isNan t ≡ b → (b || ltb 1000000000 rate) ≡ number_wrong (wish_of wish) rate
+second : (wish : Pretrigger) (t : Float) (rate : ℕ) (b : Bool) → wish ≡ Seconds t → is_nan t ≡ b → (b || ltb 1000000000 rate) ≡ number_wrong (wish_of wish) rate
 second wish t rate b e h = sym (ap (λ (w : Pretrigger). number_wrong (wish_of w) rate) e ∙ ap (λ (x : Bool). x || ltb 1000000000 rate) h)
 
 enum-known-wish : tie.Need-enum_known-wish

@@ -51,7 +51,7 @@ add-c-end c =
 mul-c-end : tie.Need-overflow_mul-c_end
 mul-c-end c =
     let s = start_at c.before.before.before.before.before in
-    omega (arith, s.requires.own_fits, s.good)
+    omega (arith, s.requires.own_fits, s.well_formed)
 
 sub-append-parts : tie.Need-slice_bounds-append_parts-count
 sub-append-parts c = search rules

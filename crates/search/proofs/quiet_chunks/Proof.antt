@@ -4,7 +4,6 @@ use mathlib.Core.Path.{◌≡◌, sym, ◌∙◌}
 use mathlib.Core.Bool.{true}
 use native.Mathlib.Omega.{arith}
 use borrow.Author.Count.{below_none, below_more}
-use borrow.Author.Tests.{not-true, not-false}
 use Rattle.search.specs.Quiet.{quiet_nth}
 use Rattle.search.proofs.quiet_chunks.Statement.{statement}
 use Rattle.search.proofs.quiet_chunks.Tie as tie
