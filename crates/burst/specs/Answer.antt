@@ -9,7 +9,6 @@ use Rattle.rules.specs.Walk.{Counted, Walked, next_walk, previous_walk, all_leve
 use Rattle.node.specs.Memory.{reader_of}
 use Rattle.capture.specs.declared.Capture.{Capture}
 use Rattle.capture.specs.Record.{store_of, lent_of}
-use Rattle.burst.specs.declared.Burst.{Burst}
 use Rattle.burst.specs.declared.Bursts.{Bursts}
 use Rattle.burst.specs.declared.Bursts.TheVariants as bursts
 use Rattle.burst.specs.declared.Change.{Change}

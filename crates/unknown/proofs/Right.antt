@@ -1,6 +1,6 @@
 -- The theorems about the four calls. Where levels are right and samples are the unit's, an answer is 02's: the first place on the way that is changed in every
 -- filling of the unknown stretches, or in some (rules' unknown_is says what that is).
-use mathlib.Core.Path.{◌≡◌, refl, sym, ap, ap₂, ◌∙◌, subst}
+use mathlib.Core.Path.{◌≡◌, refl, sym, ap, ◌∙◌, subst}
 use mathlib.Core.Bool.{Bool, true, false, cond, not, ◌&&◌, ◌||◌, false≢true}
 use mathlib.Core.List.{List, [], ◌∷◌}
 use mathlib.Core.Logic.{◌⊎◌, inl, inr}
@@ -17,13 +17,13 @@ use Rattle.rules.specs.Node.{Node}
 use Rattle.rules.specs.Search.{changed, start_back}
 use Rattle.rules.specs.Walk.{Walked, all_levels}
 use Rattle.rules.specs.Stretches.{Stretch, covers, pairs_in, stretch_at}
-use Rattle.rules.specs.Unknown.{has_line, certain, possible, certain_at, possible_at, search_at, unknown_search, unknown_refusal, Asked, Sooner, Nearest, list_wrong}
+use Rattle.rules.specs.Unknown.{has_line, certain, possible, certain_at, possible_at, search_at, unknown_search, unknown_refusal, Asked, Nearest, list_wrong}
 use Rattle.rules.specs.Answer.{given, unless}
 use Rattle.rules.proofs.Found.{TrueNodes}
 use Rattle.rules.proofs.Steps.{next_searched, previous_searched}
 use Rattle.rules.proofs.Block.{both}
 use Rattle.rules.proofs.Stretches.{among_yes}
-use Rattle.rules.proofs.Listed.{Lies, each_lies, each_rises, holds, HeldBy, covered_by, holds_covers}
+use Rattle.rules.proofs.Listed.{Lies, each_lies, each_rises, HeldBy, covered_by, holds_covers}
 use Rattle.rules.proofs.Nearest.{Holds, asked_least, asked_most, nearest_as, search_nearest, is_search}
 use Rattle.rules.proofs.Unknown.{list_passes, none_unknown, itself, line_there}
 use Rattle.node.specs.Memory.{reader_of, Right}
@@ -36,7 +36,7 @@ use Rattle.unknown.specs.Answer.{certain_of, possible_of}
 use Rattle.search.specs.Part.{Stored}
 use Rattle.unknown.proofs.Crossing.{nth_inside}
 use Rattle.unknown.proofs.Passing.{let_through}
-use Rattle.unknown.proofs.Certain.{end_of, Touch, Touched, Clear, Left, Before, crossed_nearest}
+use Rattle.unknown.proofs.Certain.{end_of, Touch, Touched, Left, Before, crossed_nearest}
 use Rattle.unknown.proofs.Possible.{Entry, met_nearest, besides_nearest}
 
 -- ---- the first place that is asked, or none is

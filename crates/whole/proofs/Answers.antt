@@ -9,7 +9,6 @@ use contract.Lifetimes.{Lfts}
 use denote.Ref.{Bor}
 use Rattle.rules.specs.Wrong.{NodeAt, whole_answer}
 use Rattle.rules.specs.Sample.{sample_of}
-use Rattle.rules.specs.Node.{top_level}
 use Rattle.rules.specs.Answer.{given, unless}
 use Rattle.rules.specs.Refusal.{store_refusal}
 use Rattle.node.specs.Memory.{level_of, Right}

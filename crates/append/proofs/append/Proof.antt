@@ -109,7 +109,7 @@ same-length-15 c = search rules
 returns-3 : tie.Need-returns
 returns-3 c =
     let e = c.before.before.before.before.before.before.before.before.before.before.before.before.before.before.before.before.before.before in
-    let f = e.before.before.before.before.before.before.before.before.before.before.before.before.before in
+    let f = e.before in
     let a = (s f).args in
     appends_done a.c a.bytes.now a.samples.now (levels f) (refused_none a.c a.bytes.now a.samples.now (levels f) f.refusal-wrong.ensures e.if-wrong-ne0.false (omega (arith, c.if-c-len.false, (bounds e).len_most))) _ _ c.append_samples.ensures
 

@@ -50,7 +50,7 @@ stored h =
 abbrev start_at : tie.After-pair_of-pair → tie.Start
 start_at p = start_of p.before.before.before.before
 
-paired : (p : tie.After-pair_of-pair) (side : Option rule.Side) → side ≡ side_as p.pair_of-pair.result.side-1
+paired : (p : tie.After-pair_of-pair) (side : Option rule.Side) → side ≡ side_as p.pair_of-pair.result.side
     → let s = start_at p in grown_from (back_at s) (fore_at s) s.args.max_gap s.args.budget (counted side p.pair_of-pair.result.read) ≡ burst-at s
 paired p side e =
     let s = start_at p in
@@ -62,9 +62,9 @@ paired p side e =
 abbrev read_at : tie.After-end_of-start → ℕ
 read_at f = f.pair_of-pair.result.read + f.end_of-end.result.read + f.end_of-start.result.read
 
-grew : (f : tie.After-end_of-start) → let s = start_at f.before.before.before.before.before in counted (some (ends (places (back_at s)) (places (fore_at s)) (end_as f.end_of-end.result) (end_as f.end_of-start.result))) (read_at f) ≡ burst-at s
+grew : (f : tie.After-end_of-start) → let s = start_at f.before.before.before in counted (some (ends (places (back_at s)) (places (fore_at s)) (end_as f.end_of-end.result) (end_as f.end_of-start.result))) (read_at f) ≡ burst-at s
 grew f =
-    let p = f.before.before in
+    let p = f.before.before.before in
     let s = start_at p in
     let side : rule.Side = record { distance = f.in-Pair.field-0; first = f.in-Pair.first; last = f.in-Pair.last } in
     grown_some (back_at s) (fore_at s) s.args.max_gap s.args.budget side p.pair_of-pair.result.read f.end_of-end.result f.end_of-start.result f.end_of-end.ensures f.end_of-start.ensures
@@ -73,7 +73,7 @@ grew f =
 -- so that every sum of the counts fits
 read_few : (f : tie.After-end_of-start) → read_at f ≤ most_burst
 read_few f =
-    let p = f.before.before.before.before.before in
+    let p = f.before.before.before in
     let a = (start_at p).args in
     omega (
       arith,
@@ -117,16 +117,16 @@ enum_told c = search rules
 
 returns-4 : tie.Need-returns-in_default
 returns-4 c =
-    let p = c.before.before in
+    let p = c.before in
     let s = start_at p in
     told p.before.before.before.before _
     (grown_none (back_at s) (fore_at s) s.args.max_gap s.args.budget p.pair_of-pair.result.read ∙ paired p none (sym (ap side_as c.in_default.is)))
 
 end-of-requires : tie.Need-end_of-end-requires
-end-of-requires c κs = (stored c.before, c.if-max_gap-lt2.false)
+end-of-requires c κs = (stored c.before.before.before.before, c.if-max_gap-lt2.false)
 
 end-of-requires-2 : tie.Need-end_of-start-requires
-end-of-requires-2 c κs = (stored c.before, c.if-max_gap-lt2.false)
+end-of-requires-2 c κs = (stored c.before.before.before.before.before, c.if-max_gap-lt2.false)
 
 add_read : tie.Need-overflow_add-read
 add_read c = omega (arith, read_few c.before.before)
@@ -137,7 +137,7 @@ add-read-2 c = omega (arith, read_few c.before.before.before)
 returns-5 : tie.Need-returns
 returns-5 c =
     let f = c.before.before.before in
-    told f.before.before.before.before _ (grew f)
+    told f.before.before.before.before.before.before.before _ (grew f)
 
 pub burst_at_spec : {M : Type 1} → statement M
 burst_at_spec =

@@ -1,7 +1,7 @@
 -- `burst::end_of` meets its contract: the loop's jumps are the definition's, at either end, and the nodes read are those of every try. Assumes nothing.
 use Prim.Native.Nat.{ℕ, ◌-◌}
 use mathlib.Core.Path.{◌≡◌, sym, ap, ◌∙◌}
-use mathlib.Core.Bool.{Bool, cond}
+use mathlib.Core.Bool.{Bool, cond, not}
 use mathlib.Core.List.{List}
 use native.Mathlib.Omega.{arith}
 use borrow.Author.Rules.{rules}
@@ -27,7 +27,7 @@ decreases-loop samples l1 l2 l3 l4 unitsize len mask gap budget start from place
 abbrev reach_at : tie.Start invariant-loop decreases-loop → ℕ → Walked
 reach_at s = reach_in s.args.unitsize s.args.len s.args.samples.now (level_of s.args.l1.now s.args.l2.now s.args.l3.now s.args.l4.now) s.args.mask s.args.gap s.args.start
 
-reached : (f : tie.After-seek-sought invariant-loop decreases-loop) → reach_at f.before.before.before f.loop-jumps.place ≡ sought_as f.seek-sought.result
+reached : (f : tie.After-seek-sought invariant-loop decreases-loop) → reach_at f.before.before.before.before.before.before.before.before.before f.loop-jumps.place ≡ sought_as f.seek-sought.result
 reached f =
     let a = f.args in
     let levels = level_of a.l1.now a.l2.now a.l3.now a.l4.now in
@@ -62,7 +62,7 @@ enum_told c = search rules
 
 returns : tie.Need-returns-in_default invariant-loop decreases-loop
 returns c =
-    let f = c.before.before.before in
+    let f = c.before.before in
     jumping_none f.loop-jumps.invariant f.loop-jumps-test.true (reached f) (ap change_as c.in_default.is)
 
 further-requires : tie.Need-further-requires invariant-loop decreases-loop
@@ -70,9 +70,9 @@ further-requires c κs = search rules
 
 returns-2 : tie.Need-returns-then-not-further invariant-loop decreases-loop
 returns-2 c =
-    let f = c.before.before.before.before.before.before in
+    let f = c.before.before.before.before in
     jumping_near f.loop-jumps.invariant f.loop-jumps-test.true (reached f) (ap change_as c.in-At.is)
-    (sym c.further.ensures ∙ not-true c.further.result c.if-not-further.true)
+    (sym c.further.ensures ∙ not-true c.further.result (ap not c.if-not-further.true))
 
 add-jumps : tie.Need-overflow_add-jumps invariant-loop decreases-loop
 add-jumps c = omega arith
@@ -82,9 +82,9 @@ loop-less c = omega arith
 
 loop-again : tie.Need-loop-jumps-preserved invariant-loop decreases-loop
 loop-again c =
-    let f = c.before.before.before.before.before.before in
+    let f = c.before.before.before.before in
     jumping_on f.loop-jumps.invariant f.loop-jumps-test.true (reached f) (ap change_as c.in-At.is)
-    (sym c.further.ensures ∙ not-false c.further.result c.if-not-further.false)
+    (sym c.further.ensures ∙ not-false c.further.result (ap not c.if-not-further.false))
 
 returns-3 : tie.Need-returns invariant-loop decreases-loop
 returns-3 c = jumping_spent c.loop-jumps.invariant c.loop-jumps-test.false

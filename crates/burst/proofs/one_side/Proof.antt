@@ -24,22 +24,25 @@ fore_at s = fore s.args.unitsize s.args.len s.args.samples.now (level_of s.args.
 abbrev side_at : tie.Start → Option ℕ → Counted Side
 side_at s = sided_by (back_at s) (fore_at s) s.args.start s.args.gap s.args.tolerance s.args.sample
 
+abbrev start_at : tie.After-less-distance → tie.Start
+start_at d = d.before.before.before.before.before.before.before.before.before
+
 abbrev near_at : tie.After-less-distance → ℕ
 near_at d = d.in-At.p
 
 abbrev beyond_at : tie.After-less-distance → Walked
-beyond_at d = cond (not d.args.start) (fore_at d) (back_at d) (beyond_from d.args.start (near_at d))
+beyond_at d = cond (not d.args.start) (fore_at (start_at d)) (back_at (start_at d)) (beyond_from d.args.start (near_at d))
 
 -- the contract's side is the one by that search
 told : (d : tie.After-less-distance) (beyond : Walked) → beyond ≡ beyond_at d
-    → side_with d.args.start d.args.gap d.args.tolerance d.less-distance.result (near_at d) beyond ≡ side_at d (change_as d.args.found)
+    → side_with d.args.start d.args.gap d.args.tolerance d.less-distance.result (near_at d) beyond ≡ side_at (start_at d) (change_as d.args.found)
 told d beyond e =
-    side_is (back_at d) (fore_at d) d.args.start d.args.gap d.args.tolerance d.args.sample d.less-distance.result (near_at d) beyond _ (d.less-distance.ensures ∙ ap₂ ◌-◌ d.pick.ensures d.pick-2.ensures) e (ap change_as d.in-At.is)
+    side_is (back_at (start_at d)) (fore_at (start_at d)) d.args.start d.args.gap d.args.tolerance d.args.sample d.less-distance.result (near_at d) beyond _ (d.less-distance.ensures ∙ ap₂ ◌-◌ d.pick.ensures d.pick-2.ensures) e (ap change_as d.in-At.is)
 
 sought : (v : tie.After-seek-sought) → sought_as v.seek-sought.result ≡ beyond_at v.before.before.before.before
 sought v =
     let d = v.before.before.before.before in
-    v.seek-sought.ensures ∙ ap (cond (not d.args.start) (fore_at d) (back_at d)) (v.pick-from.ensures ∙ ap (λ (x : ℕ). cond d.args.start x (near_at d)) v.less.ensures)
+    v.seek-sought.ensures ∙ ap (cond (not d.args.start) (fore_at (start_at d)) (back_at (start_at d))) (v.pick-from.ensures ∙ ap (λ (x : ℕ). cond d.args.start x (near_at d)) v.less.ensures)
 
 -- within the tolerance the side is the one by what the search finds
 abbrev found_at : tie.After-seek-sought → Option ℕ → Counted Side
@@ -48,7 +51,7 @@ found_at v o =
     let a = d.args in
     counted (pair_at a.start a.gap d.less-distance.result (near_at d) o) v.seek-sought.result.read
 
-near_is : (v : tie.After-seek-sought) → found_at v (change_as v.seek-sought.result.change) ≡ side_at v.before.before.before.before (change_as v.args.found)
+near_is : (v : tie.After-seek-sought) → found_at v (change_as v.seek-sought.result.change) ≡ side_at v.before.before.before.before.before.before.before.before.before.before.before.before.before (change_as v.args.found)
 near_is v =
     let d = v.before.before.before.before in
     let a = d.args in
@@ -62,7 +65,7 @@ enum_told c = search rules
 
 returns : tie.Need-returns-in_default
 returns c =
-    let s = c.before.before.before.before.before.before.before in
+    let s = c.before.before.before.before.before.before in
     side_none (back_at s) (fore_at s) s.args.start s.args.gap s.args.tolerance s.args.sample ∙ sym (ap (λ (o : Change). side_at s (change_as o)) c.in_default.is)
 
 pick-requires : tie.Need-pick-requires
@@ -96,7 +99,7 @@ enum-told-2 : tie.Need-enum_told-in_default-change
 enum-told-2 c = search rules
 
 returns-3 : tie.Need-returns-in_default-change
-returns-3 c = let v = c.before.before in sym (ap (λ (o : Change). found_at v (change_as o)) c.in_default-change.is) ∙ near_is v
+returns-3 c = let v = c.before in sym (ap (λ (o : Change). found_at v (change_as o)) c.in_default-change.is) ∙ near_is v
 
 pick-requires-4 : tie.Need-pick-requires-3
 pick-requires-4 c κs = search rules
@@ -109,7 +112,7 @@ side-of-requires c κs = search rules
 
 returns-4 : tie.Need-returns
 returns-4 c =
-    let v = c.before.before in
+    let v = c.before.before.before.before in
     let a = v.args in
     ap (λ (o : Option Side). counted o v.seek-sought.result.read)
     (c.side_of-side.ensures ∙ ap₂ (λ (x y : ℕ). side_if (ltb (y - x) a.gap) (record { distance = v.less-distance.result; first = x; last = y })) c.pick-3.ensures c.pick-4.ensures)

@@ -28,23 +28,23 @@ few : (s : tie.Start) → (pair_at s).steps ≤ 4 * most_search
 few s = pair_read s.args.unitsize s.args.len s.args.samples.now (level_of s.args.l1.now s.args.l2.now s.args.l3.now s.args.l4.now) s.args.mask s.requires.most s.args.gap s.args.tolerance s.args.sample
 
 paired : (w : tie.After-between-near) (near : Option Side) → near ≡ side_as w.between-near.result
-    → let k = w.before.before.before in let p = sought_as k.previous-p.result in let n = sought_as k.next-n.result in or_asked near (p.steps + n.steps) (asked (back_at k) (fore_at k) k.args.gap k.args.tolerance k.args.sample p.found n.found) ≡ pair_at k
+    → let k = w.before.before.before.before.before.before.before.before.before.before in let p = sought_as w.previous-p.result in let n = sought_as w.next-n.result in or_asked near (p.steps + n.steps) (asked (back_at k) (fore_at k) k.args.gap k.args.tolerance k.args.sample p.found n.found) ≡ pair_at k
 paired w near e =
-    let k = w.before.before.before in
-    pair_is (back_at k) (fore_at k) k.args.gap k.args.tolerance k.args.sample near (sought_as k.previous-p.result) (sought_as k.next-n.result) (e ∙ w.between-near.ensures) k.previous-p.ensures k.next-n.ensures
+    let k = w.before.before.before.before.before.before.before.before.before.before in
+    pair_is (back_at k) (fore_at k) k.args.gap k.args.tolerance k.args.sample near (sought_as w.previous-p.result) (sought_as w.next-n.result) (e ∙ w.between-near.ensures) w.previous-p.ensures w.next-n.ensures
 
 abbrev read_at : tie.After-one_side-r → ℕ
 read_at r = r.previous-p.result.read + r.next-n.result.read + r.one_side-l.result.read + r.one_side-r.result.read
 
-sided : (r : tie.After-one_side-r) → counted (nearer (side_as r.one_side-l.result.side) (side_as r.one_side-r.result.side)) (read_at r) ≡ pair_at r
+sided : (r : tie.After-one_side-r) → counted (nearer (side_as r.one_side-l.result.side) (side_as r.one_side-r.result.side)) (read_at r) ≡ pair_at r.before.before.before.before.before.before.before.before.before.before.before.before.before
 sided r =
     ap₂ (counted {A = Side})
     (ap₂ nearer (ap (λ (x : Counted Side). x.found) r.one_side-l.ensures) (ap (λ (x : Counted Side). x.found) r.one_side-r.ensures))
     (omega (arith, ap (λ (x : Counted Side). x.steps) r.one_side-l.ensures, ap (λ (x : Counted Side). x.steps) r.one_side-r.ensures))
-    ∙ paired r.before.before none (sym (ap side_as r.in_default.is))
+    ∙ paired r.before.before.before none (sym (ap side_as r.in_default.is))
 
 read_few : (r : tie.After-one_side-r) → read_at r ≤ 4 * most_search
-read_few r = omega (arith, ap (λ (x : Counted Side). x.steps) (sided r), few r)
+read_few r = omega (arith, ap (λ (x : Counted Side). x.steps) (sided r), few r.before.before.before.before.before.before.before.before.before.before.before.before.before)
 
 previous-requires : tie.Need-previous-p-requires
 previous-requires c κs = search rules
@@ -54,8 +54,8 @@ next-requires c κs = search rules
 
 add_read : tie.Need-overflow_add-read
 add_read c =
-    let k = c.before.before in
-    omega (arith, ap (λ (w : Walked). w.steps) k.previous-p.ensures, ap (λ (w : Walked). w.steps) k.next-n.ensures, few k)
+    let k = c.before.before.before.before.before.before.before.before.before in
+    omega (arith, ap (λ (w : Walked). w.steps) c.previous-p.ensures, ap (λ (w : Walked). w.steps) c.next-n.ensures, few k)
 
 between-requires : tie.Need-between-near-requires
 between-requires c κs = search rules
@@ -65,7 +65,7 @@ enum_told c = search rules
 
 returns : tie.Need-returns-in-Pair
 returns c =
-    let w = c.before.before in
+    let w = c.before in
     let e = ap side_as c.in-Pair.is in
     ap (λ (o : Option Side). counted o (w.previous-p.result.read + w.next-n.result.read)) e ∙ paired w _ (sym e)
 

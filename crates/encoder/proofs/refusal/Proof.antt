@@ -21,17 +21,17 @@ abbrev own : tie.Start → List Row
 own s = pair_row top_line s.args.a s.args.b ∷ []
 
 -- rows 1 and 2 pass: 14 is left
-left : (c : tie.After-pair_wrong) (t : Bool) → c.pair_wrong.result ≡ t → let s = c.before.before in cond t 14 0 ≡ first_of (store_rows (st s) (lent s) (own s))
+left : (c : tie.After-pair_wrong) (t : Bool) → c.pair_wrong.result ≡ t → let s = c.before.before.before.before.before.before.before.before in cond t 14 0 ≡ first_of (store_rows (st s) (lent s) (own s))
 left c t e =
-    let k = c.before.before in
-    rows_decide (st k) (lent k) (own k) k.refusal-number.ensures c.if-number-ne0.false _ (ap (λ (b : Bool). cond b 14 0) (sym e ∙ c.pair_wrong.ensures))
+    let k = c.before.before.before.before.before.before.before.before in
+    rows_decide (st k) (lent k) (own k) c.refusal-number.ensures c.if-number-ne0.false _ (ap (λ (b : Bool). cond b 14 0) (sym e ∙ c.pair_wrong.ensures))
 
 refusal-requires : tie.Need-refusal-number-requires
 refusal-requires c κs = search rules
 
 returns : tie.Need-returns-then-number-ne0
 returns c =
-    let s = c.before in
+    let s = c.before.before.before.before.before.before.before in
     rows_refuse (st s) (lent s) (own s) c.refusal-number.ensures c.if-number-ne0.true
 
 cast-pair-wrong : tie.Need-overflow_cast-pair_wrong

@@ -42,13 +42,13 @@ get-requires c κs =
 
 pass-requires : tie.Need-pass-requires
 pass-requires c κs =
-    let s = c.before in
+    let s = c.before.before.before.before.before.before.before.before in
     let e = c.chunk_end-hi.ensures in
     (part_of_lem s.args.unitsize s.args.len c.chunk_end-hi.result s.args.samples.now (levels s) s.requires.0 (omega (arith, e)), omega arith, omega (arith, e, chunk_inside s.args.len s.args.p s.requires.2))
 
 returns : tie.Need-returns-then-quiet
 returns c =
-    let s = c.before.before in
+    let s = c.before.before.before.before.before.before.before.before.before in
     let e = c.chunk_end-hi.ensures in
     resumed_on (onward_in s.args.unitsize s.args.len s.args.samples.now (levels s) s.args.mask) s.args.len s.args.p _ c.if-quiet.true
     (c.pass.ensures.0 ∙ ap₂ (λ (h v : ℕ). pass_from s.args.unitsize 0 h s.args.samples.now (levels s) s.args.mask s.args.p v) e c.get-value.ensures)

@@ -29,8 +29,8 @@ abbrev lent : tie.Start → Lent
 lent s = lent_of s.args.samples.now (levels s)
 
 -- rows 1, 2 and 14 pass
-sound : (c : tie.Else-number-ne0) → let s = c.before in Sound (st s) (lent s) × Pair s.args.a s.args.b
-sound c = let s = c.before in passed (st s) (lent s) s.args.a s.args.b (sym c.refusal-number.ensures ∙ c.if-number-ne0.false)
+sound : (c : tie.Else-number-ne0) → let s = c.before.before.before.before.before.before.before in Sound (st s) (lent s) × Pair s.args.a s.args.b
+sound c = let s = c.before.before.before.before.before.before.before in passed (st s) (lent s) s.args.a s.args.b (sym c.refusal-number.ensures ∙ c.if-number-ne0.false)
 
 -- whether a line is beyond the grant, as the code found out
 told : (c : tie.After-beyond) (t : Bool) → c.beyond.result ≡ t → beyond c.args.grant (pair_mask c.args.a c.args.b) ≡ t
@@ -42,7 +42,7 @@ refusal-requires c κs = search rules
 returns : tie.Need-returns-then-number-ne0
 unfolding encoder_of
 returns c =
-    let s = c.before in
+    let s = c.before.before.before.before.before.before.before in
     refused_is _ (refused_first (st s) (lent s) s.args.grant s.args.a s.args.b c.refusal-number.ensures c.if-number-ne0.true) c.if-number-ne0.true
 
 cast-pair-mask : tie.Need-overflow_cast-a
@@ -58,9 +58,9 @@ beyond-requires : tie.Need-beyond-requires
 beyond-requires c κs = search rules
 
 -- 12, or no row
-decided : (c : tie.After-beyond) (t : Bool) → c.beyond.result ≡ t → let s = c.before.before.before in (n : ℕ) → n ≡ cond t 12 0 → n ≡ mill_encoder_refusal (st s) (lent s) s.args.grant s.args.a s.args.b
+decided : (c : tie.After-beyond) (t : Bool) → c.beyond.result ≡ t → let s = c.before.before.before.before.before.before.before.before.before in (n : ℕ) → n ≡ cond t 12 0 → n ≡ mill_encoder_refusal (st s) (lent s) s.args.grant s.args.a s.args.b
 decided c t e n d =
-    let s = c.before in
+    let s = c.before.before.before.before.before.before.before.before.before in
     d ∙ beyond_decides (st s) (lent s) s.args.grant s.args.a s.args.b c.refusal-number.ensures c.if-number-ne0.false t (told c t e)
 
 returns-2 : tie.Need-returns-then-beyond
@@ -70,7 +70,7 @@ returns-2 c = refused_is _ (decided c.before true c.if-beyond.true 12 refl) (λ 
 turns-in-requires : tie.Need-turns_in-requires
 turns-in-requires c κs =
     let f = c.before.before.before in
-    let s = f.before in
+    let s = f.before.before.before.before.before.before.before in
     (stored_of s.args.c s.args.samples.now (levels s) (sound f).0, (sound f).1.a_most, (sound f).1.b_most)
 
 returns-3 : tie.Need-returns

@@ -28,15 +28,15 @@ enum_told c = search rules
 
 returns : tie.Need-returns-in-Refused
 unfolding shown
-returns c = sym (ap (shown c.before.before.before) c.in-Refused.is)
+returns c = sym (ap (shown c.before) c.in-Refused.is)
 
 returns-2 : tie.Need-returns-in-Node
 unfolding shown
-returns-2 c = ap (λ (n : Lines). given (some n)) c.cut_node.ensures ∙ sym (ap (shown c.before.before.before.before) c.in-Node.is)
+returns-2 c = ap (λ (n : Lines). given (some n)) c.cut_node.ensures ∙ sym (ap (shown c.before.before) c.in-Node.is)
 
 returns-3 : tie.Need-returns-in-Nothing
 unfolding shown
-returns-3 c = sym (ap (shown c.before.before) c.in-Nothing.is)
+returns-3 c = sym (ap (shown c.before) c.in-Nothing.is)
 
 pub cut_summed_spec : {M : Type 1} → statement M
 cut_summed_spec =

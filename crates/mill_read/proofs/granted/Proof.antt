@@ -21,11 +21,11 @@ enum-known-got-2 c = search rules
 
 returns : tie.Need-returns-in-Refused
 unfolding shown
-returns c = sym (ap (shown c.before.before.before) c.in-Refused.is)
+returns c = sym (ap (shown c.before) c.in-Refused.is)
 
 returns-2 : tie.Need-returns-in-Value
 unfolding shown
-returns-2 c = sym (ap (shown c.before.before.before) c.in-Value.is)
+returns-2 c = sym (ap (shown c.before) c.in-Value.is)
 
 pub granted_spec : {M : Type 1} → statement M
 granted_spec = tie.close (tie.spec enum-known-got enum-known-got-2 returns returns-2)

@@ -93,14 +93,14 @@ same_length c = search rules
 
 returns-2 : tie.Need-returns-in_default
 returns-2 c =
-    let g = c.before.before.before.before in
+    let g = c.before.before.before in
     let f = called g in
     let a = f.args in
     answered f _ _ (copies_none (st f) a.bytes.now (levels f) a.grant (p f) a.count a.output.now f.refusal-number.ensures g.if-number-ne0.false g.samples-copied.result (left g) (service g) _ c.in_default.is)
 
 cut-down-requires : tie.Need-cut_down-requires
 cut-down-requires c κs =
-    let g = c.before.before.before.before.before.before in
+    let g = c.before.before.before.before in
     let f = called g in
     let a = f.args in
     omega (arith, copies_room (st f) a.bytes.now (levels f) a.grant (p f) a.count a.output.now f.refusal-number.ensures g.if-number-ne0.false g.samples-copied.result (left g) (service g) _ c.in-Count.is)
@@ -110,7 +110,7 @@ same-length-2 c = search rules
 
 returns-3 : tie.Need-returns
 returns-3 c =
-    let g = c.before.before.before.before in
+    let g = c.before.before.before.before.before.before.before in
     let f = called g in
     let a = f.args in
     answered f _ _ (copies_count (st f) a.bytes.now (levels f) a.grant (p f) a.count a.output.now f.refusal-number.ensures g.if-number-ne0.false g.samples-copied.result (left g) (service g) _ c.in-Count.is _ c.cut_down.ensures)

@@ -72,17 +72,17 @@ place-at-requires : tie.Need-place_at-i-requires
 place-at-requires c κs = first_placed (let_pass c.before.before c.if-number-ne0.false) _ c.origin-base.ensures
 
 place-at-requires-2 : tie.Need-place_at-j-requires
-place-at-requires-2 c κs = second_placed (let_pass c.before.before c.if-number-ne0.false) _ c.origin-base.ensures
+place-at-requires-2 c κs = second_placed (let_pass c.before.before.before c.if-number-ne0.false) _ c.origin-base.ensures
 
 summed-in-requires : tie.Need-summed_in-requires
-summed-in-requires c κs = (let_pass c.before.before c.if-number-ne0.false).sound
+summed-in-requires c κs = (let_pass c.before.before.before.before c.if-number-ne0.false).sound
 
 cut-summed-requires : tie.Need-cut_summed-requires
 cut-summed-requires c κs = search rules
 
 returns-2 : tie.Need-returns
 returns-2 c =
-    let f = c.before.before in
+    let f = c.before.before.before.before.before.before in
     let a = f.args in
     let i-is = c.place_at-i.ensures ∙ ap (λ (x : ℕ). place_at x (p f)) c.origin-base.ensures in
     let j-is = c.place_at-j.ensures ∙ ap (λ (x : ℕ). place_at x (q f)) c.origin-base.ensures in

@@ -47,7 +47,7 @@ number_is v = let f = v.before.before in rows_decide (st f) (lent f) (own f) f.r
 -- past it the view can be drawn
 ready : (c : tie.After-origin-from) → let f = c.before.before.before.before in Drawable (st f) (lent f) c.origin-from.result (s f).args.width (length (s f).args.output.now)
 ready c =
-    let f = c.before.before in
+    let f = c.before.before.before.before in
     let a = (s f).args in
     drawable (st f) (lent f) (view_as a.view) a.width (length a.output.now) (let_in f.refusal-n.ensures c.if-n-ne0.false) c.origin-from.result
     (omega (arith, c.origin-from.ensures, origin_stored (st f) (lent f) f.refusal-n.ensures c.if-n-ne0.false)) (sym c.view_refusal-k.ensures ∙ c.if-k-ne0.false)
@@ -81,7 +81,7 @@ mul-cut-down c = omega (arith, (ready c.before.before.before.before.before).most
 
 cut-down-requires : tie.Need-cut_down-requires
 cut-down-requires c κs =
-    let o = c.before.before in
+    let o = c.before.before.before.before.before in
     let f = o.before.before.before.before in
     let a = (s f).args in
     drawn_room a.grant (node_at f) (range_from o.origin-from.result (view_as a.view) a.c.len) a.width a.output.now _ (ready o).room c.draw.ensures
@@ -91,9 +91,9 @@ same_length c = search rules
 
 returns-3 : tie.Need-returns
 returns-3 c =
-    let f = c.before.before.before.before in
+    let f = c.before.before.before.before.before.before.before.before.before.before.before.before in
     let a = (s f).args in
-    draws_done (node_at f) (st f) (lent f) a.grant (view_as a.view) a.width a.output.now (number_is c.before.before) c.if-k-ne0.false c.origin-from.result _ _ c.origin-from.ensures c.draw.ensures c.cut_down.ensures
+    draws_done (node_at f) (st f) (lent f) a.grant (view_as a.view) a.width a.output.now (number_is c.before.before.before.before.before.before.before.before.before.before) c.if-k-ne0.false c.origin-from.result _ _ c.origin-from.ensures c.draw.ensures c.cut_down.ensures
 
 pub render_spec : {M : Type 1} → statement M
 render_spec = tie.close (tie.spec refusal-requires returns view-refusal-requires returns-2 origin-requires draw-requires mul-cut-down cut-down-requires same_length returns-3)

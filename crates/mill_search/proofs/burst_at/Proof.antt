@@ -58,7 +58,7 @@ burst-at-requires c κs = search rules
 
 burst-from-requires : tie.Need-burst_from-requires
 burst-from-requires c κs =
-    let f = c.before.before in
+    let f = c.before.before.before.before in
     let t = s f in
     asked_counts t.args.c t.args.samples.now (levels f) t.args.grant t.args.mask t.args.sample t.ranges.sample f.beyond-outside.ensures f.refusal-number.ensures
     c.if-number-ne0.false c.origin-base.result c.origin-base.ensures
@@ -68,7 +68,7 @@ burst-from-requires c κs =
 returns-2 : tie.Need-returns
 unfolding burst_of
 returns-2 c =
-    let f = c.before.before in
+    let f = c.before.before.before.before.before in
     let t = s f in
     asked_shown t.args.c t.args.samples.now (levels f) t.args.grant t.args.mask t.args.sample t.ranges.sample f.beyond-outside.ensures f.refusal-number.ensures
     c.if-number-ne0.false c.origin-base.result c.origin-base.ensures

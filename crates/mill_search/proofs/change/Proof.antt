@@ -97,7 +97,7 @@ found-from-requires : tie.Need-found_from-requires
 found-from-requires c κs = counts c.before.before true c.if-backward.true c.prev_in-place.result c.prev_in-place.ensures
 
 returns-2 : tie.Need-returns-then-backward
-returns-2 c = shows c.before.before true c.if-backward.true c.prev_in-place.result c.prev_in-place.ensures _ c.found_from.ensures
+returns-2 c = shows c.before.before.before true c.if-backward.true c.prev_in-place.result c.prev_in-place.ensures _ c.found_from.ensures
 
 next-in-requires : tie.Need-next_in-place-requires
 next-in-requires c κs = stored c.before
@@ -106,7 +106,7 @@ found-from-requires-2 : tie.Need-found_from-requires-2
 found-from-requires-2 c κs = counts c.before.before false c.if-backward.false c.next_in-place.result c.next_in-place.ensures
 
 returns-3 : tie.Need-returns
-returns-3 c = shows c.before.before false c.if-backward.false c.next_in-place.result c.next_in-place.ensures _ c.found_from-2.ensures
+returns-3 c = shows c.before.before.before false c.if-backward.false c.next_in-place.result c.next_in-place.ensures _ c.found_from-2.ensures
 
 pub change_spec : {M : Type 1} → statement M
 change_spec =

@@ -1,4 +1,5 @@
 -- `shelf_head::head_good` meets its contract: the tests in order. Assumes nothing.
+use mathlib.Core.Bool.{not}
 use mathlib.Core.Path.{ap, ◌∙◌}
 use borrow.Author.Rules.{rules}
 use Rattle.rules.specs.Shelf.{heading_wrong}
@@ -23,14 +24,14 @@ good-requires c κs = search rules
 
 returns-2 : tie.Need-returns-then-not-good
 returns-2 c =
-    block_wrong c.args.file.now c.if-file-lt-BLOCK.false c.good.ensures c.if-not-good.true
+    block_wrong c.args.file.now c.if-file-lt-BLOCK.false c.good.ensures (ap not c.if-not-good.true)
 
 mark-right-requires : tie.Need-mark_right-requires
 mark-right-requires c κs = search rules
 
 returns-3 : tie.Need-returns-then-not-mark_right
 returns-3 c =
-    mark_wrong_lem c.args.file.now c.if-file-lt-BLOCK.false c.good.ensures c.if-not-good.false c.mark_right.ensures c.if-not-mark_right.true
+    mark_wrong_lem c.args.file.now c.if-file-lt-BLOCK.false c.good.ensures (ap not c.if-not-good.false) c.mark_right.ensures (ap not c.if-not-mark_right.true)
 
 heading-in-requires : tie.Need-heading_in-requires
 heading-in-requires c κs = search rules
@@ -40,7 +41,7 @@ heading-wrong-requires c κs = search rules
 
 returns-4 : tie.Need-returns
 returns-4 c =
-    by_heading c.args.file.now c.if-file-lt-BLOCK.false c.good.ensures c.if-not-good.false c.mark_right.ensures c.if-not-mark_right.false
+    by_heading c.args.file.now c.if-file-lt-BLOCK.false c.good.ensures (ap not c.if-not-good.false) c.mark_right.ensures (ap not c.if-not-mark_right.false)
     (c.heading_wrong.ensures ∙ ap heading_wrong c.heading_in.ensures)
 
 pub head_good_spec : {M : Type 1} → statement M

@@ -17,10 +17,10 @@ put-at-requires : tie.Need-put_at-requires
 put-at-requires c κs = (omega arith, simp length-set (omega (arith, c.requires)))
 
 put-at-requires-2 : tie.Need-put_at-requires-2
-put-at-requires-2 c κs = (omega arith, omega (arith, simp length-set at c.put_at.auto.0, c.requires))
+put-at-requires-2 c κs = (omega arith, omega (arith, simp length-set at c.put_at.auto.block, c.requires))
 
 same_length : tie.Need-shape_of-head
-same_length c = c.put_at-2.auto.0 ∙ simp length-set at c.put_at.auto.0
+same_length c = c.put_at-2.auto.block ∙ simp length-set at c.put_at.auto.block
 
 returns : tie.Need-returns
 returns c =

@@ -60,7 +60,7 @@ returns-2 c =
     (crosses_on (walked a.back (reader_of a.unitsize a.samples.now (level_of a.l1.now a.l2.now a.l3.now a.l4.now)) a.mask a.len) a.back a.list.now (walked a.back (reader_of a.unitsize a.samples.now (level_of a.l1.now a.l2.now a.l3.now a.l4.now)) a.mask a.len a.from) c.loop-k.invariant c.nth.ensures c.stretch_at-s.ensures c.cross-kept.ensures ∙ ap spot_of c.in_default-kept.is)
 
 add-k : tie.Need-overflow_add-k invariant-loop decreases-loop
-add-k c = omega (arith, c.loop-k-test.true, c.before.before.before.before.before.before.before.before.before.before.before.before.before.before.before.before.before.before.well-formed)
+add-k c = omega (arith, c.loop-k-test.true, c.before.before.before.before.before.before.before.before.before.before.before.before.before.before.well_formed)
 
 loop-less : tie.Need-loop-k-smaller invariant-loop decreases-loop
 loop-less c = search rules

@@ -1,7 +1,6 @@
 -- `unknown::nth` meets its contract. Assumes nothing.
 use mathlib.Core.Path.{sym, ap}
 use mathlib.Core.Bool.{Bool}
-use native.Mathlib.Omega.{arith}
 use borrow.Author.Rules.{rules}
 use Rattle.unknown.specs.Crossing.{nth_number}
 use Rattle.unknown.proofs.nth.Statement.{statement}

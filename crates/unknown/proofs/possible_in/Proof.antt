@@ -4,7 +4,6 @@ use mathlib.Core.Bool.{Bool, cond}
 use mathlib.Core.Option.{Option, none}
 use Prim.Native.Nat.{ℕ}
 use borrow.Author.Rules.{rules}
-use borrow.Author.Tests.{not-true, not-false}
 use Rattle.node.specs.Memory.{level_of, reader_of}
 use Rattle.unknown.specs.Crossing.{walked}
 use Rattle.unknown.specs.Meeting.{entry, from_entry}

@@ -1,5 +1,4 @@
 -- `unknown::resume` meets its contract. Assumes nothing.
-use mathlib.Core.Path.{◌≡◌}
 use native.Mathlib.Omega.{arith}
 use borrow.Author.Rules.{rules}
 use Rattle.unknown.proofs.Crossing.{resume_back, resume_on}

@@ -1,16 +1,13 @@
 -- `whole::first_wrong` meets its contract: the levels below the one at hand are right, and so are the nodes below the one at hand. Assumes nothing.
 use Prim.Native.Nat.{ℕ, ◌<◌}
-use mathlib.Core.Bool.{false}
-use mathlib.Core.Path.{◌≡◌, sym, ap, ◌∙◌, subst}
+use mathlib.Core.Path.{sym, ap, ◌∙◌, subst}
 use mathlib.Core.Option.{some}
 use native.Mathlib.Omega.{arith}
 use Rattle.rules.specs.Sample.{sample_of}
-use Rattle.rules.specs.Node.{top_level}
 use Rattle.rules.specs.Answer.{given}
 use Rattle.node.specs.Memory.{level_of}
-use Rattle.whole.proofs.Laws.{Checking, checking_starts, checking_on, checking_found, checking_ends, none_more, wrong_is, covering}
-use Rattle.rules.specs.Wrong.{NodeAt, wrong_at}
-use Rattle.whole.specs.Wrong.{held_in}
+use Rattle.whole.proofs.Laws.{checking_starts, checking_on, checking_found, checking_ends, none_more, wrong_is, covering}
+use Rattle.rules.specs.Wrong.{NodeAt}
 use Rattle.whole.proofs.first_wrong.Goals as goal
 use Rattle.whole.proofs.first_wrong.Goals.{else-levels-test, then-levels-test+then-loop-j-test+then-node_wrong}
 
