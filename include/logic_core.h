@@ -1,4 +1,4 @@
-/* The capture of sixteen digital lines: its calls from C. liblogic_core.a holds them (rt staticlib logic_core).
+/* The capture of sixteen digital lines: its calls from C. liblogic_core.a holds them (tools/staticlib).
  *
  * Each call checks what it is given, ends, and touches nothing but the memory that it is lent. All that a caller owes:
  * pointers are valid for their lengths, aligned and not null; what a call writes overlaps nothing else that it gets; and

@@ -11,7 +11,7 @@ use Rattle.capture.specs.declared.Started.TheVariants as started
 use Rattle.capture.specs.Record.{store_of}
 use Rattle.capture.specs.Calls.{started_of}
 use Rattle.shelf_head.specs.declared.FileLength.{FileLength}
-use Rattle.shelf_head.specs.declared.FileLength.TheVariants as length
+use Rattle.shelf_head.specs.declared.FileLength.TheVariants as file_length
 use Rattle.shelf_head.specs.Head.{length_of}
 use Rattle.shelf_write.proofs.write.Reads as write-call
 use Rattle.shelf_read.proofs.read.Reads as read-call
@@ -44,7 +44,7 @@ FilesUndone = Files Writes Reads
 abbrev pub FiledAlike : Type 0
 FiledAlike =
     (run : List ℕ) (mark : Option ℕ) (c : Capture) (m : Memory) → Held run mark c m
-    → (output : List ℕ) (n : ℕ) (output' : List ℕ) → MayWrite c m output (length.Bytes n) output'
+    → (output : List ℕ) (n : ℕ) (output' : List ℕ) → MayWrite c m output (file_length.Bytes n) output'
     → (capacity : ℕ) (m₂ : Memory) (d : Capture) (m₂' : Memory) → Enough capacity (store_of c) m₂ → MayRead capacity (take n output') m₂ (started.Store d) m₂'
     → (v : ℕ) → LookAlike v c m d m₂'
 
@@ -52,6 +52,6 @@ FiledAlike =
 abbrev pub RecordingsFiled : Type 0
 RecordingsFiled =
     (r : Recording)
-    → (output : List ℕ) (n : ℕ) (output' : List ℕ) → MayWrite (store r) r.memory.store output (length.Bytes n) output'
+    → (output : List ℕ) (n : ℕ) (output' : List ℕ) → MayWrite (store r) r.memory.store output (file_length.Bytes n) output'
     → (capacity : ℕ) (m : Memory) (d : Capture) (m' : Memory) → Enough capacity (store_of (store r)) m → MayRead capacity (take n output') m (started.Store d) m'
     → (v : ℕ) → LookAlike v (store r) r.memory.store d m'

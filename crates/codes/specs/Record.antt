@@ -6,7 +6,6 @@ use Rattle.rules.specs.Node.{Node, Lines, lines_of}
 use Rattle.rules.specs.Burst.{Burst}
 use Rattle.rules.specs.Refusal.{Store, Lent}
 use Rattle.rules.specs.Answer.{Answer, seen}
-use Rattle.capture.specs.declared.Mark.{Mark}
 use Rattle.capture.specs.declared.Mark.TheVariants.{Absent, At}
 use Rattle.capture.specs.declared.Capture.{Capture}
 use Rattle.capture.specs.Numbers.{unit_at, len_at, unit_in, capacity_in, len_in, marked_in, mark_place_in}

@@ -1,7 +1,7 @@
 -- A recorder's start: each of its answers is the definition's; over a list of terms the definition is 01's; and a fresh recorder is within the bounds that a push asks.
 use mathlib.Core.Path.{◌≡◌, refl, sym, ap, ◌∙◌, subst}
 use mathlib.Core.Bool.{Bool, true, false, cond}
-use mathlib.Core.List.{List, [], ◌∷◌, ◌++◌, map}
+use mathlib.Core.List.{List, [], ◌∷◌}
 use mathlib.Core.Option.{none}
 use Prim.Native.Nat.{ℕ, zero, suc, ◌*◌, ◌≤◌, ◌<◌, ◌^◌}
 use native.Mathlib.Nat.{mul-le-mul}
@@ -13,8 +13,8 @@ use Rattle.rules.specs.Sample.{unit_of}
 use Rattle.rules.specs.Pretrigger as rule
 use Rattle.rules.specs.Trigger as trigger
 use Rattle.rules.specs.Selection.{Settings, pre_of}
-use Rattle.rules.specs.Refusal.{Store, Lent, Row, first_of, store_refusal, fresh, ring_need, line_wrong, wish_wrong, number_wrong, start_refusal, start_rows, settings_rows, pre_row}
-use Rattle.rules.specs.Answer.{Answer, refused, given, unless}
+use Rattle.rules.specs.Refusal.{Store, Lent, Row, first_of, store_refusal, fresh, ring_need, wish_wrong, number_wrong, start_refusal, start_rows, settings_rows, pre_row}
+use Rattle.rules.specs.Answer.{refused, given, unless}
 use Rattle.rules.proofs.Refusal.{neither, Sound, SoundRecorder}
 use Rattle.capture.proofs.Answer.{refused_is, unless_given, stopped, rows_refuse, rows_decide}
 use Rattle.terms.specs.declared.Terms.{Terms}

@@ -2,12 +2,12 @@
 use mathlib.Core.Path.{◌≡◌, refl, sym, ap, ◌∙◌}
 use mathlib.Core.Bool.{Bool, true, false, cond, not, ◌&&◌, ◌||◌, or-true}
 use mathlib.Core.List.{List, [], ◌∷◌, ◌++◌}
-use Prim.Native.Nat.{ℕ, zero, suc, ◌+◌, ◌*◌, ◌≤◌, ◌<◌, ◌^◌}
+use Prim.Native.Nat.{ℕ, ◌≤◌, ◌<◌, ◌^◌}
 use native.Mathlib.Nat.{mul-le-mul}
 use native.Mathlib.Omega.{arith}
 use lib.Dec.{ltb, leb, eqb}
-use borrow.Author.Tests.{leb-false, le-ltb}
-use Rattle.rules.specs.Refusal.{Store, Lent, Row, first_of, store_wrong, lent_short, store_refusal, Recorder, recorder_wrong, ring_need, place_wrong, setting_wrong, ring_short, recorder_rows, recorder_refusal}
+use borrow.Author.Tests.{leb-false}
+use Rattle.rules.specs.Refusal.{Store, Lent, Row, first_of, store_wrong, lent_short, store_refusal, Recorder, ring_need, place_wrong, setting_wrong, ring_short, recorder_refusal}
 use Rattle.rules.proofs.Refusal.{row_passed, neither, ranged, Sound, MarkInside, rows_passed, SoundRecorder, recorder_rest, recorder_passed}
 
 -- ---- rows in order

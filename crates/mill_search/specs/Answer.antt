@@ -1,6 +1,6 @@
 -- What a mill's searches answer: 02's refusals, else the service's walk over memory's own nodes, its places as the mill counts them.
 use Rattle.std.specs.Prelude.{◌≡◌, Bool, true, false, List, ℕ, ◌≤◌, ℤ}
-use Rattle.std.proofs.Math.Option.{Option, none, some}
+use Rattle.std.proofs.Math.Option.{none, some}
 use Rattle.rules.specs.Answer.{Answer, refused, given, unless}
 use Rattle.rules.specs.Burst as rule
 use Rattle.rules.specs.Walk.{Counted, Walked, through}
@@ -12,7 +12,6 @@ use Rattle.burst.specs.Answer.{back, fore}
 use Rattle.mill.specs.Reader.{origin_in}
 use Rattle.mill_search.specs.declared.Found.{Found}
 use Rattle.mill_search.specs.declared.Found.TheVariants as found
-use Rattle.mill_search.specs.declared.Burst.{Burst}
 use Rattle.mill_search.specs.declared.Bursts.{Bursts}
 use Rattle.mill_search.specs.declared.Bursts.TheVariants as bursts
 

@@ -6,7 +6,7 @@ use Rattle.rules.specs.Shelf as rule
 use Rattle.capture.specs.Record.{mark_of}
 use Rattle.shelf_head.specs.declared.Heading.{Heading}
 use Rattle.shelf_head.specs.declared.FileLength.{FileLength}
-use Rattle.shelf_head.specs.declared.FileLength.TheVariants as length
+use Rattle.shelf_head.specs.declared.FileLength.TheVariants as file_length
 use Rattle.shelf_head.specs.declared.Says.{Says}
 use Rattle.shelf_head.specs.declared.Says.TheVariants as says
 
@@ -14,8 +14,8 @@ abbrev pub heading_as : Heading → rule.Heading
 heading_as h = record { unit = h.unitsize; mark = mark_of h.trigger; len = h.len }
 
 abbrev pub length_of : FileLength → Answer ℕ
-length_of (length.Refused n) = refused n
-length_of (length.Bytes n) = given n
+length_of (file_length.Refused n) = refused n
+length_of (file_length.Bytes n) = given n
 
 abbrev pub said_of : Says → Answer rule.Heading
 said_of (says.Refused n) = refused n

@@ -8,7 +8,7 @@ use lib.Ieee.{Float, is_nan}
 use Rattle.rules.specs.Refusal.{number_wrong}
 use Rattle.feeder.specs.Record.{wish_of}
 use Rattle.feeder.specs.declared.Pretrigger.{Pretrigger}
-use Rattle.feeder.specs.declared.Pretrigger.TheVariants.{Fraction, Seconds}
+use Rattle.feeder.specs.declared.Pretrigger.TheVariants.{Seconds}
 use Rattle.feeder.proofs.number_wrong.Statement.{statement}
 use Rattle.feeder.proofs.number_wrong.Tie as tie
 

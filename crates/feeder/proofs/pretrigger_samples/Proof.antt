@@ -2,18 +2,17 @@
 use mathlib.Core.Path.{◌≡◌, sym, ap, ◌∙◌}
 use mathlib.Core.Bool.{false}
 use Prim.Native.Nat.{ℕ, ◌≤◌}
-use native.Mathlib.Omega.{arith}
 use borrow.Author.Rules.{rules}
 use borrow.Author.Tests.{ltb-false}
 use lib.Dec.{ltb}
 use lib.Ieee.{Float, is_nan}
-use Rattle.rules.specs.Pretrigger.{Pre, pre_for}
+use Rattle.rules.specs.Pretrigger.{pre_for}
 use Rattle.rules.specs.Refusal.{number_wrong}
 use Rattle.rules.proofs.Refusal.{neither}
 use Rattle.feeder.specs.Record.{wish_of}
 use Rattle.feeder.specs.Start.{Workable}
 use Rattle.feeder.specs.declared.Pretrigger.{Pretrigger}
-use Rattle.feeder.specs.declared.Pretrigger.TheVariants.{Fraction, Seconds}
+use Rattle.feeder.specs.declared.Pretrigger.TheVariants.{Seconds}
 use Rattle.feeder.proofs.pretrigger_samples.Statement.{statement}
 use Rattle.feeder.proofs.pretrigger_samples.Tie as tie
 

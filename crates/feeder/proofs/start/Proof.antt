@@ -1,5 +1,4 @@
 -- `feeder::start` meets its contract: at each `return` the rows so far say what the answer is. Assumes nothing.
-use mathlib.Core.Path.{◌≡◌, sym, ◌∙◌}
 use Prim.Native.Nat.{ℕ}
 use borrow.Author.Rules.{rules}
 use lib.ListN.{length}
@@ -29,32 +28,32 @@ returns : tie.Need-returns-then-number-ne0
 returns c =
     let n = c.before.before.before.before.before.before.before.before.before in
     let s = n.args in
-    start_refused s.channels s.capacity s.limit s.terms s.wish s.rate (lent n) (ring n) c.unit_of-unitsize.result c.unit_of-unitsize.ensures n.settings_refusal-number.ensures c.if-number-ne0.true
+    start_refused s.channels s.capacity s.limit s.terms s.wish s.rate (lent n) (ring n) c.unit_of-unitsize.result c.unit_of-unitsize.ensures c.settings_refusal-number.ensures c.if-number-ne0.true
 
 pretrigger-samples-requires : tie.Need-pretrigger_samples-kept-requires
 pretrigger-samples-requires c κs =
     let n = c.before.before.before.before.before.before.before.before.before in
     let s = n.args in
-    workable s.channels s.capacity s.limit s.terms s.wish s.rate (lent n) (ring n) c.unit_of-unitsize.result c.unit_of-unitsize.ensures n.settings_refusal-number.ensures c.if-number-ne0.false
+    workable s.channels s.capacity s.limit s.terms s.wish s.rate (lent n) (ring n) c.unit_of-unitsize.result c.unit_of-unitsize.ensures c.settings_refusal-number.ensures c.if-number-ne0.false
 
 returns-2 : tie.Need-returns-then-capacity-pre
 returns-2 c =
     let n = c.before.before.before.before.before.before.before.before.before.before.before in
     let s = n.args in
-    too_many s.channels s.capacity s.limit s.terms s.wish s.rate (lent n) (ring n) c.unit_of-unitsize.result c.unit_of-unitsize.ensures n.settings_refusal-number.ensures c.if-number-ne0.false
+    too_many s.channels s.capacity s.limit s.terms s.wish s.rate (lent n) (ring n) c.unit_of-unitsize.result c.unit_of-unitsize.ensures c.settings_refusal-number.ensures c.if-number-ne0.false
     (kept_as c.pretrigger_samples-kept.result) c.pretrigger_samples-kept.ensures c.if-capacity-pre.true
 
 mul-if3 : tie.Need-overflow_mul-pre
 mul-if3 c =
     let n = c.before.before.before.before.before.before.before.before.before.before.before in
     let s = n.args in
-    record { fits = pre_fits s.channels s.capacity s.limit s.terms s.wish s.rate (lent n) (ring n) c.unit_of-unitsize.result c.unit_of-unitsize.ensures n.settings_refusal-number.ensures c.if-number-ne0.false _ c.if-capacity-pre.false }
+    record { fits = pre_fits s.channels s.capacity s.limit s.terms s.wish s.rate (lent n) (ring n) c.unit_of-unitsize.result c.unit_of-unitsize.ensures c.settings_refusal-number.ensures c.if-number-ne0.false _ c.if-capacity-pre.false }
 
 returns-3 : tie.Need-returns-then-ring-pre
 returns-3 c =
     let n = c.before.before.before.before.before.before.before.before.before.before.before.before in
     let s = n.args in
-    ring_short_lem s.channels s.capacity s.limit s.terms s.wish s.rate (lent n) (ring n) c.unit_of-unitsize.result c.unit_of-unitsize.ensures n.settings_refusal-number.ensures c.if-number-ne0.false
+    ring_short_lem s.channels s.capacity s.limit s.terms s.wish s.rate (lent n) (ring n) c.unit_of-unitsize.result c.unit_of-unitsize.ensures c.settings_refusal-number.ensures c.if-number-ne0.false
     (kept_as c.pretrigger_samples-kept.result) c.pretrigger_samples-kept.ensures c.if-capacity-pre.false c.if-ring-pre.true
 
 armed-by-requires : tie.Need-armed_by-requires
@@ -64,7 +63,7 @@ returns-4 : tie.Need-returns
 returns-4 c =
     let n = c.before.before.before.before.before.before.before.before.before.before.before.before.before in
     let s = n.args in
-    accepted s.channels s.capacity s.limit s.terms s.wish s.rate (lent n) (ring n) c.unit_of-unitsize.result c.unit_of-unitsize.ensures n.settings_refusal-number.ensures c.if-number-ne0.false
+    accepted s.channels s.capacity s.limit s.terms s.wish s.rate (lent n) (ring n) c.unit_of-unitsize.result c.unit_of-unitsize.ensures c.settings_refusal-number.ensures c.if-number-ne0.false
     (kept_as c.pretrigger_samples-kept.result) c.pretrigger_samples-kept.ensures c.if-capacity-pre.false c.if-ring-pre.false (armed_as c.armed_by.result) c.armed_by.ensures
 
 pub start_spec : {M : Type 1} → statement M

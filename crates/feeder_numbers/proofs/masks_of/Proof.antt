@@ -1,7 +1,6 @@
 -- `feeder_numbers::masks_of` meets its contract, case by case. Assumes nothing.
 use mathlib.Core.Path.{sym, ap, ◌∙◌}
 use borrow.Author.Rules.{rules}
-use Rattle.terms.specs.declared.Masks.{Masks}
 use Rattle.terms.specs.Terms.{as_masks}
 use Rattle.feeder.specs.declared.Armed.{Armed}
 use Rattle.feeder.specs.Record.{armed_as}

@@ -14,7 +14,7 @@ start_at p = p.before.before.before.before.before.before.before
 -- and the start from there
 abbrev start_of_call : tie.After-store_run-taken → tie.Start
 start_of_call p =
-    start_at p.before.before.before.before
+    start_at p.before.before.before.before.before.before.before.before.before.before
 
 lesser-requires : tie.Need-lesser-before-requires
 lesser-requires c κs = search rules
@@ -30,24 +30,24 @@ sub-store-run c = search rules
 
 store-run-requires : tie.Need-store_run-taken-requires
 store-run-requires c κs =
-    let s = start_at c.before.before in
+    let s = start_at c.before.before.before.before.before.before.before.before.before in
     let a = s.args in
     fire_room (recorder_of a.f) a.samples.now (level_of a.l1.now a.l2.now a.l3.now a.l4.now) a.ring.now a.bytes.now a.n s.requires.0 a.i s.requires.1 c.lesser-before.result c.lesser-w.result c.lesser-before.ensures c.lesser-w.ensures
 
 get-requires : tie.Need-get-v-requires
 get-requires c κs =
-    let s = start_of_call c in
+    let s = start_of_call c.before.before.before.before.before.before.before.before.before.before in
     let a = s.args in
     held_in (recorder_of a.f) a.samples.now (level_of a.l1.now a.l2.now a.l3.now a.l4.now) (length a.ring.now) (length a.bytes.now) a.n s.requires.0 a.i s.requires.1
 
 fired-by-requires : tie.Need-fired_by-requires
 fired-by-requires c κs =
-    let s = start_of_call c.before in
+    let s = start_of_call c.before.before.before.before.before.before.before.before.before.before.before in
     s.requires.0.sound.kept_most
 
 answer-requires : tie.Need-answer-requires
 answer-requires c κs =
-    let s = start_at c.before.before in
+    let s = start_at c.before.before.before.before.before.before.before.before.before.before.before.before.before.before.before.before.before.before.before.before.before.before in
     let a = s.args in
     fire_fits (recorder_of a.f) a.samples.now (level_of a.l1.now a.l2.now a.l3.now a.l4.now) a.ring.now a.bytes.now a.n s.requires.0 a.i s.requires.1 c.lesser-before.result c.lesser-w.result c.lesser-before.ensures c.lesser-w.ensures
     c.store_run-taken.result _ _ c.store_run-taken.ensures (recorder_of c.fired_by.result) c.get-v.result c.fired_by.ensures
@@ -69,7 +69,7 @@ same-length-5 c = search rules
 
 returns : tie.Need-returns
 returns c =
-    let s = start_at c.before.before in
+    let s = start_at c.before.before.before.before.before.before.before.before.before.before.before.before.before.before.before.before.before.before.before.before.before.before.before in
     let a = s.args in
     fire_done (recorder_of a.f) a.samples.now (level_of a.l1.now a.l2.now a.l3.now a.l4.now) a.ring.now a.bytes.now a.n s.requires.0 a.i s.requires.1 c.lesser-before.result c.lesser-w.result c.lesser-before.ensures c.lesser-w.ensures
     c.store_run-taken.result _ _ c.store_run-taken.ensures (recorder_of c.fired_by.result) c.get-v.result c.fired_by.ensures c.get-v.ensures c.answer.result c.answer.ensures

@@ -20,7 +20,7 @@ start_at p = p.before.before.before.before.before.before.before
 
 module _ (f : tie.After-refusal_of-number) where
   abbrev s : tie.Start
-  s = start_at f.before.before.before.before.before.before.before
+  s = start_at f.before
 
   abbrev levels : ℕ → List ℕ
   levels = level_of s.args.l1.now s.args.l2.now s.args.l3.now s.args.l4.now
@@ -72,14 +72,14 @@ enum_told c = search rules
 store-run-requires : tie.Need-store_run-taken-requires
 store-run-requires c κs =
     let i = c.before.before.before in
-    let f = i.before in
+    let f = i.before.before.before.before.before in
     let a = (s f).args in
     all_room a.f a.samples.now (levels f) a.ring.now a.bytes.now (free i)
 
 answer-requires : tie.Need-answer-requires
 answer-requires c κs =
     let i = c.before.before.before in
-    let f = i.before in
+    let f = i.before.before.before.before.before.before.before.before.before.before.before.before.before.before.before.before in
     let a = (s f).args in
     taken_fits (recorder_of a.f) a.samples.now (levels f) (length a.ring.now) (length a.bytes.now) _ (room a.f a.samples.now (levels f) a.ring.now a.bytes.now (free i)) c.store_run-taken.result c.store_run-taken.ensures
 
@@ -104,7 +104,7 @@ same-length-12 c = search rules
 returns-2 : tie.Need-returns-in_default
 returns-2 c =
     let i = c.before.before.before in
-    let f = i.before in
+    let f = i.before.before.before.before.before.before.before.before.before.before.before.before.before.before.before.before.before in
     let a = (s f).args in
     pushed_unarmed a.f a.samples.now (levels f) a.ring.now a.bytes.now (free i) c.in_default.is c.store_run-taken.result c.answer.result _ _ c.store_run-taken.ensures c.answer.ensures
 
@@ -118,7 +118,7 @@ first-fire-requires c κs =
 fire-requires : tie.Need-fire-requires
 fire-requires c κs =
     let i = c.before.before.before.before.before.before in
-    let f = i.before in
+    let f = i.before.before.before.before in
     let a = (s f).args in
     (room a.f a.samples.now (levels f) a.ring.now a.bytes.now (free i), c.if-i-n.true)
 
@@ -143,7 +143,7 @@ same-length-18 c = search rules
 returns-3 : tie.Need-returns-then-i-n
 returns-3 c =
     let i = c.before.before.before in
-    let f = i.before in
+    let f = i.before.before.before.before.before.before.before.before.before.before.before.before.before.before.before.before.before.before in
     let a = (s f).args in
     pushed_fired a.f a.samples.now (levels f) a.ring.now a.bytes.now (free i) c.in-Waiting.m c.in-Waiting.is c.first_fire-i.result c.first_fire-i.ensures c.if-i-n.true c.fire.result _ _ c.fire.ensures
 
@@ -175,7 +175,7 @@ same-length-24 c = search rules
 returns-4 : tie.Need-returns
 returns-4 c =
     let i = c.before.before.before in
-    let f = i.before in
+    let f = i.before.before.before.before.before.before in
     let a = (s f).args in
     pushed_waited a.f a.samples.now (levels f) a.ring.now a.bytes.now (free i) c.in-Waiting.m c.in-Waiting.is c.first_fire-i.result c.first_fire-i.ensures c.if-i-n.false c.wait.result _ c.wait.ensures
 

@@ -53,7 +53,7 @@ module _ (g : tie.After-samples-copied) where
   called = g.before.before.before.before.before
 
   abbrev left : List ℕ
-  left = g.samples-copied.last.1.1.1.1.1.1.1.1.0
+  left = g.samples-copied.new.output
 
   abbrev i : ℕ
   i = place_at (origin_in (s called).args.c) (p called)

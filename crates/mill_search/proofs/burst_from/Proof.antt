@@ -37,12 +37,12 @@ enum-known-found-3 c = search rules
 
 returns : tie.Need-returns-in-Refused
 unfolding shown
-returns c = sym (ap (shown c.before.before) c.in-Refused.is)
+returns c = sym (ap (shown c.before) c.in-Refused.is)
 
 returns-2 : tie.Need-returns-in-At
 unfolding shown
 returns-2 c =
-    let s = c.before.before.before.before in
+    let s = c.before.before.before in
     let b = c.in-At.b in
     let b_is = c.in-At.is in
     let small = s.requires.1 _ _ (ap burst_as b_is) in
@@ -52,7 +52,7 @@ returns-2 c =
 
 returns-3 : tie.Need-returns-in-Nothing
 unfolding shown
-returns-3 c = sym (ap (shown c.before.before) c.in-Nothing.is)
+returns-3 c = sym (ap (shown c.before) c.in-Nothing.is)
 
 pub burst_from_spec : {M : Type 1} → statement M
 burst_from_spec =

@@ -29,13 +29,13 @@ enum-known-place-2 c = search rules
 returns : tie.Need-returns-in-At
 unfolding shown
 returns c =
-    let s = c.before.before.before in
+    let s = c.before.before in
     let i-is = c.in-At.is in
     ap (λ (z : ℤ). given (record { found = some z; steps = c.in-At.n })) (counted_back s.args.from c.in-At.i s.requires.0 (s.requires.1 _ _ (ap (λ (p : Place). given (place_of p)) i-is)) c.counted_from.result c.counted_from.ensures) ∙ sym (ap (shown s) i-is)
 
 returns-2 : tie.Need-returns-in-Nothing
 unfolding shown
-returns-2 c = sym (ap (shown c.before.before) c.in-Nothing.is)
+returns-2 c = sym (ap (shown c.before) c.in-Nothing.is)
 
 pub found_from_spec : {M : Type 1} → statement M
 found_from_spec = tie.close (tie.spec enum-known-place counted-from-requires enum-known-place-2 returns returns-2)

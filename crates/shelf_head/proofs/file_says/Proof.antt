@@ -3,7 +3,6 @@ use mathlib.Core.Path.{◌≡◌, refl, sym, ap, ◌∙◌}
 use mathlib.Core.Bool.{Bool, true, false, cond, not}
 use native.Mathlib.Omega.{arith}
 use borrow.Author.Rules.{rules}
-use borrow.Author.Tests.{not-true, not-false}
 use Rattle.rules.specs.ShelfCalls.{says_refusal}
 use Rattle.capture.proofs.Answer.{refused_is, given_is}
 use Rattle.shelf_head.proofs.Head.{head_room}

@@ -1,4 +1,6 @@
 -- `shelf_read::blocks_good` meets its contract: i blocks are good. Assumes nothing.
+use mathlib.Core.Path.{ap}
+use mathlib.Core.Bool.{not}
 use Prim.Native.Nat.{◌-◌, ◌<◌}
 use native.Mathlib.Omega.{arith}
 use borrow.Author.Rules.{rules}
@@ -57,7 +59,7 @@ returns : tie.Need-returns-then-not-good invariant-loop decreases-loop
 returns c =
     let l = c.before.before in
     let p = l.loop-i in
-    testing_fails p.invariant (inside_at l) l.lesser.ensures c.before.good2.ensures c.if-not-good.true
+    testing_fails p.invariant (inside_at l) l.lesser.ensures c.good.ensures (ap not c.if-not-good.true)
 
 add-i : tie.Need-overflow_add-i-in-loop-i invariant-loop decreases-loop
 add-i c = search rules
@@ -69,7 +71,7 @@ loop-again : tie.Need-loop-i-preserved invariant-loop decreases-loop
 loop-again c =
     let l = c.before.before in
     let p = l.loop-i in
-    testing_on p.invariant (inside_at l) l.lesser.ensures c.before.good2.ensures c.if-not-good.false
+    testing_on p.invariant (inside_at l) l.lesser.ensures c.good.ensures c.if-not-good.false
 
 returns-2 : tie.Need-returns invariant-loop decreases-loop
 returns-2 c = testing_ends c.loop-i.invariant (omega (arith, c.loop-i-test.false, c.blocks_for-k.ensures))

@@ -1,7 +1,7 @@
 -- `shelf_read::file_good` meets its contract: block 0, the length, then the other blocks. Assumes nothing.
 use Prim.Native.Nat.{ℕ, ◌+◌, ◌-◌, ◌*◌, ◌^◌, ◌<◌}
 use mathlib.Core.Path.{◌≡◌, sym, ap, ◌∙◌}
-use mathlib.Core.Bool.{true}
+use mathlib.Core.Bool.{true, not}
 use mathlib.Core.List.{List}
 use native.Mathlib.Omega.{arith}
 use borrow.Author.Rules.{rules}
@@ -40,7 +40,7 @@ head-good-requires : tie.Need-head_good-requires
 head-good-requires c κs = search rules
 
 returns : tie.Need-returns-then-not-head_good
-returns c = head_fails c.args.file.now c.head_good.ensures c.if-not-head_good.true
+returns c = head_fails c.args.file.now c.head_good.ensures (ap not c.if-not-head_good.true)
 
 heading-in-requires : tie.Need-heading_in-h-requires
 heading-in-requires c κs = head_room (file_at c).now (passes c)
@@ -55,7 +55,7 @@ returns-2 : tie.Need-returns-then-file-file_size
 returns-2 c =
     let k = c.before.before in
     let t = k.before.before in
-    length_fails (file_at t).now t.head_good.ensures t.if-not-head_good.false (λ e. c.if-file-file_size.true (e ∙ sym (c.file_size.ensures ∙ ap size (n_is k))))
+    length_fails (file_at t).now t.head_good.ensures (ap not t.if-not-head_good.false) (λ e. c.if-file-file_size.true (e ∙ sym (c.file_size.ensures ∙ ap size (n_is k))))
 
 sub-blocks-good : tie.Need-slice_bounds-blocks_good-count
 sub-blocks-good c = search rules
@@ -68,13 +68,14 @@ part-blocks-good-end c = search rules
 
 blocks-good-requires : tie.Need-blocks_good-requires
 blocks-good-requires c κs =
-    record { few = n_few k; size = behind_length (file_at c.before.before).now ∙ left _ (c.heading_in-h.result.len * c.heading_in-h.result.unitsize) (c.if-file-file_size.false ∙ c.file_size.ensures) }
+    let k = c.before.before.before in
+    record { few = n_few k; size = behind_length (file_at k.before.before).now ∙ left _ (c.heading_in-h.result.len * c.heading_in-h.result.unitsize) (c.if-file-file_size.false ∙ c.file_size.ensures) }
 
 returns-3 : tie.Need-returns
 returns-3 c =
-    let k = c.before.before in
-    let t = k.before.before in
-    by_blocks (file_at t).now t.head_good.ensures t.if-not-head_good.false (c.if-file-file_size.false ∙ c.file_size.ensures ∙ ap size (n_is k)) (n_is k) (behind (file_at t).now) c.blocks_good.ensures
+    let k = c.before.before.before.before in
+    let t = k.before.before.before.before in
+    by_blocks (file_at t).now t.head_good.ensures (ap not t.if-not-head_good.false) (c.if-file-file_size.false ∙ c.file_size.ensures ∙ ap size (n_is k)) (n_is k) (behind (file_at t).now) c.blocks_good.ensures
 
 pub file_good_spec : {M : Type 1} → statement M
 file_good_spec =

@@ -1,6 +1,6 @@
 -- `shelf_read::file_refusal` meets its contract: the rows in order. Assumes nothing.
-use mathlib.Core.Path.{◌≡◌, sym, ◌∙◌}
-use mathlib.Core.Bool.{Bool, false}
+use mathlib.Core.Path.{◌≡◌, sym, ◌∙◌, ap}
+use mathlib.Core.Bool.{Bool, false, not}
 use borrow.Author.Rules.{rules}
 use borrow.Author.Tests.{not-false}
 use Rattle.rules.specs.Shelf.{heading_in}
@@ -33,16 +33,16 @@ returns : tie.Need-returns-then-capacity_wrong
 returns c = let f = c.before in row_1 (s f).args.number (wrong f) (s f).args.good (short f) (sym f.capacity_wrong.ensures ∙ c.if-capacity_wrong.true)
 
 returns-2 : tie.Need-returns-then-not-good
-returns-2 c = let t = c.before in let f = t.before in row_file (s f).args.number (wrong f) (s f).args.good (short f) (right_at t) c.if-not-good.true
+returns-2 c = let t = c.before in let f = t.before in row_file (s f).args.number (wrong f) (s f).args.good (short f) (right_at t) (ap not c.if-not-good.true)
 
 room-refusal-requires : tie.Need-room_refusal-requires
-room-refusal-requires c κs = let t = c.before in let f = t.before in ((capacity_right (s f).args.capacity (right_at t)).1, (s f).requires (not-false (s f).args.good c.if-not-good.false))
+room-refusal-requires c κs = let t = c.before in let f = t.before in ((capacity_right (s f).args.capacity (right_at t)).1, (s f).requires (not-false (s f).args.good (ap not c.if-not-good.false)))
 
 returns-3 : tie.Need-returns
 returns-3 c =
-    let t = c.before in
+    let t = c.before.before in
     let f = t.before in
-    row_room (s f).args.number (wrong f) (s f).args.good (short f) (right_at t) c.if-not-good.false c.room_refusal.ensures
+    row_room (s f).args.number (wrong f) (s f).args.good (short f) (right_at t) (ap not c.if-not-good.false) c.room_refusal.ensures
 
 pub file_refusal_spec : {M : Type 1} → statement M
 file_refusal_spec = tie.close (tie.spec capacity-wrong-requires returns returns-2 room-refusal-requires returns-3)

@@ -64,7 +64,7 @@ loop-less c = search rules
 
 loop-again : tie.Need-loop-i-preserved invariant-loop decreases-loop
 loop-again c =
-    let l = c.before.before.before in
+    let l = c.before.before.before.before.before in
     gathering_on l.loop-i.invariant (inside_at l) l.requires.0.size l.requires.1 l.lesser.ensures refl c.copy_at.ensures
 
 same_length : tie.Need-shape_of-samples invariant-loop decreases-loop

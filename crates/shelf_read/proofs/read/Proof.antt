@@ -19,7 +19,7 @@ use Rattle.shelf_read.proofs.read.Tie as tie
 -- the start from the first test's call, and the memory then
 module _ (f : tie.After-file_refusal-wrong) where
   abbrev tested : tie.After-file_good
-  tested = f.before.before.before.before.before.before
+  tested = f.before
 
   abbrev s : tie.Start
   s = tested.before.before.before.before.before.before.before
@@ -100,8 +100,8 @@ same-length-10 c = search rules
 
 returns-2 : tie.Need-returns
 returns-2 c =
-    let n = c.before.before.before.before.before.before in
-    let f = n.before in
+    let n = c.before.before.before.before.before.before.before.before.before.before.before.before.before.before.before.before in
+    let f = n.before.before.before.before.before.before.before.before.before.before.before in
     reads_done (s f).args.capacity (file f) (samples f) (levels f) (refusal_is f) n.if-wrong-ne0.false n.new_store-c.result (store_is n) c.take_samples.ensures
 
 pub read_spec : {M : Type 1} → statement M

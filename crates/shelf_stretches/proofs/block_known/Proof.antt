@@ -46,7 +46,7 @@ good-requires c κs = search rules
 
 returns-2 : tie.Need-returns
 returns-2 c =
-    whole c.args.n c.args.i c.args.file.now (omega (arith, c.if-file-at.false)) c.lesser.ensures c.good2.ensures
+    whole c.args.n c.args.i c.args.file.now (omega (arith, c.if-file-at.false)) c.lesser.ensures c.good.ensures
 
 pub block_known_spec : {M : Type 1} → statement M
 block_known_spec =

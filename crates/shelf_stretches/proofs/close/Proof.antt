@@ -5,7 +5,7 @@ use Rattle.shelf_stretches.proofs.close.Statement.{statement}
 use Rattle.shelf_stretches.proofs.close.Tie as tie
 
 returns : tie.Need-returns-then-run-eq0
-returns c = closing_none c.args.run c.args.end c.args.list-1.now c.if-run-eq0.true
+returns c = closing_none c.args.run c.args.end c.args.list.now c.if-run-eq0.true
 
 sub-put-stretch : tie.Need-overflow_sub-end
 sub-put-stretch c = search rules
@@ -24,7 +24,7 @@ same_length c = search rules
 
 returns-2 : tie.Need-returns
 returns-2 c =
-    closing_one c.args.run c.args.end c.args.list-1.now c.if-run-eq0.false c.put_stretch.ensures
+    closing_one c.args.run c.args.end c.args.list.now c.if-run-eq0.false c.put_stretch.ensures
 
 pub close_spec : {M : Type 1} → statement M
 close_spec =

@@ -23,7 +23,7 @@ enum_told c = search rules
 tell-requires : tie.Need-tell-requires
 tell-requires c κs =
     let file = c.args.file.now in
-    let list = c.args.list-1.now in
+    let list = c.args.list.now in
     (c.requires, room_again file list (early_room (length list) file _ c.survey.ensures c.in-Enough.is) (early_empty (length list) file _ c.survey.ensures c.in-Enough.is))
 
 enum-known-found : tie.Need-enum_known-found
@@ -31,21 +31,21 @@ enum-known-found c = search rules
 
 tell-counted-requires : tie.Need-tell_counted-requires
 tell-counted-requires c κs =
-    (c.requires, whole_counted (length c.args.list-1.now) c.args.file.now _ c.survey.ensures c.in-Whole.is)
+    (c.requires, whole_counted (length c.args.list.now) c.args.file.now _ c.survey.ensures c.in-Whole.is)
 
 same_length : tie.Need-shape_of-list-in-Enough
 same_length c = search rules
 
 returns : tie.Need-returns-in-Enough
 returns c =
-    finds_same c.args.file.now c.args.list-1.now (early_empty (length c.args.list-1.now) c.args.file.now _ c.survey.ensures c.in-Enough.is) c.tell.result _ c.tell.ensures
+    finds_same c.args.file.now c.args.list.now (early_empty (length c.args.list.now) c.args.file.now _ c.survey.ensures c.in-Enough.is) c.tell.result _ c.tell.ensures
 
 same-length-2 : tie.Need-shape_of-list-in-Whole
 same-length-2 c = search rules
 
 returns-2 : tie.Need-returns-in-Whole
 returns-2 c =
-    finds_same c.args.file.now c.args.list-1.now (whole_empty (length c.args.list-1.now) c.args.file.now _ c.survey.ensures c.in-Whole.is) c.tell_counted.result _ c.tell_counted.ensures
+    finds_same c.args.file.now c.args.list.now (whole_empty (length c.args.list.now) c.args.file.now _ c.survey.ensures c.in-Whole.is) c.tell_counted.result _ c.tell_counted.ensures
 
 pub find_spec : {M : Type 1} → statement M
 find_spec =

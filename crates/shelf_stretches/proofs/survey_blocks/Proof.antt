@@ -27,7 +27,7 @@ blocks-for-requires : tie.Need-blocks_for-k-requires invariant-loop decreases-lo
 blocks-for-requires c κs = bytes_few c.requires
 
 loop-holds : tie.Need-loop-i-init invariant-loop decreases-loop
-loop-holds c = let a = c.args in loop_starts a.file.now a.list-1.now
+loop-holds c = let a = c.args in loop_starts a.file.now a.list.now
 
 sub-settled : tie.Need-overflow_sub-k invariant-loop decreases-loop
 sub-settled c = search rules
@@ -43,46 +43,46 @@ same_length c = search rules
 returns : tie.Need-returns-then-settled invariant-loop decreases-loop
 returns c =
     let t = c.before.before in
-    enough t.before.pre t.loop-i.invariant (inside_at t)
+    enough t.before.requires t.loop-i.invariant (inside_at t)
     (ap (λ (k : ℕ). most_numbers t.loop-i.run (k - t.loop-i.i)) t.blocks_for-k.ensures) (c.settled.ensures c.if-settled.true)
 
 mul_at : tie.Need-overflow_mul-at invariant-loop decreases-loop
-mul_at c = omega (arith, block_inside c.requires c.loop-i.inv (inside_at c), c.requires.few)
+mul_at c = omega (arith, block_inside c.requires c.loop-i.invariant (inside_at c.before.before), c.requires.few)
 
 block-known-requires : tie.Need-block_known-requires invariant-loop decreases-loop
-block-known-requires c κs = let t = c.before in (bytes_few t.before.pre, inside_at t)
+block-known-requires c κs = let t = c.before.before.before in (bytes_few t.before.requires, inside_at t)
 
 sub-lesser : tie.Need-overflow_sub-len invariant-loop decreases-loop
-sub-lesser c = let t = c.before.before in omega (arith, block_inside t.before.pre t.loop-i.inv (inside_at t))
+sub-lesser c = let t = c.before.before.before.before in omega (arith, block_inside t.before.requires t.loop-i.invariant (inside_at t))
 
 lesser-requires : tie.Need-lesser-requires invariant-loop decreases-loop
 lesser-requires c κs = search rules
 
 step-requires : tie.Need-step-run-requires invariant-loop decreases-loop
 step-requires c κs =
-    let t = c.before.before.before in
-    (on_room t.requires t.loop-i.inv (inside_at t), omega (arith, c.lesser.ensures, t.requires.few))
+    let t = c.before.before.before.before.before in
+    (on_room t.requires t.loop-i.invariant (inside_at t), omega (arith, c.lesser.ensures, t.requires.few))
 
 add-i : tie.Need-overflow_add-i invariant-loop decreases-loop
-add-i c = let t = c.before.before.before.before.before.before in omega (arith, inside_at t, blocks_few t.before.pre)
+add-i c = let t = c.before.before.before.before.before.before.before.before in omega (arith, inside_at t, blocks_few t.before.requires)
 
 loop-less : tie.Need-loop-i-smaller invariant-loop decreases-loop
 loop-less c = search rules
 
 loop-again : tie.Need-loop-i-preserved invariant-loop decreases-loop
 loop-again c =
-    let t = c.before.before in
-    next_block t.before.pre t.loop-i.inv (inside_at t) c.block_known.ensures c.lesser.ensures c.step-run.ensures.0 c.step-run.ensures.1
+    let t = c.before.before.before.before.before.before.before.before in
+    next_block t.before.requires t.loop-i.invariant (inside_at t) c.block_known.ensures c.lesser.ensures c.step-run.ensures.0 c.step-run.ensures.1
 
 close-requires : tie.Need-close-last-requires invariant-loop decreases-loop
-close-requires c κs = let t = c.before in last_room t.before.pre t.loop-i.invariant (ends_at t)
+close-requires c κs = let t = c.before in last_room t.before.requires t.loop-i.invariant (ends_at t)
 
 same-length-2 : tie.Need-shape_of-list invariant-loop decreases-loop
 same-length-2 c = search rules
 
 returns-2 : tie.Need-returns invariant-loop decreases-loop
 returns-2 c =
-    let t = c.before.before in
+    let t = c.before.before.before.before in
     surveyed t.requires t.loop-i.invariant (ends_at t) t.args.room c.close-last.ensures.0 c.close-last.ensures.1
 
 pub survey_blocks_spec : {M : Type 1} → statement M

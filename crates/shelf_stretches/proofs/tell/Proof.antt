@@ -18,14 +18,14 @@ same_length c = search rules
 
 returns : tie.Need-returns-in-Enough
 returns c =
-    told_early c.args.file.now c.args.list-1.now c.requires.1 c.survey.ensures c.in-Enough.is
+    told_early c.args.file.now c.args.list.now c.requires.1 c.survey.ensures c.in-Enough.is
 
 same-length-2 : tie.Need-shape_of-list-in-Whole
 same-length-2 c = search rules
 
 returns-2 : tie.Need-returns-in-Whole
 returns-2 c =
-    told_whole c.args.file.now c.args.list-1.now c.requires.1 c.survey.ensures c.in-Whole.is
+    told_whole c.args.file.now c.args.list.now c.requires.1 c.survey.ensures c.in-Whole.is
 
 pub tell_spec : {M : Type 1} → statement M
 tell_spec =

@@ -10,13 +10,13 @@ mul-if1 : tie.Need-overflow_mul-found
 mul-if1 c = omega (arith, counted_few c.args.file.now c.requires.0 c.requires.1)
 
 returns : tie.Need-returns-then-list-found
-returns c = too_short c.args.file.now c.args.list-1.now c.requires.1 c.if-list-found.true
+returns c = too_short c.args.file.now c.args.list.now c.requires.1 c.if-list-found.true
 
 returns-2 : tie.Need-returns-then-found-eq0
-returns-2 c = none_there c.args.file.now c.args.list-1.now c.requires.1 c.if-found-eq0.true
+returns-2 c = none_there c.args.file.now c.args.list.now c.requires.1 c.if-found-eq0.true
 
 tell-requires : tie.Need-tell-requires
-tell-requires c κs = (c.requires.0, has_room c.args.file.now c.args.list-1.now c.requires.1 (omega (arith, c.if-list-found.false)))
+tell-requires c κs = (c.requires.0, has_room c.args.file.now c.args.list.now c.requires.1 (omega (arith, c.if-list-found.false)))
 
 same_length : tie.Need-shape_of-list
 same_length c = search rules

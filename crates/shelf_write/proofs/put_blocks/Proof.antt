@@ -71,7 +71,7 @@ loop-less c = search rules
 
 loop-again : tie.Need-loop-i-preserved invariant-loop decreases-loop
 loop-again c =
-    let l = c.before.before.before in
+    let l = c.before.before.before.before.before in
     putting_on l.loop-i.invariant (inside_at l) _ l.lesser-e.result l.lesser-e.ensures c.put_block.ensures
 
 same_length : tie.Need-shape_of-blocks invariant-loop decreases-loop

@@ -58,14 +58,14 @@ file-size-requires c κs = omega (arith, bytes_at c)
 
 returns-2 : tie.Need-returns-then-output-size
 returns-2 c =
-    let f = c.before.before.before in
+    let f = c.before.before.before.before in
     let h : length (output f) < file_len (heading_of (st f)) = subst (λ (x : ℕ). length (output f) < x) c.file_size-size.ensures c.if-output-size.true in
     writes_refused (st f) (samples f) (levels f) (output f)
     (rows_decide (st f) (lent_of (samples f) (levels f)) (own f) f.refusal-wrong.ensures c.if-wrong-ne0.false 15 (simp (lt-ltb _ _ h))) (λ z. omega arith)
 
 put-in-requires : tie.Need-put_in-requires
 put-in-requires c κs =
-    let f = c.before.before.before in
+    let f = c.before.before.before.before.before in
     output_room (st f) (samples f) (levels f) f.refusal-wrong.ensures c.if-wrong-ne0.false c.file_size-size.ensures c.if-output-size.false
 
 same_length : tie.Need-shape_of-output
@@ -73,7 +73,7 @@ same_length c = search rules
 
 returns-3 : tie.Need-returns
 returns-3 c =
-    let f = c.before.before.before in
+    let f = c.before.before.before.before.before.before.before.before in
     let h : file_len (heading_of (st f)) ≤ length (output f) = subst (λ (x : ℕ). x ≤ length (output f)) c.file_size-size.ensures c.if-output-size.false in
     writes_done (st f) (samples f) (levels f) (output f)
     (rows_decide (st f) (lent_of (samples f) (levels f)) (own f) f.refusal-wrong.ensures c.if-wrong-ne0.false 0 (simp (le-ltb _ _ h))) refl

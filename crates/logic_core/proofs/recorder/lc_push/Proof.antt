@@ -18,10 +18,10 @@ module _ (w : tie.After-wait_short-waited) where
 
   -- the numbers and the ring after a short push
   abbrev numbers_after : List ℕ
-  numbers_after = w.wait_short-waited.last.0
+  numbers_after = w.wait_short-waited.new.numbers
 
   abbrev ring_after : List ℕ
-  ring_after = w.wait_short-waited.last.1.1.1.1.1.1.0
+  ring_after = w.wait_short-waited.new.ring
 
 wait-short-requires : tie.Need-wait_short-waited-requires
 wait-short-requires c κs = search rules
