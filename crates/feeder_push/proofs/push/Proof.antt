@@ -71,15 +71,15 @@ enum_told c = search rules
 
 store-run-requires : tie.Need-store_run-taken-requires
 store-run-requires c κs =
-    let i = c.before.before.before in
-    let f = i.before.before.before.before.before in
+    let i = c.before.before.before.before.before.before.before in
+    let f = i.before in
     let a = (s f).args in
     all_room a.f a.samples.now (levels f) a.ring.now a.bytes.now (free i)
 
 answer-requires : tie.Need-answer-requires
 answer-requires c κs =
-    let i = c.before.before.before in
-    let f = i.before.before.before.before.before.before.before.before.before.before.before.before.before.before.before.before in
+    let i = c.before.before.before.before.before.before.before.before.before.before.before.before.before.before.before.before.before.before in
+    let f = i.before in
     let a = (s f).args in
     taken_fits (recorder_of a.f) a.samples.now (levels f) (length a.ring.now) (length a.bytes.now) _ (room a.f a.samples.now (levels f) a.ring.now a.bytes.now (free i)) c.store_run-taken.result c.store_run-taken.ensures
 
@@ -103,22 +103,22 @@ same-length-12 c = search rules
 
 returns-2 : tie.Need-returns-in_default
 returns-2 c =
-    let i = c.before.before.before in
-    let f = i.before.before.before.before.before.before.before.before.before.before.before.before.before.before.before.before.before in
+    let i = c.before.before.before.before.before.before.before.before.before.before.before.before.before.before.before.before.before.before.before in
+    let f = i.before in
     let a = (s f).args in
     pushed_unarmed a.f a.samples.now (levels f) a.ring.now a.bytes.now (free i) c.in_default.is c.store_run-taken.result c.answer.result _ _ c.store_run-taken.ensures c.answer.ensures
 
 first-fire-requires : tie.Need-first_fire-i-requires
 first-fire-requires c κs =
-    let i = c.before.before.before.before in
+    let i = c.before.before in
     let f = i.before in
     let a = (s f).args in
     scan_room a.f a.samples.now (levels f) a.ring.now a.bytes.now (free i)
 
 fire-requires : tie.Need-fire-requires
 fire-requires c κs =
-    let i = c.before.before.before.before.before.before in
-    let f = i.before.before.before.before in
+    let i = c.before.before.before.before.before.before.before.before.before in
+    let f = i.before in
     let a = (s f).args in
     (room a.f a.samples.now (levels f) a.ring.now a.bytes.now (free i), c.if-i-n.true)
 
@@ -142,14 +142,14 @@ same-length-18 c = search rules
 
 returns-3 : tie.Need-returns-then-i-n
 returns-3 c =
-    let i = c.before.before.before in
-    let f = i.before.before.before.before.before.before.before.before.before.before.before.before.before.before.before.before.before.before in
+    let i = c.before.before.before.before.before.before.before.before.before.before.before.before.before.before.before.before.before.before.before.before in
+    let f = i.before in
     let a = (s f).args in
     pushed_fired a.f a.samples.now (levels f) a.ring.now a.bytes.now (free i) c.in-Waiting.m c.in-Waiting.is c.first_fire-i.result c.first_fire-i.ensures c.if-i-n.true c.fire.result _ _ c.fire.ensures
 
 wait-requires : tie.Need-wait-requires
 wait-requires c κs =
-    let i = c.before.before.before.before.before.before.before in
+    let i = c.before.before.before.before.before in
     let f = i.before in
     let a = (s f).args in
     wait_room a.f a.samples.now (levels f) a.ring.now a.bytes.now (free i)
@@ -174,8 +174,8 @@ same-length-24 c = search rules
 
 returns-4 : tie.Need-returns
 returns-4 c =
-    let i = c.before.before.before in
-    let f = i.before.before.before.before.before.before in
+    let i = c.before.before.before.before.before.before.before.before in
+    let f = i.before in
     let a = (s f).args in
     pushed_waited a.f a.samples.now (levels f) a.ring.now a.bytes.now (free i) c.in-Waiting.m c.in-Waiting.is c.first_fire-i.result c.first_fire-i.ensures c.if-i-n.false c.wait.result _ c.wait.ensures
 

@@ -61,8 +61,8 @@ returns-7 c e = absurd (let z : ◌≡◌ {A = ℕ} 0 1 = cc in omega arith)
 
 mul-if8 : tie.Need-overflow_mul-pre
 mul-if8 c =
-    let m = c.before.before.before.before.before.before in
-    record { fits = slots_fit (start_at m).args.numbers.now (sym m.unit_wrong.ensures ∙ m.if-unit_wrong.false) m.if-capacity-gt-MOST_SAMPLES.false c.if-capacity-pre.false }
+    let m = c.before.before.before.before.before.before.before.before.before.before in
+    record { fits = slots_fit (start_at m).args.numbers.now (sym m.unit_wrong.ensures ∙ m.if-unit_wrong.false) c.if-capacity-gt-MOST_SAMPLES.false c.if-capacity-pre.false }
 
 returns-8 : tie.Need-returns-then-ring-pre
 returns-8 c e = absurd (let z : ◌≡◌ {A = ℕ} 0 1 = cc in omega arith)
@@ -78,10 +78,10 @@ element-copy-out-result-3 c = search rules
 
 returns-9 : tie.Need-returns
 returns-9 c e =
-    let m = c.before.before.before.before.before.before.before in
+    let m = c.before.before.before.before.before.before.before.before.before.before.before.before.before.before in
     let a = (start_at m).args in
-    waiting_is a.numbers.now (sym m.unit_wrong.ensures ∙ m.if-unit_wrong.false) m.if-capacity-gt-MOST_SAMPLES.false c.if-capacity-pre.false (lent_of a.samples.now (level_of a.l1.now a.l2.now a.l3.now a.l4.now)) a.ring
-    m.if-numbers-ne1.false (eqb-true _ 0 e) c.if-capacity-numbers.false c.if-pre-numbers.false (sym m.memory_short.ensures ∙ m.if-memory_short.false) c.if-ring-pre.false
+    waiting_is a.numbers.now (sym m.unit_wrong.ensures ∙ m.if-unit_wrong.false) c.if-capacity-gt-MOST_SAMPLES.false c.if-capacity-pre.false (lent_of a.samples.now (level_of a.l1.now a.l2.now a.l3.now a.l4.now)) a.ring
+    m.if-numbers-ne1.false (eqb-true _ 0 e) c.if-capacity-numbers.false c.if-pre-numbers.false (sym c.memory_short.ensures ∙ c.if-memory_short.false) c.if-ring-pre.false
 
 pub waits_spec : {M : Type 1} → statement M
 waits_spec =

@@ -25,7 +25,7 @@ returns : tie.Need-returns-in-Refused
 returns c = sought_coded place found_of c.in-Refused.is (record { find = record { code_is = c.code.ensures; value_is = refl }; count = record { code_is = c.code.ensures; value_is = refl } })
 
 returns-2 : tie.Need-returns-in-At
-returns-2 c = sought_coded place found_of c.in-At.is (record { find = record { code_is = refl; value_is = to_z-of_z w64 _ (record { sfits = c.known_told-in-At-1.given.0.1 }) }; count = record { code_is = refl; value_is = refl } })
+returns-2 c = sought_coded place found_of c.in-At.is (record { find = record { code_is = refl; value_is = to_z-of_z w64 _ (record { sfits = c.in-At.known_told-in-At-1-own.given.0.1 }) }; count = record { code_is = refl; value_is = refl } })
 
 returns-3 : tie.Need-returns-in-Nothing
 returns-3 c = sought_coded place found_of c.in-Nothing.is (record { find = record { code_is = refl; value_is = refl }; count = record { code_is = refl; value_is = refl } })

@@ -71,7 +71,7 @@ loop-again : tie.Need-loop-i-preserved invariant-loop decreases-loop
 loop-again c =
     let l = c.before.before in
     let p = l.loop-i in
-    testing_on p.invariant (inside_at l) l.lesser.ensures c.good.ensures c.if-not-good.false
+    testing_on p.invariant (inside_at l) l.lesser.ensures c.good.ensures (ap not c.if-not-good.false)
 
 returns-2 : tie.Need-returns invariant-loop decreases-loop
 returns-2 c = testing_ends c.loop-i.invariant (omega (arith, c.loop-i-test.false, c.blocks_for-k.ensures))

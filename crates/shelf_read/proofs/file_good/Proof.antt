@@ -74,7 +74,7 @@ blocks-good-requires c κs =
 returns-3 : tie.Need-returns
 returns-3 c =
     let k = c.before.before.before.before in
-    let t = k.before.before.before.before in
+    let t = k.before.before in
     by_blocks (file_at t).now t.head_good.ensures (ap not t.if-not-head_good.false) (c.if-file-file_size.false ∙ c.file_size.ensures ∙ ap size (n_is k)) (n_is k) (behind (file_at t).now) c.blocks_good.ensures
 
 pub file_good_spec : {M : Type 1} → statement M

@@ -101,7 +101,7 @@ same-length-10 c = search rules
 returns-2 : tie.Need-returns
 returns-2 c =
     let n = c.before.before.before.before.before.before.before.before.before.before.before.before.before.before.before.before in
-    let f = n.before.before.before.before.before.before.before.before.before.before.before in
+    let f = n.before.before.before in
     reads_done (s f).args.capacity (file f) (samples f) (levels f) (refusal_is f) n.if-wrong-ne0.false n.new_store-c.result (store_is n) c.take_samples.ensures
 
 pub read_spec : {M : Type 1} → statement M

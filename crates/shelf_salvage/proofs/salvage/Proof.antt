@@ -103,7 +103,7 @@ same-length-11 c = search rules
 
 returns-2 : tie.Need-returns
 returns-2 c =
-    let n = c.before.before.before.before.before.before.before in
+    let n = c.before.before.before.before.before.before.before.before.before.before.before.before.before.before.before.before.before.before.before in
     let t = n.before.before in
     let f = t.before in
     salvages_left (s f).args.capacity (file f) (samples f) (levels f) (list f) (entered t) (store_is n) c.salvage_into.ensures

@@ -36,14 +36,14 @@ enum-known-found c = search rules
 
 fill-store-requires : tie.Need-fill_store-requires
 fill-store-requires c κs =
-    let d = c.before.before.before.before.before.before.before in
-    ((s d).pre.0, listed (file d) (samples d) (levels d) (list d) d.find.ensures d.in-Found.is, (s d).pre.1)
+    let d = c.before.before.before.before.before.before.before.before in
+    ((s d).pre.0, listed (file d) (samples d) (levels d) (list d) d.find.ensures c.in-Found.is, (s d).pre.1)
 
 same_length : tie.Need-shape_of-list-in-Short
 same_length c = search rules
 
 returns : tie.Need-returns-in-Short
-returns c = let f = c.before.before.before.before in left_short (file f) (samples f) (levels f) (list f) f.find.ensures c.in-Short.is
+returns c = let f = c.before.before.before in left_short (file f) (samples f) (levels f) (list f) f.find.ensures c.in-Short.is
 
 same-length-2 : tie.Need-shape_of-samples
 same-length-2 c = search rules
@@ -65,8 +65,8 @@ same-length-7 c = search rules
 
 returns-2 : tie.Need-returns-in-Found
 returns-2 c =
-    let d = c.before.before.before.before.before.before.before.before in
-    left_found (file d) (samples d) (levels d) (list d) d.find.ensures d.in-Found.is (s d).args.c refl (s d).pre.0.says c.fill_store.ensures
+    let d = c.before.before.before.before.before.before.before.before.before.before.before.before.before.before.before.before.before.before.before in
+    left_found (file d) (samples d) (levels d) (list d) d.find.ensures c.in-Found.is (s d).args.c refl (s d).pre.0.says c.fill_store.ensures
 
 pub salvage_into_spec : {M : Type 1} → statement M
 salvage_into_spec =

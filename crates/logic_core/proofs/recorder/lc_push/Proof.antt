@@ -80,7 +80,7 @@ same-length-12 c =
 
 returns-2 : tie.Need-returns
 returns-2 c =
-    let w = c.before.before.before.before.before in
+    let w = c.before.before.before.before.before.before.before.before.before.before.before.before.before.before.before.before.before.before.before.before.before.before.before.before.before in
     let a = (s w).args in
     passed_told a.bytes.now a.samples.now (levels w) a.numbers.now a.ring.now (numbers_after w) (ring_after w) w.wait_short-waited.result w.wait_short-waited.ensures c.if-waited.false
     (pushes_told a.bytes.now a.samples.now (levels w) (ring_after w) _ _ _ c.push-answer.result _ (numbers_after w) _ c.feeder_in-f.ensures c.push-answer.ensures c.pushed_code.ensures)
