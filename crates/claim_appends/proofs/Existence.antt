@@ -1,12 +1,11 @@
 -- Lists of appends exist: start may give a store whenever 1 and 2 do not refuse, and on any record, memory and bytes there is something that append may answer and leave.
-use mathlib.Core.Path.{◌≡◌, refl, sym, ap, ◌∙◌}
+use mathlib.Core.Path.{◌≡◌, refl, sym, ap}
 use mathlib.Core.List.{List, [], ◌∷◌}
-use mathlib.Core.Option.{none}
-use Prim.Native.Nat.{ℕ, zero, suc, ◌+◌, ◌*◌}
+use Prim.Native.Nat.{ℕ, zero, suc, ◌*◌}
 use lib.Seq.{paste}
 use Rattle.rules.specs.Sample.{unit_of, sample_of}
 use Rattle.rules.specs.Refusal.{fresh}
-use Rattle.rules.specs.Answer.{unless, given}
+use Rattle.rules.specs.Answer.{unless}
 use Rattle.rebuild.specs.Rebuild.{level_after}
 use Rattle.capture.specs.declared.Mark.TheVariants.{Absent}
 use Rattle.capture.specs.declared.Capture.{Capture}

@@ -1,17 +1,16 @@
 -- A list of appends, by append's contract alone: each takes every whole sample or is refused with 8, keeps what was stored, and keeps the levels right.
 use mathlib.Core.Path.{◌≡◌, refl, sym, ap, ap₂, ◌∙◌, subst, subst⁻¹}
-use mathlib.Core.Bool.{Bool, true, false, cond}
+use mathlib.Core.Bool.{Bool, cond}
 use mathlib.Core.List.{List, [], ◌∷◌, ◌++◌}
-use mathlib.Core.Option.{Option, none, some, none-ne-some}
+use mathlib.Core.Option.{none, none-ne-some}
 use Prim.Native.Nat.{ℕ, ◌+◌, ◌-◌, ◌*◌, ◌^◌, ◌≤◌, ◌<◌}
 use native.Mathlib.Decide.{dec_lt}
 use native.Mathlib.Omega.{arith}
 use borrow.Author.Tests.{le-leb, lt-leb}
-use lib.Dec.{leb}
-use lib.ListN.{length, get_or, length-append, get_or-append}
+use lib.ListN.{length, length-append, get_or-append}
 use lib.Seq.{get_or-append-add}
 use denote.Ref.{at_last}
-use Rattle.rules.specs.Sample.{sample_of, sample_count, samples_of, unit_of}
+use Rattle.rules.specs.Sample.{sample_of, sample_count, samples_of}
 use Rattle.rules.specs.Refusal.{Store, level_need, store_refusal, fresh}
 use Rattle.rules.proofs.Sample.{samples_length, samples_at}
 use Rattle.rules.proofs.Refusal.{Sound, sound, none_refused}
@@ -21,12 +20,11 @@ use Rattle.capture.specs.declared.Capture.{Capture}
 use Rattle.capture.specs.Record.{store_of, lent_of}
 use Rattle.capture.proofs.Answer.{unless_given}
 use Rattle.append.specs.declared.Appended.{Appended}
-use Rattle.append.specs.Append.{number_of, record_of, grown, refusal_of, taken_of}
+use Rattle.append.specs.Append.{number_of, record_of, refusal_of, taken_of}
 use Rattle.append.proofs.Answer.{refused_full, refused_none, taken_none, taken_all}
 use Rattle.append.proofs.Theorems.{Called, equations, right_stays, old_stay, new_follow, lengths_stay}
 use Rattle.append.proofs.Theorems as call
 use Rattle.claim_captures.specs.Words.{Memory, levels, at, AreBytes, shown_at}
-use Rattle.claim_captures.specs.Claim.{Held}
 use Rattle.claim_captures.proofs.Words.{WordList, no_words, words_taken}
 use Rattle.claim_captures.proofs.Alike.{captures_alike}
 use Rattle.claim_captures.proofs.Additive.{additive}

@@ -12,7 +12,7 @@ use lib.IntN.{ℤ}
 use lib.ListN.{length, length-map, take, drop}
 use lib.Seq.{take_at}
 use borrow.Author.Tests.{leb-false}
-use denote.Ref.{at_last}
+use denote.Ref.{Bor, at_last}
 use Rattle.rules.specs.Reading.{copied_to}
 use Rattle.rules.specs.Sample.{sample_of, list_from, cut_lines}
 use Rattle.rules.specs.Node.{Lines, node_of}
@@ -54,7 +54,7 @@ use Rattle.encoder.specs.Answer.{encoded_of}
 use Rattle.mill_encoder.proofs.Answers.{encoder_right}
 use Rattle.mill_render.specs.Render.{mill_drawn}
 use Rattle.mill_render.proofs.Answers.{render_row}
-use Rattle.claim_captures.specs.Words.{Memory, levels, at, Answered, Shown, shown_at}
+use Rattle.claim_captures.specs.Words.{Memory, levels, at, Answered, shown_at}
 use Rattle.claim_captures.specs.Claim.{samples_in, pixels_in, Held}
 use Rattle.claim_captures.proofs.Answers.{got_for_lem, copied_for_lem, encoded_for, counted_for, drawn_for, seen_as, copy_seen, copied_list, copied_inside, anywhere, somewhere, allowing, agree, right, asked_run}
 use Rattle.claim_mill.specs.Claim.{MayExtent, MayGet, MaySamples, MaySummary, MayNext, MayPrevious, MayBurst, MayEncoder, MayRender, place, MillAnswers}
@@ -97,19 +97,19 @@ module _ {run : List ℕ} {mark : Option ℕ} (c : Capture) (m : Memory) (h : He
   lent = lent_of m.samples (levels m)
 
   -- memory, lent somewhere
-  abbrev ms : Shown
+  abbrev ms : Bor (List ℕ)
   ms = shown_at anywhere m.samples
 
-  abbrev m1 : Shown
+  abbrev m1 : Bor (List ℕ)
   m1 = shown_at anywhere m.l1
 
-  abbrev m2 : Shown
+  abbrev m2 : Bor (List ℕ)
   m2 = shown_at anywhere m.l2
 
-  abbrev m3 : Shown
+  abbrev m3 : Bor (List ℕ)
   m3 = shown_at anywhere m.l3
 
-  abbrev m4 : Shown
+  abbrev m4 : Bor (List ℕ)
   m4 = shown_at anywhere m.l4
 
   extent_is : Answered (MayExtent c m) bounded_of (given (extent_for mark (length run)))

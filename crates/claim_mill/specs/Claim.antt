@@ -38,7 +38,7 @@ use Rattle.encoder.specs.declared.Encoded.{Encoded}
 use Rattle.encoder.specs.Answer.{encoded_of}
 use Rattle.mill_encoder.proofs.encoder.Reads as encoder-call
 use Rattle.mill_render.proofs.render.Reads as render-call
-use Rattle.claim_captures.specs.Words.{Memory, at, Same, Answered, Agree, Ref, Shown, Places, lending}
+use Rattle.claim_captures.specs.Words.{Memory, at, Same, Answered, Agree, Ref, Places, lending}
 use Rattle.claim_captures.specs.Turns.{Replayed, Reversed}
 use Rattle.claim_captures.specs.Claim.{Copying, samples_in, Drawing, pixels_in, Held}
 use Rattle.claim_recording.specs.Claim.{Recording, store, run, mark}

@@ -3,7 +3,7 @@ use mathlib.Core.Path.{◌≡◌, sym, ap, ap₂, ◌∙◌, subst, subst⁻¹}
 use mathlib.Core.Bool.{Bool, true, false, cond}
 use mathlib.Core.List.{List, [], ◌∷◌, ◌++◌}
 use Prim.Native.Nat.{ℕ, ◌*◌, ◌≤◌, ◌<◌}
-use native.Mathlib.Nat.{zero-add, mul-le-mul_right, pow-le-pow_right}
+use native.Mathlib.Nat.{zero-add, mul-le-mul_right}
 use native.Mathlib.Decide.{ℕ_discrete}
 use native.Mathlib.Omega.{arith}
 use lib.ListN.{length, get_or, set, take, drop}
@@ -16,12 +16,12 @@ use Rattle.rules.specs.Refusal.{Store}
 use Rattle.rules.specs.Shelf.{Heading, Filed, heading_of, filed_of, file_of, file_len, HasFile, heading_in, bytes_in, filed_in, file_test}
 use Rattle.rules.specs.ShelfCalls.{output_row, write_refusal, written_to, capacity_wrong, store_in, read_refusal}
 use Rattle.rules.proofs.Sample.{list_length, list_at, sample_take, sample_lt}
-use Rattle.rules.proofs.Refusal.{ranged, rows_rest}
+use Rattle.rules.proofs.Refusal.{rows_rest}
 use Rattle.rules.proofs.Shelf.{passed, file_passes, filed_back, file_bytes, file_length, file_again, filed_has, never_passes}
 use Rattle.claim_captures.specs.Words.{Memory, at, OfUnit}
 use Rattle.claim_captures.specs.Claim.{Held}
 use Rattle.claim_shelf.specs.Files.{run_in, StoredBytes, Enough, Same, Files}
-use Rattle.claim_shelf.proofs.Written.{lent_in, Wrote, in_range, given_length, written_filled, file_in, same_file}
+use Rattle.claim_shelf.proofs.Written.{lent_in, Wrote, given_length, written_filled, file_in, same_file}
 use Rattle.claim_shelf.proofs.NewStore.{passes, stored_bytes, new_held}
 use Rattle.claim_shelf.proofs.Taken.{WasRead, sixteen, refused_leaves, entered, store_is, new_store}
 

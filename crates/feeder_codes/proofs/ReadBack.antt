@@ -1,8 +1,7 @@
 -- What the boundary writes of a recorder reads back as that recorder: the fresh one of a start, and the one that a push leaves, over any numbers and memory.
-use mathlib.Core.Path.{◌≡◌, refl, sym, ap, ◌∙◌}
+use mathlib.Core.Path.{◌≡◌, refl, sym}
 use mathlib.Core.Bool.{Bool, true, false, cond}
-use mathlib.Core.List.{List, []}
-use mathlib.Core.Option.{none, some}
+use mathlib.Core.List.{List}
 use Prim.Native.Nat.{ℕ, ◌<◌}
 use native.Mathlib.Nat.{mod-lt}
 use native.Mathlib.Omega.{arith}
@@ -14,14 +13,12 @@ use Rattle.rules.specs.SampleBytes.{Bytes}
 use Rattle.rules.specs.Selection.{Settings, Reply, refused, going_on, complete}
 use Rattle.rules.specs.Refusal.{Lent, Recorder, start_refusal}
 use Rattle.rules.proofs.Start.{start_passed}
-use Rattle.rules.specs.Push.{Left}
 use Rattle.rules.specs.Start.{begun}
 use Rattle.capture.specs.Numbers.{unit_at, capacity_at, len_at, marked_at, mark_at}
 use Rattle.terms.specs.Terms.{previous_of}
 use Rattle.terms.specs.declared.Previous.TheVariants.{Nothing, Sample}
-use Rattle.feeder.specs.declared.Feeder.{Feeder}
 use Rattle.feeder.specs.Record.{recorder_of}
-use Rattle.feeder_numbers.specs.Numbers.{known_in, previous_sample_in, mask_in, feeder_from, pushed_numbers, recorder_numbers}
+use Rattle.feeder_numbers.specs.Numbers.{known_in, previous_sample_in, mask_in, feeder_from, recorder_numbers}
 use Rattle.feeder_numbers.proofs.ReadBack.{Follows, recorder_back, pushed_back}
 use Rattle.rules.specs.Push.{left_of}
 use Rattle.codes.specs.Record.{capture_in}

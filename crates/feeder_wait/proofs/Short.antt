@@ -17,15 +17,13 @@ use Rattle.rules.proofs.Refusal.{Sound, SoundRecorder}
 use Rattle.rules.proofs.Sample.{list_length}
 use Rattle.rules.proofs.Trigger.{fire_le}
 use Rattle.rules.specs.Ring.{place_after}
-use Rattle.rules.specs.Push.{Left, waited_for}
 use Rattle.feeder_lists.specs.Bytes.{units}
 use Rattle.feeder_lists.specs.Push.{firing_bytes, taken_bytes, push_bytes, left_by}
 use Rattle.feeder_ring.proofs.Copy.{copy_end}
 use Rattle.feeder_ring.proofs.Place.{place_ahead}
 use Rattle.feeder_ring.proofs.Runs.{one_run, run_room}
-use Rattle.capture.specs.declared.Mark.{Mark}
 use Rattle.capture.specs.declared.Mark.TheVariants.{Absent}
-use Rattle.capture.specs.Record.{mark_of, store_of, mark_in}
+use Rattle.capture.specs.Record.{mark_of, mark_in}
 use Rattle.capture.specs.Numbers.{len_at, marked_at, mark_at, unit_in, capacity_in, marked_in, mark_place_in}
 use Rattle.terms.specs.Terms.{as_masks, previous_of}
 use Rattle.feeder_scan.proofs.Last.{last_some}
@@ -34,7 +32,7 @@ use Rattle.feeder.proofs.Rows.{sound_recorder}
 use Rattle.feeder_numbers.specs.Numbers.{waits_at, known_at, pre_in, known_in, previous_sample_in, ring_place_in, kept_in, armed_in, previous_in, feeder_from, waits_number, pushed_numbers}
 use Rattle.rules.specs.Push.{left_of}
 use Rattle.feeder_lists.proofs.Left.{left_is}
-use Rattle.feeder_wait.specs.Wait.{Waiting, masks_of, fire_of, CopyRoom, FewRoom, FewWent, Untouched, FewAfter, waited_of, ShortWent, ShortAfter}
+use Rattle.feeder_wait.specs.Wait.{Waiting, masks_of, fire_of, CopyRoom, FewRoom, FewWent, FewAfter, waited_of, ShortWent, ShortAfter}
 
 -- the room of k samples at a unit v that is known
 pub few_room : (r : List ℕ) (lent : Lent) (g b : ℕ) → Waiting r lent g → ring_place_in r < pre_in r → (v k : ℕ) → unit_in r ≡ v → k * v ≤ b → 1 ≤ k → 2 ≤ k * v → b ≤ 7 → k < pre_in r - ring_place_in r → FewRoom r g b v k

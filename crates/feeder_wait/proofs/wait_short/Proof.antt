@@ -2,7 +2,6 @@
 use mathlib.Core.Path.{refl}
 use native.Mathlib.Omega.{arith}
 use borrow.Author.Rules.{rules}
-use borrow.Author.Tests.{not-false}
 use Rattle.feeder_wait.proofs.Short.{few_room, short_is}
 use Rattle.feeder_wait.proofs.wait_short.Statement.{statement}
 use Rattle.feeder_wait.proofs.wait_short.Tie as tie

@@ -12,7 +12,7 @@ use Rattle.feeder_wait.proofs.waits.Statement.{statement}
 use Rattle.feeder_wait.proofs.waits.Tie as tie
 
 abbrev start_at : tie.Else-unit_wrong → tie.Start
-start_at k = let i : tie.After-t14-1 = k.before.before.before.before in i.before.before.before.before.before.before
+start_at k = let i : tie.After-t14-1 = k.before.before.before.before in i.before.before.before.before.before.before.before
 
 element-copy-out-if1 : tie.Need-bounds-numbers-7
 element-copy-out-if1 c = search rules

@@ -5,7 +5,6 @@ use mathlib.Core.Bool.{true, not}
 use mathlib.Core.List.{List}
 use native.Mathlib.Omega.{arith}
 use borrow.Author.Rules.{rules}
-use borrow.Author.Tests.{not-false}
 use denote.Ref.{Bor}
 use Rattle.rules.specs.Block.{block_size}
 use Rattle.rules.specs.Shelf.{blocks_for, bytes_for, heading_in, head_test}

@@ -16,7 +16,7 @@ decreases-loop samples₀ list stretches len unit i₀ samples i = stretches - i
 
 -- the stretch of a turn lies in memory, and its numbers are small
 small_at : (t : tie.In-loop-i invariant-loop decreases-loop) → let a = t.args in let i = t.loop-i.i in get_or a.list.now (2 * i) 0 * a.unit + get_or a.list.now (2 * i + 1) 0 * a.unit ≤ most_samples * 2
-small_at t = this_small t.before.pre t.loop-i.invariant t.loop-i-test.true
+small_at t = this_small t.before.requires t.loop-i.invariant t.loop-i-test.true
 
 loop-holds : tie.Need-loop-i-init invariant-loop decreases-loop
 loop-holds c = blanks_start c.requires c.args.samples.now
@@ -52,7 +52,7 @@ add-to-2 : tie.Need-overflow_add-to-in-loop-i invariant-loop decreases-loop
 add-to-2 c = omega (arith, small_at c.before.before)
 
 put-at-requires : tie.Need-put_at-requires invariant-loop decreases-loop
-put-at-requires c κs = (omega arith, this_inside c.before.pre c.loop-i.invariant c.loop-i-test.true)
+put-at-requires c κs = (omega arith, this_inside c.before.requires c.loop-i.invariant c.loop-i-test.true)
 
 add-i : tie.Need-overflow_add-i invariant-loop decreases-loop
 add-i c = search rules
@@ -62,13 +62,13 @@ loop-less c = search rules
 
 loop-again : tie.Need-loop-i-preserved invariant-loop decreases-loop
 loop-again c =
-    blanks_on c.before.pre c.loop-i.invariant c.loop-i-test.true c.put_at.ensures
+    blanks_on c.before.requires c.loop-i.invariant c.loop-i-test.true c.put_at.ensures
 
 same_length : tie.Need-shape_of-samples invariant-loop decreases-loop
 same_length c = search rules
 
 returns : tie.Need-returns invariant-loop decreases-loop
-returns c = blanks_end c.before.pre c.loop-i.invariant (omega (arith, c.loop-i-test.false))
+returns c = blanks_end c.before.requires c.loop-i.invariant (omega (arith, c.loop-i-test.false))
 
 pub blank_spec : {M : Type 1} → statement M
 blank_spec =

@@ -18,7 +18,7 @@ use Rattle.shelf_salvage.proofs.salvage.Tie as tie
 -- the start from the first test's call, and the memory then
 module _ (f : tie.After-file_refusal-wrong) where
   abbrev tested : tie.After-head_good
-  tested = f.before.before.before.before.before.before
+  tested = f.before
 
   abbrev s : tie.Start
   s = tested.before.before.before.before.before.before.before.before

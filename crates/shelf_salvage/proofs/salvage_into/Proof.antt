@@ -23,7 +23,7 @@ module _ (f : tie.After-find) where
   levels = level_of s.args.l1.now s.args.l2.now s.args.l3.now s.args.l4.now
 
   abbrev list : List ℕ
-  list = s.args.list-1.now
+  list = s.args.list.now
 
 find-requires : tie.Need-find-requires
 find-requires c κs = c.requires.0.head
@@ -37,7 +37,7 @@ enum-known-found c = search rules
 fill-store-requires : tie.Need-fill_store-requires
 fill-store-requires c κs =
     let d = c.before.before.before.before.before.before.before.before in
-    ((s d).pre.0, listed (file d) (samples d) (levels d) (list d) d.find.ensures c.in-Found.is, (s d).pre.1)
+    ((s d).requires.0, listed (file d) (samples d) (levels d) (list d) d.find.ensures c.in-Found.is, (s d).requires.1)
 
 same_length : tie.Need-shape_of-list-in-Short
 same_length c = search rules
@@ -66,7 +66,7 @@ same-length-7 c = search rules
 returns-2 : tie.Need-returns-in-Found
 returns-2 c =
     let d = c.before.before.before.before.before.before.before.before.before.before.before.before.before.before.before.before.before.before.before in
-    left_found (file d) (samples d) (levels d) (list d) d.find.ensures c.in-Found.is (s d).args.c refl (s d).pre.0.says c.fill_store.ensures
+    left_found (file d) (samples d) (levels d) (list d) d.find.ensures c.in-Found.is (s d).args.c refl (s d).requires.0.says c.fill_store.ensures
 
 pub salvage_into_spec : {M : Type 1} → statement M
 salvage_into_spec =
