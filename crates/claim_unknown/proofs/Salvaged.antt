@@ -1,6 +1,6 @@
 -- Searches in what was salvaged: the stretches that salvaging told are accepted, and every capture that has the good blocks is a filling of them.
 use mathlib.Core.Path.{◌≡◌, refl, sym, ap, ap₂, ◌∙◌, subst, subst⁻¹}
-use mathlib.Core.Bool.{Bool, true, false, cond, not, ◌&&◌, ◌||◌, false≢true}
+use mathlib.Core.Bool.{Bool, true, false, cond, not, ◌&&◌, ◌||◌}
 use mathlib.Core.List.{List, [], ◌∷◌}
 use mathlib.Core.Option.{Option, none, some}
 use Prim.Native.Nat.{ℕ, ◌-◌, ◌*◌, ◌%◌, ◌^◌, ◌≤◌, ◌<◌}
@@ -10,17 +10,17 @@ use native.Mathlib.Omega.{arith}
 use lib.Dec.{eqb}
 use lib.ListN.{length, take, length-take}
 use borrow.Author.Tests.{not-false, lt-ltb}
-use Rattle.rules.specs.Answer.{Answer, refused, given, unless}
+use Rattle.rules.specs.Answer.{Answer, given, unless}
 use Rattle.rules.specs.Sample.{sample_of}
 use Rattle.rules.specs.SampleBytes.{Bytes}
-use Rattle.rules.specs.Refusal.{Store, first_of}
+use Rattle.rules.specs.Refusal.{Store}
 use Rattle.rules.specs.Search.{changed}
 use Rattle.rules.specs.Block.{payload_most}
 use Rattle.rules.specs.Shelf.{heading_of, bytes_for, heading_in}
 use Rattle.rules.specs.ShelfCalls.{capacity_wrong, store_in}
-use Rattle.rules.specs.Stretches.{Stretch, apart, covers, pairs_in}
-use Rattle.rules.specs.Salvage.{good_at, block_of_byte, is_known, AgreeOutside, Salvaged}
-use Rattle.rules.specs.Unknown.{Sureness, certain, possible, Filling, Nearest, Change, list_row, list_wrong, unknown_search}
+use Rattle.rules.specs.Stretches.{apart, covers, pairs_in}
+use Rattle.rules.specs.Salvage.{block_of_byte, is_known, AgreeOutside, Salvaged}
+use Rattle.rules.specs.Unknown.{Sureness, certain, possible, Filling, Nearest, Change, list_wrong, unknown_search}
 use Rattle.rules.proofs.Refusal.{sound}
 use Rattle.rules.proofs.Unknown.{list_passes}
 use Rattle.capture.specs.declared.Capture.{Capture}

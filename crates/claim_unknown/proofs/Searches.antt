@@ -12,10 +12,9 @@ use Rattle.rules.specs.Answer.{Answer, given, unless}
 use Rattle.rules.specs.Refusal.{first_of}
 use Rattle.rules.specs.Search.{changed}
 use Rattle.rules.specs.Stretches.{apart, covers, pairs_in}
-use Rattle.rules.specs.Unknown.{Sureness, certain, possible, test_at, search_at, unknown_search, unknown_refusal, Change, Nearest, list_row, list_wrong}
+use Rattle.rules.specs.Unknown.{Sureness, certain, possible, search_at, unknown_search, unknown_refusal, Change, Nearest, list_row}
 use Rattle.rules.proofs.Refusal.{sound}
 use Rattle.rules.proofs.Unknown.{unknown_is, none_unknown, insides_alike, lines_alike}
-use Rattle.node.specs.Memory.{level_of}
 use Rattle.capture.specs.declared.Capture.{Capture}
 use Rattle.capture.specs.Record.{store_of, lent_of}
 use Rattle.capture.proofs.Answer.{unless_given}
@@ -23,7 +22,7 @@ use Rattle.unknown.specs.Answer.{certain_of, possible_of}
 use Rattle.unknown.proofs.Right.{certain_is, possible_is}
 use Rattle.claim_captures.specs.Words.{Memory, levels, at, Same}
 use Rattle.claim_captures.specs.Claim.{Held}
-use Rattle.claim_captures.proofs.Answers.{agree, right, asked_run, unless_same}
+use Rattle.claim_captures.proofs.Answers.{agree, right, asked_run}
 use Rattle.claim_unknown.specs.Searches.{Answers, LookAlike, KnownSame, Searches}
 
 -- what a call's contract says it answers

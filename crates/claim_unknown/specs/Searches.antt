@@ -6,7 +6,7 @@ use Rattle.std.specs.Prelude.{◌≡◌, Bool, true, false, not, ◌&&◌, ◌||
 use Rattle.std.proofs.Math.Option.{Option, some}
 use Rattle.rules.specs.Sample.{Word, Within}
 use Rattle.rules.specs.SampleBytes.{Bytes}
-use Rattle.rules.specs.Answer.{Answer, refused, given, unless}
+use Rattle.rules.specs.Answer.{Answer, given, unless}
 use Rattle.rules.specs.Refusal.{Store, first_of}
 use Rattle.rules.specs.Search.{changed}
 use Rattle.rules.specs.Block.{payload_most}

@@ -1,20 +1,18 @@
 -- From a call's answer to what the boundary says.
 use mathlib.Core.Path.{◌≡◌, refl, sym, ap, subst, ◌∙◌}
-use mathlib.Core.Bool.{Bool, cond}
 use mathlib.Core.List.{List}
 use Prim.Native.Nat.{ℕ, zero, suc, ◌+◌}
 use native.Mathlib.Nat.{add-zero, suc-ne-zero}
-use borrow.Author.Tests.{ne_eqb}
 use lib.Ieee.{Float}
 use lib.IntN.{ℤ}
-use lib.ListN.{length, set}
+use lib.ListN.{set}
 use lib.Seq.{set-get_or}
 use Rattle.rules.specs.Reading.{copied_to}
 use Rattle.rules.specs.Answer.{Answer, unless, unrefused}
 use Rattle.rules.specs.Walk.{Counted}
 use Rattle.rules.specs.Encoder.{Turns}
-use Rattle.rules.specs.Sample.{sample_of, sample_count}
-use Rattle.rules.specs.Refusal.{copied, render_refusal}
+use Rattle.rules.specs.Sample.{sample_of}
+use Rattle.rules.specs.Refusal.{copied}
 use Rattle.capture.specs.declared.Capture.{Capture}
 use Rattle.capture.specs.declared.Copied.{Copied}
 use Rattle.capture.specs.Record.{store_of, lent_of}
@@ -22,7 +20,7 @@ use Rattle.capture.specs.Numbers.{len_at, len_in}
 use Rattle.capture.specs.Calls.{Copies, copied_of}
 use Rattle.summary.specs.Summary.{summed}
 use Rattle.render.specs.declared.Drawn.{Drawn}
-use Rattle.render.specs.Render.{drawn_of, drawn, Draws}
+use Rattle.render.specs.Render.{drawn_of, Draws}
 use Rattle.encoder.specs.declared.Encoded.{Encoded}
 use Rattle.encoder.specs.Answer.{encoded_of}
 use Rattle.append.specs.declared.Appended.{Appended}

@@ -2,7 +2,6 @@
 use mathlib.Core.Path.{◌≡◌, ap, ap₂, subst, ◌∙◌}
 use mathlib.Core.List.{List}
 use Prim.Native.Nat.{ℕ}
-use lib.Bits.{bit_and}
 use lib.Ieee.{Float}
 use lib.IntN.{ℤ}
 use Rattle.rules.specs.Reading.{copied_to}

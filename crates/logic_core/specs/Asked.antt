@@ -2,7 +2,7 @@
 use Rattle.std.specs.Prelude.{◌≡◌, List, ℕ, ◌+◌, Float, length}
 use Rattle.std.proofs.Math.Option.{Option}
 use Rattle.rules.specs.Sample.{sample_of}
-use Rattle.rules.specs.Node.{Node, top_level}
+use Rattle.rules.specs.Node.{Node}
 use Rattle.rules.specs.Search.{count_in}
 use Rattle.rules.specs.Pixel.{View, pixel_range}
 use Rattle.rules.specs.Answer.{Answer, unless, unrefused}

@@ -1,6 +1,5 @@
 -- `logic_core::lc_raw` says where `capture::raw`'s part lies. Assumes nothing.
 use mathlib.Core.Path.{subst}
-use mathlib.Core.List.{List}
 use borrow.Author.Rules.{rules}
 use Rattle.node.specs.Memory.{level_of}
 use Rattle.capture.specs.declared.Capture.{Capture}

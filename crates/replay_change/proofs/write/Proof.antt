@@ -13,7 +13,7 @@ invariant-loop o line samples₀ l1₀ l2₀ l3₀ l4₀ ring₀ piece₀ a₀ s
 
 abbrev decreases-loop : tie.decreases-loop-a
 decreases-loop o line samples₀ l1₀ l2₀ l3₀ l4₀ ring₀ piece₀ a₀ samples l1 l2 l3 l4 ring piece a =
-    ahead a.more a.feed-1
+    ahead a.more a.feed
 
 put-requires : tie.Need-put-requires invariant-loop decreases-loop
 put-requires c κs = search rules
@@ -51,15 +51,14 @@ loop-less c =
 
 loop-again : tie.Need-loop-a-preserved-then-o-lt50 invariant-loop decreases-loop
 loop-again c =
-    let kept = c.append-r.kept.1 in
-    let inv = c.loop-a.inv in (
-      kept.0 ∙ inv.0,
-      kept.1.0 ∙ inv.1,
-      kept.1.1.0 ∙ inv.2,
-      kept.1.1.1.0 ∙ inv.3,
-      kept.1.1.1.1.0 ∙ inv.4,
+    let inv = c.loop-a.invariant in (
+      c.append-r.auto.samples ∙ inv.0,
+      c.append-r.auto.l1 ∙ inv.1,
+      c.append-r.auto.l2 ∙ inv.2,
+      c.append-r.auto.l3 ∙ inv.3,
+      c.append-r.auto.l4 ∙ inv.4,
       inv.5,
-      c.fill-p.kept.1.1.0 ∙ inv.6,
+      c.fill-p.auto.piece ∙ inv.6,
     )
 
 sub-push : tie.Need-slice_bounds-push-count invariant-loop decreases-loop
@@ -83,15 +82,14 @@ loop-less-2 c =
 
 loop-again-2 : tie.Need-loop-a-preserved invariant-loop decreases-loop
 loop-again-2 c =
-    let kept = c.push-r.kept.1 in
-    let inv = c.loop-a.inv in (
-      kept.0 ∙ inv.0,
-      kept.1.0 ∙ inv.1,
-      kept.1.1.0 ∙ inv.2,
-      kept.1.1.1.0 ∙ inv.3,
-      kept.1.1.1.1.0 ∙ inv.4,
-      kept.1.1.1.1.1.0 ∙ inv.5,
-      c.fill-p.kept.1.1.0 ∙ inv.6,
+    let inv = c.loop-a.invariant in (
+      c.push-r.auto.samples ∙ inv.0,
+      c.push-r.auto.l1 ∙ inv.1,
+      c.push-r.auto.l2 ∙ inv.2,
+      c.push-r.auto.l3 ∙ inv.3,
+      c.push-r.auto.l4 ∙ inv.4,
+      c.push-r.auto.ring ∙ inv.5,
+      c.fill-p.auto.piece ∙ inv.6,
     )
 
 changed-requires : tie.Need-changed-requires invariant-loop decreases-loop
@@ -102,19 +100,19 @@ same_length c = c.loop-a.invariant.0
 
 same-length-2 : tie.Need-shape_of-l1 invariant-loop decreases-loop
 same-length-2 c =
-    c.loop-a.invariant.1 ∙ c.put.auto.1.0
+    c.loop-a.invariant.1 ∙ c.put.auto.l1
 
 same-length-3 : tie.Need-shape_of-l2 invariant-loop decreases-loop
 same-length-3 c =
-    c.loop-a.invariant.2 ∙ c.put.auto.1.1.0
+    c.loop-a.invariant.2 ∙ c.put.auto.l2
 
 same-length-4 : tie.Need-shape_of-l3 invariant-loop decreases-loop
 same-length-4 c =
-    c.loop-a.invariant.3 ∙ c.put.auto.1.1.1.0
+    c.loop-a.invariant.3 ∙ c.put.auto.l3
 
 same-length-5 : tie.Need-shape_of-l4 invariant-loop decreases-loop
 same-length-5 c =
-    c.loop-a.invariant.4 ∙ c.put.auto.1.1.1.1.0
+    c.loop-a.invariant.4 ∙ c.put.auto.l4
 
 same-length-6 : tie.Need-shape_of-ring invariant-loop decreases-loop
 same-length-6 c = c.loop-a.invariant.5

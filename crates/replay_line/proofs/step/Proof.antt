@@ -81,36 +81,36 @@ over-lent-requires c κs = search rules
 
 same_length : tie.Need-shape_of-samples
 same_length c =
-    part_kept c.args.samples.now c.over_lent.new.samples c.lesser-e.result c.over_lent.kept.1.1.1.0
+    part_kept c.args.samples.now c.over_lent.new.samples c.lesser-e.result c.over_lent.auto.samples
 
 same-length-2 : tie.Need-shape_of-l1
 same-length-2 c =
-    part_kept c.args.l1.now c.over_lent.new.l1 c.lesser-e1.result c.over_lent.kept.1.1.1.1.0
+    part_kept c.args.l1.now c.over_lent.new.l1 c.lesser-e1.result c.over_lent.auto.l1
 
 same-length-3 : tie.Need-shape_of-l2
 same-length-3 c =
-    part_kept c.args.l2.now c.over_lent.new.l2 c.lesser-e2.result c.over_lent.kept.1.1.1.1.1.0
+    part_kept c.args.l2.now c.over_lent.new.l2 c.lesser-e2.result c.over_lent.auto.l2
 
 same-length-4 : tie.Need-shape_of-l3
 same-length-4 c =
-    part_kept c.args.l3.now c.over_lent.new.l3 c.lesser-e3.result c.over_lent.kept.1.1.1.1.1.1.0
+    part_kept c.args.l3.now c.over_lent.new.l3 c.lesser-e3.result c.over_lent.auto.l3
 
 same-length-5 : tie.Need-shape_of-l4
 same-length-5 c =
-    part_kept c.args.l4.now c.over_lent.new.l4 c.lesser-e4.result c.over_lent.kept.1.1.1.1.1.1.1.0
+    part_kept c.args.l4.now c.over_lent.new.l4 c.lesser-e4.result c.over_lent.auto.l4
 
 same-length-6 : tie.Need-shape_of-ring
 same-length-6 c =
-    part_kept c.args.ring.now c.over_lent.new.ring c.lesser-er.result c.over_lent.kept.1.1.1.1.1.1.1.1.0
+    part_kept c.args.ring.now c.over_lent.new.ring c.lesser-er.result c.over_lent.auto.ring
 
 same-length-7 : tie.Need-shape_of-output
-same-length-7 c = c.over_lent.auto.1.1.1.1.1.1.1.1.1.0
+same-length-7 c = c.over_lent.auto.output
 
 same-length-8 : tie.Need-shape_of-piece
-same-length-8 c = c.over_lent.auto.1.1.1.1.1.1.1.1.1.1.0
+same-length-8 c = c.over_lent.auto.piece
 
 same-length-9 : tie.Need-shape_of-file
-same-length-9 c = c.over_lent.auto.1.1.1.1.1.1.1.1.1.1.1.0
+same-length-9 c = c.over_lent.auto.file
 
 returns : tie.Need-returns
 returns c = search rules

@@ -4,7 +4,6 @@ use Rattle.node.specs.Memory.{level_of}
 use mathlib.Core.Path.{ap, ◌∙◌}
 use lib.IntN.{ℤ}
 use mir.Syntax.{w64}
-use mir.Val.{to_z, of_z}
 use mir.ValLaws.{to_z-of_z}
 use Rattle.capture.specs.declared.Capture.{Capture}
 use Rattle.mill_search.specs.Answer.{found_of, previous_of}

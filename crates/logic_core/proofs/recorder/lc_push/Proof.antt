@@ -11,7 +11,7 @@ use Rattle.logic_core.proofs.recorder.lc_push.Tie as tie
 module _ (w : tie.After-wait_short-waited) where
   abbrev s : tie.Start
   s =
-      w.before.before.before.before.before.before.before
+      w.before.before.before.before.before.before.before.before.before.before
 
   abbrev levels : ℕ → List ℕ
   levels = level_of s.args.l1.now s.args.l2.now s.args.l3.now s.args.l4.now
