@@ -75,16 +75,16 @@ steps_all t old size = ap (step_numbers t) (list_whole 3 old size)
 
 module _ (position : ℤ) (counts : List ℕ) (size : length counts ≡ 3) where
   pub turned_only : (x : Answer Turns) (v : told.Turned) → TurnsOut x v.code position v.position counts v.counts → v ≡ told.turned x position counts
-  turned_only (refused n) v out = λ i. record { code = out.position_is.code-is i; position = out.position_is.value_is i; counts = out.counts_are.value_is i }
-  turned_only (given t) v out = λ i. record { code = out.position_is.code-is i; position = out.position_is.value_is i; counts = (out.counts_are.value_is ∙ steps_all t counts size) i }
+  turned_only (refused n) v out = λ i. record { code = out.position_is.code_is i; position = out.position_is.value_is i; counts = out.counts_are.value_is i }
+  turned_only (given t) v out = λ i. record { code = out.position_is.code_is i; position = out.position_is.value_is i; counts = (out.counts_are.value_is ∙ steps_all t counts size) i }
 
   pub turned_out : (x : Answer Turns) → TurnsOut x (told.turned x position counts).code position (told.turned x position counts).position counts (told.turned x position counts).counts
   turned_out (refused n) = record { position_is = record { code_is = refl; value_is = refl }; counts_are = record { code_is = refl; value_is = refl } }
   turned_out (given t) = record { position_is = record { code_is = refl; value_is = refl }; counts_are = record { code_is = refl; value_is = sym (steps_all t counts size) } }
 
 pub got_only : (x : Answer ℕ) (old : ℕ) (v : told.Got) → Out number (plain x) v.code old v.value → v ≡ told.got x old
-got_only (refused n) old v out = λ i. record { code = out.code-is i; value = out.value_is i }
-got_only (given a) old v out = λ i. record { code = out.code-is i; value = out.value_is i }
+got_only (refused n) old v out = λ i. record { code = out.code_is i; value = out.value_is i }
+got_only (given a) old v out = λ i. record { code = out.code_is i; value = out.value_is i }
 
 pub got_out : (x : Answer ℕ) (old : ℕ) → Out number (plain x) (told.got x old).code old (told.got x old).value
 got_out (refused n) old = record { code_is = refl; value_is = refl }
@@ -93,16 +93,16 @@ got_out (given a) old = record { code_is = refl; value_is = refl }
 -- samples that were copied, k of them
 pub copies_only : (n k : ℕ) (f : ℕ → ℕ) (i : ℕ) (output : List ℕ) (old : ℕ) (v : told.Copied) → Out number (plain (unless n k)) v.code old v.copied → v.output ≡ copied_to f i (unrefused n k) output → v ≡ told.copies (unless n (list_from f i k)) output old
 unfolding copied_to
-copies_only zero k f i output old v out e = λ j. record { code = out.code-is j; copied = (out.value_is ∙ sym (list_length f i k)) j; output = (e ∙ ap (λ (x : ℕ). list_from f i k ++ drop x output) (sym (list_length f i k))) j }
-copies_only (suc n) k f i output old v out e = λ j. record { code = out.code-is j; copied = out.value_is j; output = (e ∙ sym (over_none f i output)) j }
+copies_only zero k f i output old v out e = λ j. record { code = out.code_is j; copied = (out.value_is ∙ sym (list_length f i k)) j; output = (e ∙ ap (λ (x : ℕ). list_from f i k ++ drop x output) (sym (list_length f i k))) j }
+copies_only (suc n) k f i output old v out e = λ j. record { code = out.code_is j; copied = out.value_is j; output = (e ∙ sym (over_none f i output)) j }
 
 module _ (old : List ℕ) (size : length old ≡ 3) (count : ℕ) where
   abbrev SummedOut : Answer (Option Node) → told.Summed → Type 0
   SummedOut x v = Out node_numbers (perhaps x) v.code old v.node × Out count_number (perhaps x) v.code count v.count
 
   summed_only : (o : Option Node) (v : told.Summed) → SummedOut (given o) v → v ≡ told.summed o old count
-  summed_only none v out = λ i. record { code = out.0.code-is i; node = out.0.value_is i; count = out.1.value_is i }
-  summed_only (some n) v out = λ i. record { code = out.0.code-is i; node = (out.0.value_is ∙ three (lines_of n) old size) i; count = out.1.value_is i }
+  summed_only none v out = λ i. record { code = out.0.code_is i; node = out.0.value_is i; count = out.1.value_is i }
+  summed_only (some n) v out = λ i. record { code = out.0.code_is i; node = (out.0.value_is ∙ three (lines_of n) old size) i; count = out.1.value_is i }
 
   summed_out : (o : Option Node) → SummedOut (given o) (told.summed o old count)
   summed_out none = (record { code_is = refl; value_is = refl }, record { code_is = refl; value_is = refl })
@@ -110,8 +110,8 @@ module _ (old : List ℕ) (size : length old ≡ 3) (count : ℕ) where
 
 module _ (steps old old-read : ℕ) where
   found_only : (o : Option ℕ) (v : told.Found) → Sought number (given (record { found = o; steps = steps })) v.code old v.place old-read v.read → v ≡ found o steps old
-  found_only none v out = λ i. record { code = out.find.code-is i; place = out.find.value_is i; read = out.count.value_is i }
-  found_only (some k) v out = λ i. record { code = out.find.code-is i; place = out.find.value_is i; read = out.count.value_is i }
+  found_only none v out = λ i. record { code = out.find.code_is i; place = out.find.value_is i; read = out.count.value_is i }
+  found_only (some k) v out = λ i. record { code = out.find.code_is i; place = out.find.value_is i; read = out.count.value_is i }
 
   found_out : (o : Option ℕ) → Sought number (given (record { found = o; steps = steps })) (found o steps old).code old (found o steps old).place old-read (found o steps old).read
   found_out none = record { find = record { code_is = refl; value_is = refl }; count = record { code_is = refl; value_is = refl } }
@@ -119,8 +119,8 @@ module _ (steps old old-read : ℕ) where
 
 module _ (steps : ℕ) (old : List ℕ) (size : length old ≡ 4) (old-read : ℕ) where
   bursted_only : (o : Option Burst) (v : told.Bursted) → Sought burst_numbers (given (record { found = o; steps = steps })) v.code old v.ends old-read v.read → v ≡ bursted o steps old
-  bursted_only none v out = λ i. record { code = out.find.code-is i; ends = out.find.value_is i; read = out.count.value_is i }
-  bursted_only (some b) v out = λ i. record { code = out.find.code-is i; ends = (out.find.value_is ∙ four b old size) i; read = out.count.value_is i }
+  bursted_only none v out = λ i. record { code = out.find.code_is i; ends = out.find.value_is i; read = out.count.value_is i }
+  bursted_only (some b) v out = λ i. record { code = out.find.code_is i; ends = (out.find.value_is ∙ four b old size) i; read = out.count.value_is i }
 
   bursted_out : (o : Option Burst) → Sought burst_numbers (given (record { found = o; steps = steps })) (bursted o steps old).code old (bursted o steps old).ends old-read (bursted o steps old).read
   bursted_out none = record { find = record { code_is = refl; value_is = refl }; count = record { code_is = refl; value_is = refl } }
@@ -301,13 +301,13 @@ module _ {run : List ℕ} {mark : Option ℕ} (numbers : List ℕ) (m : Memory) 
         call = record { answer_is = r.1; output_is = out.output_is }
 
         go : (n : ℕ) → refusal ≡ n → v ≡ drawn (unless n (render (at run) (length run) (view_of start spp) width)) width output
-        go zero e = λ i. record { code = (out.code-is ∙ e) i; output = row i }
+        go zero e = λ i. record { code = (out.code_is ∙ e) i; output = row i }
           where
             row : v.output ≡ render (at run) (length run) (view_of start spp) width ++ drop (2 * width) output
             row =
                 render_row ([], ([], ([], tt))) c (shown_at anywhere m.samples) (shown_at anywhere m.l1) (shown_at anywhere m.l2) (shown_at anywhere m.l3) (shown_at anywhere m.l4) view width (at_last anywhere output) r.0 v.output call (right c m h) e
                 ∙ ap (λ (l : List ℕ). l ++ drop (2 * width) output) (render_below t (at run) c.len (agree c m h) (view_of start spp) width ∙ ap (λ (n : ℕ). render (at run) n (view_of start spp) width) h.len_is)
-        go (suc n) e = λ i. record { code = (out.code-is ∙ e) i; output = same i }
+        go (suc n) e = λ i. record { code = (out.code_is ∙ e) i; output = same i }
           where
             same : v.output ≡ output
             same = render_refused ([], ([], ([], tt))) c (shown_at anywhere m.samples) (shown_at anywhere m.l1) (shown_at anywhere m.l2) (shown_at anywhere m.l3) (shown_at anywhere m.l4) view width (at_last anywhere output) r.0 v.output call (λ z. suc-ne-zero n (sym e ∙ z))

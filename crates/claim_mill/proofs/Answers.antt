@@ -1,11 +1,9 @@
 -- Asked with a record and memory that hold a run, each of a mill's calls is told the run's granted lines, counted from its mark, and nothing else.
-use mathlib.Core.Path.{◌≡◌, refl, sym, ap, ap₂, ◌∙◌}
-use mathlib.Core.Bool.{Bool, true, false}
-use mathlib.Core.List.{List, [], ◌++◌}
+use mathlib.Core.Path.{◌≡◌, refl, ap, ◌∙◌}
+use mathlib.Core.List.{List, []}
 use mathlib.Core.Option.{Option, none, some}
-use Prim.Native.Nat.{ℕ, zero, suc, ◌+◌, ◌*◌, ◌<◌}
+use Prim.Native.Nat.{ℕ, ◌+◌, ◌*◌, ◌<◌}
 use native.Mathlib.Nat.{zero-lt-suc}
-use native.Mathlib.Omega.{arith}
 use lib.Bits.{bit_and}
 use lib.Dec.{leb}
 use lib.IntN.{ℤ}
@@ -20,21 +18,17 @@ use Rattle.rules.specs.Search.{summary, cut_summary}
 use Rattle.rules.specs.Walk.{Counted, through, next_search, previous_search}
 use Rattle.rules.specs.Burst.{burst_search}
 use Rattle.rules.specs.Pixel.{row_by, range_from, cut_pixels}
-use Rattle.rules.specs.Refusal.{Row, Lent, first_of, store_rows, view_rows, render_refusal, copied}
+use Rattle.rules.specs.Refusal.{Lent, first_of, view_rows, render_refusal, copied}
 use Rattle.rules.specs.Mill.{MillBurst, origin_of, place_at, before_first, shown_place, shown_burst, mill_get_rows, mill_samples_rows, mill_summary_rows, mill_search_rows, mill_encoder_rows, mill_samples_refusal}
 use Rattle.rules.specs.Encoder.{encoder}
 use Rattle.rules.specs.Answer.{Answer, refused, given, unless, unrefused}
-use Rattle.rules.proofs.Sample.{list_length, list_same}
-use Rattle.rules.proofs.Refusal.{row_passed, rows_left}
+use Rattle.rules.proofs.Sample.{list_same}
+use Rattle.rules.proofs.Refusal.{row_passed}
 use Rattle.rules.proofs.Row.{row_length, from_stored}
 use Rattle.claim_alike.proofs.Below.{summary_below, encoder_below, next_below, previous_below, burst_below, row_below}
 use Rattle.capture.specs.declared.Capture.{Capture}
-use Rattle.capture.specs.declared.Got.{Got}
-use Rattle.capture.specs.declared.Got.TheVariants as got
-use Rattle.capture.specs.declared.Copied.{Copied}
-use Rattle.capture.specs.declared.Copied.TheVariants as copies
 use Rattle.capture.specs.Record.{mark_of, store_of, lent_of}
-use Rattle.capture.specs.Calls.{got_of, copied_of}
+use Rattle.capture.specs.Calls.{got_of}
 use Rattle.summary.specs.Summary.{summed}
 use Rattle.pixel.specs.declared.View.{View}
 use Rattle.pixel.specs.Ranges.{view_as}

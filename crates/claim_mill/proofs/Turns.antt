@@ -10,7 +10,7 @@ use Rattle.capture.proofs.Answer.{unless_given}
 use Rattle.claim_captures.specs.Words.{Memory}
 use Rattle.claim_captures.specs.Claim.{Held}
 use Rattle.claim_captures.proofs.Turns.{Replays, replayed, reversed}
-use Rattle.claim_recording.specs.Claim.{store, run, mark}
+use Rattle.claim_recording.specs.Claim.{store, run}
 use Rattle.claim_recording.proofs.Selection.{selection}
 use Rattle.claim_mill.specs.Claim.{SaysTurns, EncodersReplay, EncodersReverse}
 use Rattle.claim_mill.proofs.Answers.{mill_answers}

@@ -55,9 +55,9 @@ use Rattle.claim_mill_exports.specs.Claim.{MayExtent, MayGet, MaySamples, MaySum
 -- ---- a code and numbers for each answer, and no others
 module _ (old : List ℕ) (size : length old ≡ 3) where
   node_only : (x : Answer (Option Lines)) (v : CutSummed) → Out lines_numbers (perhaps x) v.code old v.node → v ≡ summed_by x old
-  node_only (refused n) v out = λ i. record { code = out.code-is i; node = out.value_is i }
-  node_only (given none) v out = λ i. record { code = out.code-is i; node = out.value_is i }
-  node_only (given (some n)) v out = λ i. record { code = out.code-is i; node = (out.value_is ∙ three n old size) i }
+  node_only (refused n) v out = λ i. record { code = out.code_is i; node = out.value_is i }
+  node_only (given none) v out = λ i. record { code = out.code_is i; node = out.value_is i }
+  node_only (given (some n)) v out = λ i. record { code = out.code_is i; node = (out.value_is ∙ three n old size) i }
 
   node_out : (x : Answer (Option Lines)) → Out lines_numbers (perhaps x) (summed_by x old).code old (summed_by x old).node
   node_out (refused n) = record { code_is = refl; value_is = refl }
@@ -66,15 +66,15 @@ module _ (old : List ℕ) (size : length old ≡ 3) where
 
 module _ (old : ℤ) (old-read : ℕ) where
   at_only : (steps : ℕ) (o : Option ℤ) (v : Found) → Sought written.place (given (record { found = o; steps = steps })) v.code old v.place old-read v.read → v ≡ found_at o steps old
-  at_only steps none v out = λ i. record { code = out.find.code-is i; place = out.find.value_is i; read = out.count.value_is i }
-  at_only steps (some p) v out = λ i. record { code = out.find.code-is i; place = out.find.value_is i; read = out.count.value_is i }
+  at_only steps none v out = λ i. record { code = out.find.code_is i; place = out.find.value_is i; read = out.count.value_is i }
+  at_only steps (some p) v out = λ i. record { code = out.find.code_is i; place = out.find.value_is i; read = out.count.value_is i }
 
   at_out : (steps : ℕ) (o : Option ℤ) → Sought written.place (given (record { found = o; steps = steps })) (found_at o steps old).code old (found_at o steps old).place old-read (found_at o steps old).read
   at_out steps none = record { find = record { code_is = refl; value_is = refl }; count = record { code_is = refl; value_is = refl } }
   at_out steps (some p) = record { find = record { code_is = refl; value_is = refl }; count = record { code_is = refl; value_is = refl } }
 
   found_only : (x : Answer (Counted ℤ)) (v : Found) → Sought written.place x v.code old v.place old-read v.read → v ≡ found x old old-read
-  found_only (refused n) v out = λ i. record { code = out.find.code-is i; place = out.find.value_is i; read = out.count.value_is i }
+  found_only (refused n) v out = λ i. record { code = out.find.code_is i; place = out.find.value_is i; read = out.count.value_is i }
   found_only (given w) v out = at_only w.steps w.found v out
 
   found_out : (x : Answer (Counted ℤ)) → Sought written.place x (found x old old-read).code old (found x old old-read).place old-read (found x old old-read).read
@@ -91,8 +91,8 @@ module _ (first last : ℤ) (jumps : List ℕ) (size : length jumps ≡ 2) (read
   Told x v = BurstOut x v.code first v.first last v.last jumps v.jumps read v.read
 
   ends_only : (steps : ℕ) (o : Option MillBurst) (v : Bursted) → Told (given (record { found = o; steps = steps })) v → v ≡ bursted_at o steps first last jumps
-  ends_only steps none v out = λ i. record { code = out.first_is.code-is i; first = out.first_is.value_is i; last = out.last_is.value_is i; jumps = out.jumps_are.find.value_is i; read = out.jumps_are.count.value_is i }
-  ends_only steps (some b) v out = λ i. record { code = out.first_is.code-is i; first = out.first_is.value_is i; last = out.last_is.value_is i; jumps = (out.jumps_are.find.value_is ∙ two b jumps size) i; read = out.jumps_are.count.value_is i }
+  ends_only steps none v out = λ i. record { code = out.first_is.code_is i; first = out.first_is.value_is i; last = out.last_is.value_is i; jumps = out.jumps_are.find.value_is i; read = out.jumps_are.count.value_is i }
+  ends_only steps (some b) v out = λ i. record { code = out.first_is.code_is i; first = out.first_is.value_is i; last = out.last_is.value_is i; jumps = (out.jumps_are.find.value_is ∙ two b jumps size) i; read = out.jumps_are.count.value_is i }
 
   ends_out : (steps : ℕ) (o : Option MillBurst) → Told (given (record { found = o; steps = steps })) (bursted_at o steps first last jumps)
   ends_out steps none = record {
@@ -107,7 +107,7 @@ module _ (first last : ℤ) (jumps : List ℕ) (size : length jumps ≡ 2) (read
   }
 
   bursted_only : (x : Answer (Counted MillBurst)) (v : Bursted) → Told x v → v ≡ bursted x first last jumps read
-  bursted_only (refused n) v out = λ i. record { code = out.first_is.code-is i; first = out.first_is.value_is i; last = out.last_is.value_is i; jumps = out.jumps_are.find.value_is i; read = out.jumps_are.count.value_is i }
+  bursted_only (refused n) v out = λ i. record { code = out.first_is.code_is i; first = out.first_is.value_is i; last = out.last_is.value_is i; jumps = out.jumps_are.find.value_is i; read = out.jumps_are.count.value_is i }
   bursted_only (given w) v out = ends_only w.steps w.found v out
 
   bursted_out : (x : Answer (Counted MillBurst)) → Told x (bursted x first last jumps read)
@@ -137,7 +137,7 @@ module _ {run : List ℕ} {mark : Option ℕ} (numbers : List ℕ) (m : Memory) 
       record {
         is = λ v may.
             let o = subst (λ (x : Answer Extent). Out first_place (plain x) v.code first v.first × Out end_place (plain x) v.code end v.end × Out marked_number (plain x) v.code marked v.marked) e may.6 in
-            λ i. record { code = o.0.code-is i; first = o.0.value_is i; end = o.1.value_is i; marked = o.2.value_is i };
+            λ i. record { code = o.0.code_is i; first = o.0.value_is i; end = o.1.value_is i; marked = o.2.value_is i };
         answer = bounded (extent_for mark (length run));
         allowed = (
           ([], ([], ([], ([], ([], ([], tt)))))),
@@ -283,12 +283,12 @@ module _ {run : List ℕ} {mark : Option ℕ} (numbers : List ℕ) (m : Memory) 
         call = record { answer_is = r.1; output_is = out.output_is }
 
         go : (n : ℕ) → draw_refusal_lem ≡ n → v ≡ drawn (unless n (row t (mark_of c.trigger) c.len)) width output
-        go zero e = λ i. record { code = (out.code-is ∙ e) i; output = drawn_row i }
+        go zero e = λ i. record { code = (out.code_is ∙ e) i; output = drawn_row i }
           where
             drawn_row : v.output ≡ row t (mark_of c.trigger) c.len ++ drop (2 * width) output
             drawn_row =
                 render_row ([], ([], ([], tt))) c (shown_at anywhere m.samples) (shown_at anywhere m.l1) (shown_at anywhere m.l2) (shown_at anywhere m.l3) (shown_at anywhere m.l4) grant view width (at_last anywhere output) r.0 v.output call (right c m h) e
-        go (suc n) e = λ i. record { code = (out.code-is ∙ e) i; output = same i }
+        go (suc n) e = λ i. record { code = (out.code_is ∙ e) i; output = same i }
           where
             same : v.output ≡ output
             same = render_refused ([], ([], ([], tt))) c (shown_at anywhere m.samples) (shown_at anywhere m.l1) (shown_at anywhere m.l2) (shown_at anywhere m.l3) (shown_at anywhere m.l4) grant view width (at_last anywhere output) r.0 v.output call (λ z. suc-ne-zero n (sym e ∙ z))
