@@ -27,7 +27,7 @@ use Rattle.claim_captures.proofs.Words.{held_words}
 use Rattle.claim_captures.proofs.Answers.{unless_same}
 use Rattle.claim_captures.proofs.Alike.{agreed, same_seen, places}
 use Rattle.claim_captures.proofs.Additive.{add_up}
-use Rattle.claim_exports.specs.Questions.{Got, got, summed, CutSummed, cut_summed, found, bursted, turned, Drawn, drawn, view_of, Answers, cut_node, cut_drawn, LookAlike, Additive}
+use Rattle.claim_exports.specs.Questions.{Got, got, summed, CutSummed, cut_summed, found, bursted, turned, drawn, view_of, Answers, cut_node, cut_drawn, LookAlike, Additive}
 use Rattle.claim_exports.proofs.Answers.{mark_held, exports_answer}
 
 -- cut down, what is told of a summary is what is told of the summary cut down

@@ -1,8 +1,7 @@
 -- Recordings and filled stores exist: on any numbers, memory and bytes there is something that each export may give and leave.
-use mathlib.Core.Path.{◌≡◌, refl, ap, ◌∙◌, subst⁻¹}
+use mathlib.Core.Path.{refl, subst⁻¹}
 use mathlib.Core.List.{List, [], ◌∷◌}
 use Prim.Native.Nat.{ℕ, ◌+◌, ◌*◌, ◌-◌}
-use lib.ListN.{length}
 use lib.Seq.{paste}
 use Rattle.rules.specs.Sample.{sample_of}
 use Rattle.rules.specs.Answer.{unless}
@@ -20,7 +19,7 @@ use Rattle.logic_core.specs.Recorder.{left_for}
 use Rattle.claim_captures.specs.Words.{levels}
 use Rattle.claim_captures.specs.Words as words
 use Rattle.claim_captures.proofs.Answers.{anywhere, somewhere, four_levels}
-use Rattle.claim_exports.specs.Claim.{Memory, Given, settings, MayPush, Pushing, Existence}
+use Rattle.claim_exports.specs.Claim.{Memory, settings, MayPush, Pushing, Existence}
 use Rattle.claim_exports.specs.Claim.Pushing.{stop, step}
 use Rattle.claim_exports.specs.Filled.{MayAppend, Appending}
 use Rattle.claim_exports.specs.Filled as filled

@@ -25,7 +25,7 @@ use Rattle.claim_appends.specs.Claim.Appending.{stop as called-stop, step as cal
 use Rattle.claim_appends.proofs.Stored.{appends_stored}
 use Rattle.claim_appends.proofs.Existence.{appended_for}
 use Rattle.claim_captures.proofs.Turns.{replayed, reversed}
-use Rattle.claim_exports.specs.Questions.{mark_in, SaysTurns}
+use Rattle.claim_exports.specs.Questions.{SaysTurns}
 use Rattle.claim_exports.specs.Filled.{MayStore, MayAppend, Appending, Filling, stored, Stores, Filled, DensitiesAdd, EncodersReplay, EncodersReverse}
 use Rattle.claim_exports.specs.Filled.Appending.{stop, step}
 use Rattle.claim_exports.proofs.Answers.{mark_held, exports_answer}

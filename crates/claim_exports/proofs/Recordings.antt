@@ -1,19 +1,17 @@
 -- A recording made through the exports is one of the calls: the numbers read back as the record that each call returned. So its numbers and memory hold its run.
-use mathlib.Core.Path.{◌≡◌, refl, sym, ap, ap₂, ◌∙◌, subst, subst⁻¹}
+use mathlib.Core.Path.{◌≡◌, refl, sym, ap, ap₂, ◌∙◌, subst⁻¹}
 use mathlib.Core.List.{List, [], ◌∷◌, map}
-use mathlib.Core.Option.{Option}
 use Prim.Native.Nat.{ℕ, zero, suc, ◌-◌}
 use native.Mathlib.Nat.{suc-ne-zero}
-use native.Mathlib.Omega.{arith}
-use lib.ListN.{length, take, get_or}
+use lib.ListN.{length}
 use Rattle.rebuild.specs.Rebuild.{level_after}
 use Rattle.rules.specs.Sample.{sample_of}
-use Rattle.rules.specs.Answer.{Answer, given, unless}
+use Rattle.rules.specs.Answer.{given, unless}
 use Rattle.rules.specs.Selection.{Reply, refused, going_on, complete}
 use Rattle.rules.specs.Selection as selected
 use Rattle.rules.specs.SampleBytes.{Bytes}
 use Rattle.rules.specs.Refusal.{Lent, Recorder, start_refusal}
-use Rattle.rules.specs.Push.{Left, left_of}
+use Rattle.rules.specs.Push.{Left}
 use Rattle.rules.specs.Start.{Begun, begun}
 use Rattle.capture.specs.declared.Capture.{Capture}
 use Rattle.capture.specs.Record.{lent_of}
@@ -23,9 +21,9 @@ use Rattle.feeder_push.specs.declared.Pushed.{Pushed}
 use Rattle.feeder_push.specs.Push.{reply_as, feeder_in}
 use Rattle.feeder_numbers.specs.Numbers.{feeder_from}
 use Rattle.term_bytes.specs.Bytes.{terms_in}
-use Rattle.codes.specs.Code.{plain, behind, Out}
+use Rattle.codes.specs.Code.{plain, Out}
 use Rattle.codes.specs.Record.{capture_in}
-use Rattle.feeder_codes.specs.Recorder.{wish_in, begun_numbers, reply_code, numbers_after}
+use Rattle.feeder_codes.specs.Recorder.{wish_in, begun_numbers, reply_code}
 use Rattle.feeder_codes.proofs.ReadBack.{start_back, begun_size, store_first, after_size, push_back}
 use Rattle.logic_core.specs.Recorder.{left_for, PushesOut}
 use Rattle.claim_captures.specs.Words.{levels, AreBytes}

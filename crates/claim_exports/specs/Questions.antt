@@ -8,7 +8,7 @@ use denote.Ref.{MutBor, at_last}
 use Rattle.rules.specs.Sample.{list_from, Word, all_lines, Within}
 use Rattle.rules.specs.Node.{Node, Lines}
 use Rattle.rules.specs.Search.{summary, density}
-use Rattle.rules.specs.Walk.{Walked, Counted, next_search, previous_search}
+use Rattle.rules.specs.Walk.{next_search, previous_search}
 use Rattle.rules.specs.Burst.{Burst, burst_search}
 use Rattle.rules.specs.Pixel.{View, render, cut_pixels}
 use Rattle.rules.specs.Encoder.{Turns, encoder, pair_mask, pair_wrong, pair_row}
