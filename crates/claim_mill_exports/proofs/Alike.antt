@@ -4,13 +4,11 @@ use mathlib.Core.List.{List}
 use mathlib.Core.Option.{Option}
 use Prim.Native.Nat.{ℕ}
 use lib.IntN.{ℤ}
-use lib.ListN.{length}
 use Rattle.rules.specs.Node.{Lines}
 use Rattle.rules.specs.Walk.{Counted}
 use Rattle.rules.specs.Encoder.{Turns}
 use Rattle.rules.specs.Mill.{MillBurst}
-use Rattle.rules.specs.Answer.{Answer, given}
-use Rattle.mill_read.specs.Read.{Extent}
+use Rattle.rules.specs.Answer.{Answer}
 use Rattle.pixel.specs.declared.View.{View}
 use Rattle.codes.specs.Record.{capture_in}
 use Rattle.claim_captures.specs.Words.{Memory, Same}
@@ -19,7 +17,7 @@ use Rattle.claim_captures.proofs.Alike.{agreed, same_seen, given_same}
 use Rattle.claim_mill.specs.Claim as calls
 use Rattle.claim_mill.proofs.Alike.{captures_show}
 use Rattle.claim_exports.specs.Questions.{got, copies, turned, drawn}
-use Rattle.claim_exports.specs.Claim.{run, mark, asked}
+use Rattle.claim_exports.specs.Claim.{asked}
 use Rattle.claim_exports.proofs.Recordings.{recording_held}
 use Rattle.claim_mill_exports.specs.Claim.{bounded, summed_by, found, bursted, MillAnswers, MillAlike, MillLearns}
 use Rattle.claim_mill_exports.proofs.Answers.{mill_exports_answer}

@@ -1,5 +1,5 @@
 -- Asked through the exports with numbers and memory that hold a run, each of a mill's questions gives the code and the numbers of the run's granted lines, and no others.
-use mathlib.Core.Path.{◌≡◌, refl, sym, ap, ap₂, ◌∙◌, subst, subst⁻¹}
+use mathlib.Core.Path.{◌≡◌, refl, sym, ap, ◌∙◌, subst, subst⁻¹}
 use mathlib.Core.List.{List, [], ◌∷◌, ◌++◌}
 use mathlib.Core.Option.{Option, none, some}
 use Prim.Native.Nat.{ℕ, zero, suc, ◌+◌, ◌*◌}
@@ -23,7 +23,6 @@ use Rattle.rules.specs.Mill.{MillBurst, origin_of, place_at, shown_place, shown_
 use Rattle.rules.specs.Answer.{Answer, refused, given, unless, unrefused}
 use Rattle.rules.proofs.Sample.{list_same}
 use Rattle.rules.proofs.SampleBytes.{list_whole}
-use Rattle.rules.proofs.Refusal.{rows_left}
 use Rattle.rules.proofs.Row.{from_stored}
 use Rattle.claim_alike.proofs.Below.{row_below}
 use Rattle.capture.specs.declared.Capture.{Capture}
@@ -42,15 +41,15 @@ use Rattle.codes.specs.Sought.{Sought}
 use Rattle.codes.specs.Record.{capture_in, lines_numbers, number}
 use Rattle.mill_codes.specs.Written.{first_place, end_place, marked_number, jump_numbers, BurstOut}
 use Rattle.mill_codes.specs.Written as written
-use Rattle.logic_core.specs.Mill.{CopiesOut, DrawsOut}
+use Rattle.logic_core.specs.Mill.{DrawsOut}
 use Rattle.claim_captures.specs.Words.{Memory, levels, at, Answered, shown_at}
 use Rattle.claim_captures.specs.Claim.{Held}
 use Rattle.claim_captures.proofs.Answers.{agree, right, drawn_for, anywhere, somewhere, asked_run, copied_inside}
 use Rattle.claim_mill.specs.Claim as calls
 use Rattle.claim_mill.proofs.Answers.{mill_answers}
-use Rattle.claim_exports.specs.Questions.{Got, got, turned, Copied, copies, CutSummed, Drawn, drawn, view_of}
+use Rattle.claim_exports.specs.Questions.{got, turned, copies, CutSummed, Drawn, drawn, view_of}
 use Rattle.claim_exports.proofs.Answers.{asked_is, three, got_only, got_out, copies_only, turned_only, turned_out, nowhere, afar}
-use Rattle.claim_mill_exports.specs.Claim.{MayExtent, MayGet, MaySamples, MaySummary, MayNext, MayPrevious, MayBurst, MayEncoder, MayRender, Bounded, bounded, summed_by, Found, found_at, found, Bursted, bursted_at, bursted, place, MillAnswers}
+use Rattle.claim_mill_exports.specs.Claim.{MayExtent, MayGet, MaySamples, MaySummary, MayNext, MayPrevious, MayBurst, MayEncoder, MayRender, bounded, summed_by, Found, found_at, found, Bursted, bursted_at, bursted, place, MillAnswers}
 
 -- ---- a code and numbers for each answer, and no others
 module _ (old : List ℕ) (size : length old ≡ 3) where

@@ -60,7 +60,7 @@ may_write st m output =
     let v = code_for number (write_refusal own (lent_in m) (length output)) (file_len (heading_of own)) 0 in (
       unless v.0 v.1,
       write_output own (lent_in m) m.samples output,
-      (numbers, 0, v.0, v.1, store_back blank refl st, (([], ([], ([], ([], ([], tt))))), anywhere, somewhere, anywhere, record { ref_ptr = (0, 0); now = 0 }, record { length_is = v.2; output_is = refl }), refl),
+      (numbers, 0, v.0, v.1, store_back blank refl st, (([], ([], ([], ([], ([], tt))))), anywhere, somewhere, anywhere, record { ref_ptr = (0, 0); ghost_name = 0; now = 0 }, record { length_is = v.2; output_is = refl }), refl),
     )
 
 may_read : (capacity : ℕ) (file : List ℕ) (m : Memory) → (answer : Answer Store) × (m' : Memory) × Reads capacity file m answer m'
