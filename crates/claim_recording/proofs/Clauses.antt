@@ -1,4 +1,4 @@
--- Start over a slice of terms is proved by a walk and has no `Reads`. Its contract is cited here as the clauses themselves: they ask nothing, and what they ensure is `MayStart`, by computation.
+-- The contract of start over a slice of terms, cited as the clauses themselves: they ask nothing, and what they ensure is `MayStart`, by computation.
 use mathlib.Core.Path.{◌≡◌, refl}
 use mathlib.Core.List.{List}
 use Prim.Native.Nat.{ℕ}

@@ -1,7 +1,7 @@
 -- Demand 3: what is claimed of two recordings, and what must be believed of the words in it. 01: Lists of pushes.
 -- A recording is a capture with right levels (Rattle.claim_captures.specs.Claim): how questions are asked of one and when two look alike is said there, once.
 -- The claim speaks of the calls' own contracts. `Post` of a call's generated `Reads` is what its `ensures` says of the arguments, the answer, and the
--- memory after the call. Start over a slice of terms is proved by a walk and has no `Reads`: `MayStart` is its clause, as proofs/Clauses shows.
+-- memory after the call. For start over a slice of terms, which changes nothing, `MayStart` is its clause, as proofs/Clauses shows.
 -- No range is asked of settings, memory and the viewer's lines; a push is of bytes.
 use Rattle.std.specs.Prelude.{◌≡◌, Bool, List, [], ◌∷◌, ◌↔◌, ℕ, ◌+◌, ◌≤◌, ◌<◌, length, get_or}
 use Rattle.std.proofs.Math.Option.{Option}
