@@ -3,7 +3,8 @@
 // and one line more for the first that did.
 #![tactic(auto)]
 
-ghost use Rattle.std.specs.Prelude.{◌≡◌, ◌≢◌, ◌++◌, List, ℕ, IfOk, IfSome, take, codes, vec_len};
+ghost use Rattle.std.specs.Prelude.{◌≡◌, ◌-◌, length, IfOk, IfSome, take, vec_len};
+ghost use Rattle.std.specs.Str.{IsCharBoundary};
 
 use replay_list::state::State;
 use replay_list::{
@@ -17,12 +18,15 @@ use std::{env, fs, io};
 // How many bytes of a list are read at most.
 const TEXT_LIMIT: u64 = 131072;
 
-// The name of a list is its path without ".txt".
+// The name of a list is its path without its last four bytes, ".txt"; all of it where no character ends before these.
 fn name_of(path: &str) -> &str
-    ensures cut { (name : List ℕ) → path.now ≡ name ++ codes ".txt" → result.now ≡ name }
-    ensures whole { ((name : List ℕ) → path.now ≢ name ++ codes ".txt") → result.now ≡ path.now }
+    ensures cut { IsCharBoundary path.now (length path.now - 4) → result.now ≡ take (length path.now - 4) path.now }
+    ensures whole { ¬ (IsCharBoundary path.now (length path.now - 4)) → result.now ≡ path.now }
 {
-    path.strip_suffix(".txt").unwrap_or(path)
+    match path.split_at_checked(path.len().saturating_sub(4)) {
+        Some((name, _)) => name,
+        None => path,
+    }
 }
 
 fn report(rt: &impl Print, path: &str, s: State) -> io::Result<()> {
