@@ -4,7 +4,7 @@
 use Prim.Native.Nat.{ℕ}
 use mathlib.Core.Path.{◌≡◌, sym, ap, ap₂, ◌∙◌}
 use mathlib.Core.List.{List}
-use mathlib.Core.Option.{some}
+use Rattle.std.specs.Prelude.{Some}
 use contract.Lifetimes.{Lfts}
 use denote.Ref.{Bor}
 use Rattle.rules.specs.Sample.{sample_of}
@@ -15,7 +15,7 @@ use Rattle.rules.specs.Walk.{Counted, Walked, all_levels, next_search, previous_
 use Rattle.rules.proofs.Found.{TrueNodes}
 use Rattle.rules.proofs.Steps.{next_searched, previous_searched}
 use Rattle.node.specs.Memory.{level_of, reader_of, Right}
-use Rattle.node.proofs.Memory.{right_true}
+use Rattle.node.proofs.NodeMemory.{right_true}
 use Rattle.capture.specs.declared.Capture.{Capture}
 use Rattle.capture.specs.Record.{store_of, lent_of}
 use Rattle.capture.proofs.Answer.{unless_given}
@@ -57,6 +57,6 @@ module _ (κs : Lfts 2) (c : Capture) (samples l1 l2 l3 l4 : Bor (List ℕ)) (ma
       p ∙ ap (unless {A = Counted Burst} rows) (ap₂ (λ (b f : ℕ → Walked). bursted_by b f c.len sample gap tolerance budget) (back_right c.unitsize c.len samples.now levels mask h) (fore_right c.unitsize c.len samples.now levels mask h))
 
   -- whatever memory holds
-  pub jumps_within : BurstAnswered → (b : Burst) (n : ℕ) → burst_as r ≡ given (record { found = some b; steps = n }) → Within budget b
+  pub jumps_within : BurstAnswered → (b : Burst) (n : ℕ) → burst_as r ≡ given (record { found = Some b; steps = n }) → Within budget b
   unfolding burst_of
   jumps_within p b n e = burst_within (back c.unitsize c.len samples.now levels mask) (fore c.unitsize c.len samples.now levels mask) c.len sample gap tolerance budget b (ap (λ (x : Counted Burst). x.found) (unless_given _ rows _ (sym p ∙ e)).1)

@@ -4,7 +4,7 @@ use Prim.Native.Nat.{ℕ, zero, suc, ◌+◌, ◌-◌, ◌*◌, ◌≤◌, ◌<�
 use mathlib.Core.Path.{◌≡◌, refl}
 use mathlib.Core.Bool.{Bool, true, false, cond, ◌||◌}
 use mathlib.Core.List.{List}
-use mathlib.Core.Option.{Option, none, some}
+use Rattle.std.specs.Prelude.{Option, None, Some}
 use native.Mathlib.Omega.{arith}
 use lib.Dec.{leb, ltb, eqb}
 use borrow.Author.Tests.{ltb-true}
@@ -29,7 +29,7 @@ most_burst = 4 * most_search + 2 * most_end
 
 record Bounded (search : ℕ → Walked) : Type 0 where
   few : (from : ℕ) → (search from).steps ≤ most_search
-  inside : (from i : ℕ) → (search from).found ≡ some i → i < most_samples
+  inside : (from i : ℕ) → (search from).found ≡ Some i → i < most_samples
 
 -- ---- an end
 -- how far it can still go out
@@ -55,8 +55,8 @@ module _ (reach : ℕ → Walked) (b : Bounded reach) (start : Bool) where
       rest = jump_steps reach (further_of start) budget
 
       go : (o : Option ℕ) → (reach p).found ≡ o → ((e : ℕ) → rest e ≤ most_search * (room start e + 1)) → (reach p).steps + onward (further_of start) p o rest ≤ most_search * (room start p + 1)
-      go none r ih = omega (arith, b.few p)
-      go (some e) r ih = by (further_of start p e) refl
+      go None r ih = omega (arith, b.few p)
+      go (Some e) r ih = by (further_of start p e) refl
         where
           by : (t : Bool) → further_of start p e ≡ t → (reach p).steps + cond t (rest e) 0 ≤ most_search * (room start p + 1)
           by true f = omega (arith, b.few p, ih e, goes_out start p e (b.inside p e r) f)
@@ -77,19 +77,19 @@ module _ (back fore : ℕ → Walked) (backs : Bounded back) (fores : Bounded fo
 
   module _ (tolerance sample : ℕ) where
     sides_most : (p n : Option ℕ) → sides_steps back fore tolerance sample p n ≤ 2 * most_search
-    sides_most none none = zero-le
-    sides_most none (some n) = omega (arith, test_most (leb (n - sample) tolerance) (fores.few n))
-    sides_most (some p) none = omega (arith, test_most (leb (sample - p) tolerance) (backs.few (p - 1)))
-    sides_most (some p) (some n) = omega (arith, test_most (leb (sample - p) tolerance) (backs.few (p - 1)), test_most (leb (n - sample) tolerance) (fores.few n))
+    sides_most None None = zero-le
+    sides_most None (Some n) = omega (arith, test_most (leb (n - sample) tolerance) (fores.few n))
+    sides_most (Some p) None = omega (arith, test_most (leb (sample - p) tolerance) (backs.few (p - 1)))
+    sides_most (Some p) (Some n) = omega (arith, test_most (leb (sample - p) tolerance) (backs.few (p - 1)), test_most (leb (n - sample) tolerance) (fores.few n))
 
     pair_most : (gap : ℕ) (p n : Option ℕ) → pair_steps back fore gap tolerance sample p n ≤ 2 * most_search
-    pair_most gap none n = sides_most none n
-    pair_most gap (some p) none = sides_most (some p) none
-    pair_most gap (some p) (some n) = by (ltb (n - p) gap)
+    pair_most gap None n = sides_most None n
+    pair_most gap (Some p) None = sides_most (Some p) None
+    pair_most gap (Some p) (Some n) = by (ltb (n - p) gap)
       where
-        by : (t : Bool) → cond t 0 (sides_steps back fore tolerance sample (some p) (some n)) ≤ 2 * most_search
+        by : (t : Bool) → cond t 0 (sides_steps back fore tolerance sample (Some p) (Some n)) ≤ 2 * most_search
         by true = zero-le
-        by false = sides_most (some p) (some n)
+        by false = sides_most (Some p) (Some n)
 
 -- ---- the searches of a capture
 module _ (unit len : ℕ) (samples : List ℕ) (levels : ℕ → List ℕ) (mask : ℕ) (most : len ≤ most_samples) where
@@ -126,8 +126,8 @@ module _ (unit len : ℕ) (samples : List ℕ) (levels : ℕ → List ℕ) (mask
       pair = paired_by back_in fore_in gap (min tolerance (gap - 1)) sample
 
       grown : (side : Option Side) → grown_steps back_in fore_in gap budget side ≤ 2 * most_end
-      grown none = zero-le
-      grown (some side) = omega (arith, end_read gap false budget side.last, end_read gap true budget side.first)
+      grown None = zero-le
+      grown (Some side) = omega (arith, end_read gap false budget side.last, end_read gap true budget side.first)
 
       by : (t : Bool) → cond t 0 (pair.steps + grown_steps back_in fore_in gap budget pair.found) ≤ most_burst
       by true = zero-le

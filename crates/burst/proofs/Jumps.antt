@@ -2,7 +2,7 @@
 use Prim.Native.Nat.{ℕ, zero, suc, ◌+◌, ◌-◌, ◌≤◌, ◌<◌}
 use mathlib.Core.Path.{◌≡◌, refl, sym, ap, ap₂, ◌∙◌}
 use mathlib.Core.Bool.{Bool, true, false, cond}
-use mathlib.Core.Option.{Option, none, some}
+use Rattle.std.specs.Prelude.{Option, None, Some}
 use native.Mathlib.Numerals.{add-one}
 use native.Mathlib.Omega.{arith}
 use Rattle.rules.specs.Burst.{End, jump, jumped, places, onward, jump_steps}
@@ -65,24 +65,24 @@ module _ {reach : ℕ → Walked} {further : ℕ → ℕ → Bool} {budget start
     pub jumping_read : read + w.steps ≤ jump_steps reach further budget start
     jumping_read = omega (arith, summed w.found refl)
 
-    pub jumping_none : w.found ≡ none → Ended (read + w.steps)
-    jumping_none r = record { end_is = tried none r; read_is = omega (arith, summed none r) }
+    pub jumping_none : w.found ≡ None → Ended (read + w.steps)
+    jumping_none r = record { end_is = tried None r; read_is = omega (arith, summed None r) }
 
-    module _ {e : ℕ} (r : w.found ≡ some e) where
+    module _ {e : ℕ} (r : w.found ≡ Some e) where
       pub jumping_near : further p e ≡ false → Ended (read + w.steps)
       jumping_near f = record {
-        end_is = sym (ap (λ (b : Bool). cond b (rest e) (record { place = p; jumps = n })) f) ∙ tried (some e) r;
-        read_is = let z : cond (further p e) (rest_steps e) 0 ≡ 0 = ap (λ (b : Bool). cond b (rest_steps e) 0) f in omega (arith, summed (some e) r);
+        end_is = sym (ap (λ (b : Bool). cond b (rest e) (record { place = p; jumps = n })) f) ∙ tried (Some e) r;
+        read_is = let z : cond (further p e) (rest_steps e) 0 ≡ 0 = ap (λ (b : Bool). cond b (rest_steps e) 0) f in omega (arith, summed (Some e) r);
       }
 
       pub jumping_on : further p e ≡ true → Jumping reach further budget start e (n + 1) (read + w.steps)
       jumping_on f = record {
         within = omega arith;
-        same = ap₂ (λ (k m : ℕ). jump (places reach) further k e m) left (add-one n) ∙ sym (ap (λ (b : Bool). cond b (rest e) (record { place = p; jumps = n })) f) ∙ tried (some e) r;
+        same = ap₂ (λ (k m : ℕ). jump (places reach) further k e m) left (add-one n) ∙ sym (ap (λ (b : Bool). cond b (rest e) (record { place = p; jumps = n })) f) ∙ tried (Some e) r;
         total =
             let x : jump_steps reach further (budget - (n + 1)) e ≡ rest_steps e = ap (λ (k : ℕ). jump_steps reach further k e) left in
             let y : cond (further p e) (rest_steps e) 0 ≡ rest_steps e = ap (λ (b : Bool). cond b (rest_steps e) 0) f in
-            omega (arith, summed (some e) r);
+            omega (arith, summed (Some e) r);
       }
         where
           left : budget - (n + 1) ≡ budget - n - 1
@@ -95,8 +95,8 @@ module _ (reach : ℕ → Option ℕ) (further : ℕ → ℕ → Bool) where
   jumps_more (suc budget) p n = go (reach p) (λ e. jumps_more budget e (suc n))
     where
       go : (o : Option ℕ) → ((e : ℕ) → (jump reach further budget e (suc n)).jumps ≤ suc n + budget) → (jumped further p n o (λ (e : ℕ). jump reach further budget e (suc n))).jumps ≤ n + suc budget
-      go none ih = omega arith
-      go (some e) ih = by (further p e) (ih e)
+      go None ih = omega arith
+      go (Some e) ih = by (further p e) (ih e)
         where
           by : (b : Bool) → (jump reach further budget e (suc n)).jumps ≤ suc n + budget → (cond b (jump reach further budget e (suc n)) (record { place = p; jumps = n })).jumps ≤ n + suc budget
           by true h = omega arith

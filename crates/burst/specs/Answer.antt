@@ -1,6 +1,6 @@
 -- What burst_at answers, over the nodes that memory holds, and how many of them its searches read. 01: Burst and render. 02: CR 3.
 use Rattle.std.specs.Prelude.{Bool, true, false, cond, List, ◌≡◌, ℕ, ◌+◌, ◌-◌, ltb}
-use Rattle.std.proofs.Math.Option.{Option, none, some}
+use Rattle.std.specs.Prelude.{Option, None, Some}
 use Rattle.rules.specs.Answer.{Answer, refused, given, unless}
 use Rattle.rules.specs.Burst as rule
 use Rattle.rules.specs.Burst.{places}
@@ -26,12 +26,12 @@ counted found steps = record { found = found; steps = steps }
 -- "Burst, also when it finds none, returns the sum over the searches that `burst_at` makes." (02, CR 3)
 abbrev pub burst_as : Bursts → Answer (Counted rule.Burst)
 burst_as (bursts.Refused n) = refused n
-burst_as (bursts.At b n) = given (counted (some (record { first = b.first; last = b.last; jumps_end = b.jumps_end; jumps_start = b.jumps_start })) n)
-burst_as (bursts.Nothing n) = given (counted none n)
+burst_as (bursts.At b n) = given (counted (Some (record { first = b.first; last = b.last; jumps_end = b.jumps_end; jumps_start = b.jumps_start })) n)
+burst_as (bursts.Nothing n) = given (counted None n)
 
 abbrev pub change_as : Change → Option ℕ
-change_as (change.At i) = some i
-change_as change.Nothing = none
+change_as (change.At i) = Some i
+change_as change.Nothing = None
 
 abbrev pub sought_as : Sought → Walked
 sought_as s = counted (change_as s.change) s.read
@@ -40,8 +40,8 @@ abbrev pub end_as : End → rule.End
 end_as e = record { place = e.place; jumps = e.jumps }
 
 abbrev pub side_as : Side → Option rule.Side
-side_as side.Nothing = none
-side_as (side.Pair d f l) = some (record { distance = d; first = f; last = l })
+side_as side.Nothing = None
+side_as (side.Pair d f l) = Some (record { distance = d; first = f; last = l })
 
 abbrev pub sided_as : Sided → Counted rule.Side
 sided_as s = counted (side_as s.side) s.read
@@ -68,9 +68,9 @@ pub record Jumped (reach : ℕ → Walked) (further : ℕ → ℕ → Bool) (bud
 
 -- "if both exist and n − p < max_gap, the pair is (p,n)"
 abbrev pub between : ℕ → Option ℕ → Option ℕ → Option rule.Side
-between gap none n = none
-between gap (some p) none = none
-between gap (some p) (some n) = rule.side_if (ltb (n - p) gap) (record { distance = 0; first = p; last = n })
+between gap None n = None
+between gap (Some p) None = None
+between gap (Some p) (Some n) = rule.side_if (ltb (n - p) gap) (record { distance = 0; first = p; last = n })
 
 -- a side by its nearer change; true is the left one
 abbrev pub sided_by : (ℕ → Walked) → (ℕ → Walked) → Bool → ℕ → ℕ → ℕ → Option ℕ → Counted rule.Side

@@ -3,7 +3,7 @@ use Prim.Native.Nat.{ℕ, zero, suc, ◌+◌, ◌-◌, ◌*◌, ◌/◌, ◌≤�
 use mathlib.Core.Path.{◌≡◌, refl, sym, ap, ap₂, ◌∙◌}
 use mathlib.Core.Bool.{Bool, true, false, cond, ◌&&◌}
 use mathlib.Core.List.{List, [], ◌∷◌, ◌++◌, append_assoc}
-use native.Mathlib.Nat.{le_refl, mul-le-mul_right, mul-le-mul_left, add-zero}
+use native.Mathlib.Nat.{le_refl, mul-le-mul_right, add-zero}
 use native.Mathlib.Numerals.{add-one}
 use native.Mathlib.Omega.{arith}
 use lib.ListN.{length, get_or, take, drop, set, length-append, length-drop}
@@ -19,10 +19,12 @@ use Rattle.rules.proofs.Refusal.{Sound, Ranged, ranged, none_refused, row_passed
 use Rattle.lines.specs.Held.{Held}
 use Rattle.node.specs.Memory.{level_of}
 use Rattle.capture.specs.declared.Sizes.{Sizes}
-use Rattle.capture.specs.declared.Copied.TheVariants.{Refused, Count}
+use Rattle.std.specs.Prelude.{Ok, Err}
+use Rattle.answer.specs.declared.Refusal.{Refusal}
+use Rattle.answer.specs.Answered.{number}
+use Rattle.answer.proofs.Answered.{number_least, stops, goes}
 use Rattle.capture.specs.Record.{sizes_as, lent_of, Sized}
-use Rattle.capture.specs.Calls.{need_refusal, memory_need, Copies, Source, raw_of, RawLies}
-use Rattle.capture.proofs.Answer.{refused_is, given_is}
+use Rattle.capture.specs.Calls.{need_refusal, memory_need, Copies, raw_of, RawLies}
 
 -- ---- needs
 pub memory_is : (st : Store) (r : Sizes) → Sized st r → sizes_as r ≡ memory_need st
@@ -105,26 +107,22 @@ module _ (s : ℕ → ℕ) (p k : ℕ) (output : List ℕ) {n r : ℕ} (e : n �
   pub all_copied : n ≡ 0 → copied_to s p k output ≡ copied_to s p (unrefused r k) output
   all_copied z = ap (λ (x : ℕ). copied_to s p x output) (sym (unrefused_all e z k))
 
--- what samples promises, by the number n of the first of its rows that holds
-module _ (st : Store) (bytes : List ℕ) (levels : ℕ → List ℕ) (start count : ℕ) (output : List ℕ) {n : ℕ} (e : n ≡ samples_refusal st (lent_of bytes levels) start count (length output)) where
-  pub copies_refused : (n ≡ 0 → ⊥) → Copies st bytes levels start count output (Refused n) output
-  copies_refused h = record { answer_is = refused_is _ e h; output_is = none_copied (sample_of st.unit bytes) start (copied st.len start count) output e h }
+-- what samples promises, where a row refuses and where none does
+module _ (st : Store) (bytes : List ℕ) (levels : ℕ → List ℕ) (start count : ℕ) (output : List ℕ) where
+  abbrev rows_of : ℕ
+  rows_of = samples_refusal st (lent_of bytes levels) start count (length output)
 
-  pub copies_done : n ≡ 0 → (k : ℕ) → k ≡ copied st.len start count → (output' : List ℕ) → output' ≡ copied_to (sample_of st.unit bytes) start k output → Copies st bytes levels start count output (Count k) output'
-  copies_done z k h output' d = record {
-    answer_is = given_is _ e z h;
-    output_is = d ∙ ap (λ (x : ℕ). copied_to (sample_of st.unit bytes) start x output) h ∙ all_copied (sample_of st.unit bytes) start (copied st.len start count) output e z;
+  pub copies_refused : (r : Refusal) → number r ≡ rows_of → Copies st bytes levels start count output (Err r) output
+  copies_refused r e = record {
+    answer_is = stops r rows_of (copied st.len start count) e;
+    output_is = none_copied (sample_of st.unit bytes) start (copied st.len start count) output e (λ z. omega (arith, number_least r));
   }
 
--- the place i + p of a source
-pub held_at : (unit p k n output i : ℕ) → Source unit p k n output → i < k → Held unit (p + i) n
-held_at unit p k n output i h l = record {
-  unit_size = h.unit_size;
-  room = omega (arith, h.bytes (omega arith), mul-le-mul_right {m = p + i + 1} {n = p + k} unit (omega arith));
-}
-
-pub place_small : (unit p k n output i : ℕ) → Source unit p k n output → i < k → p + i < n
-place_small unit p k n output i h l = omega (arith, (held_at unit p k n output i h l).room, h.unit_size.least, mul-le-mul_left (p + i) h.unit_size.least)
+  pub copies_done : rows_of ≡ 0 → (k : ℕ) → k ≡ copied st.len start count → (output' : List ℕ) → output' ≡ copied_to (sample_of st.unit bytes) start k output → Copies st bytes levels start count output (Ok k) output'
+  copies_done z k h output' d = record {
+    answer_is = goes rows_of (copied st.len start count) k z h;
+    output_is = d ∙ ap (λ (x : ℕ). copied_to (sample_of st.unit bytes) start x output) h ∙ all_copied (sample_of st.unit bytes) start (copied st.len start count) output (sym z) refl;
+  }
 
 -- places up to len lie in the sample memory
 pub stored : (st : Store) (bytes : List ℕ) (levels : ℕ → List ℕ) → Sound st (lent_of bytes levels) → (p : ℕ) → p ≤ st.len → p * st.unit ≤ length bytes
@@ -132,13 +130,6 @@ stored st bytes levels h p l = omega (arith, h.samples, mul-le-mul_right {m = p}
 
 pub held_stored : (st : Store) (bytes : List ℕ) (levels : ℕ → List ℕ) → Sound st (lent_of bytes levels) → (i : ℕ) → i < st.len → Held st.unit i (length bytes)
 held_stored st bytes levels h i l = record { unit_size = h.unit_size; room = omega (arith, stored st bytes levels h (i + 1) (omega arith)) }
-
-pub source_of : (st : Store) (bytes : List ℕ) (levels : ℕ → List ℕ) → Sound st (lent_of bytes levels) → (p count output : ℕ) → copied st.len p count ≤ output → Source st.unit p (copied st.len p count) (length bytes) output
-source_of st bytes levels h p count output l = record {
-  unit_size = h.unit_size;
-  bytes = λ some. stored st bytes levels h (p + copied st.len p count) (omega arith);
-  room = l;
-}
 
 -- ---- raw
 -- a chunk with stored samples: its bytes lie in the sample memory

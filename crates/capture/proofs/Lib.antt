@@ -1,2 +1,4 @@
+pub mod Backed
 pub mod Answer
 pub mod Calls
+pub mod Opened

@@ -1,19 +1,13 @@
 -- What the plain calls answer, as 01's numbers and values, and the memory that they leave.
-use Rattle.std.specs.Prelude.{◌≡◌, List, [], ◌∷◌, ℕ, ◌+◌, ◌-◌, ◌*◌, ◌≤◌, length, take, drop}
+use Rattle.std.specs.Prelude.{◌≡◌, List, [], ◌∷◌, ℕ, ◌+◌, ◌-◌, ◌≤◌, length, take, drop, Result}
 use Rattle.std.specs.Borrow.{Bor}
-use Rattle.rules.specs.Sample.{sample_of, UnitSize}
-use Rattle.rules.specs.Answer.{Answer, refused, given}
+use Rattle.rules.specs.Sample.{sample_of}
 use Rattle.rules.specs.Refusal.{Store, Lent, first_of, store_wrong, samples_need, level_need}
 use Rattle.rules.specs.Reading.{copied_to, copy_count, samples_answer, raw_answer, raw_from, raw_to}
-use Rattle.capture.specs.Record.{store_of, sizes_as, lent_of}
-use Rattle.capture.specs.declared.Needed.{Needed}
-use Rattle.capture.specs.declared.Needed.TheVariants as needed
-use Rattle.capture.specs.declared.Started.{Started}
-use Rattle.capture.specs.declared.Started.TheVariants as started
-use Rattle.capture.specs.declared.Got.{Got}
-use Rattle.capture.specs.declared.Got.TheVariants as got
-use Rattle.capture.specs.declared.Copied.{Copied}
-use Rattle.capture.specs.declared.Copied.TheVariants as copies
+use Rattle.answer.specs.Answered.{told_of}
+use Rattle.answer.specs.declared.Refusal.{Refusal}
+use Rattle.capture.specs.Record.{sizes_as, lent_of}
+use Rattle.capture.specs.declared.stored.Stored.{Stored}
 
 -- ---- needs
 -- 1 is for a capacity that no store has
@@ -24,33 +18,14 @@ need_refusal st = first_of (record { number = 1; holds = store_wrong st } ∷ []
 abbrev pub memory_need : Store → Lent
 memory_need st = sizes_as (record { samples = samples_need st; l1 = level_need st 1; l2 = level_need st 2; l3 = level_need st 3; l4 = level_need st 4 })
 
-abbrev pub needed_of : Needed → Answer Lent
-needed_of (needed.Refused n) = refused n
-needed_of (needed.Memory m) = given (sizes_as m)
-
--- ---- start
-abbrev pub started_of : Started → Answer Store
-started_of (started.Refused n) = refused n
-started_of (started.Store c) = given (store_of c)
-
--- ---- get
-abbrev pub got_of : Got → Answer ℕ
-got_of (got.Refused n) = refused n
-got_of (got.Value v) = given v
-
 -- ---- samples
-abbrev pub copied_of : Copied → Answer ℕ
-copied_of (copies.Refused n) = refused n
-copied_of (copies.Count k) = given k
-
-pub record Copies (st : Store) (bytes : List ℕ) (levels : ℕ → List ℕ) (start count : ℕ) (output : List ℕ) (r : Copied) (output' : List ℕ) : Type 0 where
-  pub answer_is : copied_of r ≡ samples_answer st (lent_of bytes levels) start count (length output)
+pub record Copies (st : Store) (bytes : List ℕ) (levels : ℕ → List ℕ) (start count : ℕ) (output : List ℕ) (r : Result ℕ Refusal) (output' : List ℕ) : Type 0 where
+  pub answer_is : told_of r ≡ samples_answer st (lent_of bytes levels) start count (length output)
   pub output_is : output' ≡ copied_to (sample_of st.unit bytes) start (copy_count st (lent_of bytes levels) start count (length output)) output
 
--- k samples from place p on lie in n bytes, and have room in an output
-pub record Source (unit p k n output : ℕ) : Type 0 where
-  pub unit_size : UnitSize unit
-  pub bytes : 1 ≤ k → (p + k) * unit ≤ n
+-- k samples from place p on are stored, and have room in an output
+pub record Source (stored : Stored) (p k output : ℕ) : Type 0 where
+  pub places : 1 ≤ k → p + k ≤ stored.len
   pub room : k ≤ output
 
 -- ---- raw

@@ -1,3 +1,5 @@
 pub mod Record
 pub mod Numbers
+pub mod Backed
+pub mod Stored
 pub mod Calls

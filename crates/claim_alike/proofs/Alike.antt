@@ -1,7 +1,7 @@
 -- Runs of the same length with the same chosen lines answer alike, and runs of one length that answer alike have the same chosen lines.
 use mathlib.Core.Path.{◌≡◌, sym, ap, ◌∙◌, subst, subst⁻¹}
 use mathlib.Core.Logic.{◌↔◌}
-use mathlib.Core.Option.{Option, some}
+use Rattle.std.specs.Prelude.{Option, Some}
 use Prim.Native.Nat.{ℕ, ◌+◌, ◌<◌, min}
 use native.Mathlib.Omega.{arith}
 use lib.Bits.{bit_and}
@@ -56,7 +56,7 @@ module _ (v : ℕ) (s₁ : ℕ → ℕ) (len₁ : ℕ) (s₂ : ℕ → ℕ) (len
       ∙ ap (λ (l : ℕ). cut_pixels v (row_by (node_of s₂) (range l) px n)) same.len
 
   -- the node of one sample is that sample
-  one_sample : (s : ℕ → ℕ) (len i : ℕ) → i < len → cut_summary v (summary s len i (i + 1)) ≡ some (cut v (leaf (s i)))
+  one_sample : (s : ℕ → ℕ) (len i : ℕ) → i < len → cut_summary v (summary s len i (i + 1)) ≡ Some (cut v (leaf (s i)))
   one_sample s len i h = rw (least, lt-ltb i (i + 1) (omega arith), node_one s i)
     where
       least : min (i + 1) len ≡ i + 1
@@ -66,7 +66,7 @@ module _ (v : ℕ) (s₁ : ℕ → ℕ) (len₁ : ℕ) (s₂ : ℕ → ℕ) (len
   pub alike_same : len₁ ≡ len₂ → ((i : ℕ) → i < len₁ → cut_summary v (summary s₁ len₁ i (i + 1)) ≡ cut_summary v (summary s₂ len₂ i (i + 1))) → Same v s₁ len₁ s₂ len₂
   alike_same e h = record { len = e; lines = λ i l. first i l (sym (one_sample s₁ len₁ i l) ∙ h i l ∙ one_sample s₂ len₂ i (omega arith)) }
     where
-      first : (i : ℕ) → i < len₁ → some (cut v (leaf (s₁ i))) ≡ some (cut v (leaf (s₂ i))) → bit_and (s₁ i) v ≡ bit_and (s₂ i) v
+      first : (i : ℕ) → i < len₁ → Some (cut v (leaf (s₁ i))) ≡ Some (cut v (leaf (s₂ i))) → bit_and (s₁ i) v ≡ bit_and (s₂ i) v
       first i l q = let n : cut v (leaf (s₁ i)) ≡ cut v (leaf (s₂ i)) = cc in ap (λ (x : Lines). x.first) n
 
   pub alike : AreWords s₁ len₁ → AreWords s₂ len₂ → Same v s₁ len₁ s₂ len₂ ↔ ((len₁ ≡ len₂) × Alike v s₁ len₁ s₂ len₂)

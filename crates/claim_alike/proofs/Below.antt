@@ -1,6 +1,6 @@
 -- The rules look at a run's samples alone: two functions that agree below len have the same answers.
 use mathlib.Core.Path.{◌≡◌, ap}
-use mathlib.Core.Option.{Option, some}
+use Rattle.std.specs.Prelude.{Option, Some}
 use Prim.Native.Nat.{ℕ, ◌+◌, ◌≤◌, ◌<◌, min}
 use native.Mathlib.Decide.{dec_lt}
 use native.Mathlib.Omega.{arith}
@@ -27,7 +27,7 @@ module _ (s₁ s₂ : ℕ → ℕ) (len : ℕ) (same : (i : ℕ) → i < len →
   summary_below a b = go (dec_lt a (min b len))
     where
       go : Dec (a < min b len) → summary s₁ len a b ≡ summary s₂ len a b
-      go (yes h) = rw (lt-ltb a (min b len) h) (ap some (node_below a (min b len) h (omega arith)))
+      go (yes h) = rw (lt-ltb a (min b len) h) (ap Some (node_below a (min b len) h (omega arith)))
       go (no h) = rw (le-ltb a (min b len) (omega arith))
 
   pub density_below : (a b : ℕ) → density s₁ len a b ≡ density s₂ len a b

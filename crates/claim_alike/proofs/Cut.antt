@@ -2,7 +2,7 @@
 use mathlib.Core.Path.{◌≡◌, refl, ap, ap₂, ◌∙◌}
 use mathlib.Core.Bool.{Bool, true, false, cond}
 use mathlib.Core.List.{List, ◌∷◌}
-use mathlib.Core.Option.{Option, none, some}
+use Rattle.std.specs.Prelude.{Option, None, Some}
 use Prim.Native.Nat.{ℕ, zero, suc, ◌+◌, min}
 use native.Mathlib.Nat.{mod-eq_of_lt}
 use lib.Bits.{bit_and, and_comm, and_mask}
@@ -24,8 +24,8 @@ all_lines_lem x h = and_mask x mask_bits ∙ mod-eq_of_lt h
 
 -- the lines of a summary; none stays none
 abbrev pub lines_in : Option Node → Option Lines
-lines_in none = none
-lines_in (some n) = some (lines_of n)
+lines_in None = None
+lines_in (Some n) = Some (lines_of n)
 
 module _ (v : ℕ) (s : ℕ → ℕ) (len : ℕ) where
   abbrev lines : ℕ → ℕ
@@ -34,13 +34,13 @@ module _ (v : ℕ) (s : ℕ → ℕ) (len : ℕ) where
   pub summary_cut : (a b : ℕ) → lines_in (summary lines len a b) ≡ cut_summary v (summary s len a b)
   summary_cut a b = go (ltb a (min b len))
     where
-      go : (t : Bool) → lines_in (cond t (some (node_of lines a (min b len))) none) ≡ cut_summary v (cond t (some (node_of s a (min b len))) none)
-      go true = ap some (node_cut v s a (min b len))
+      go : (t : Bool) → lines_in (cond t (Some (node_of lines a (min b len))) None) ≡ cut_summary v (cond t (Some (node_of s a (min b len))) None)
+      go true = ap Some (node_cut v s a (min b len))
       go false = refl
 
   shown_cut : (r : Option Range) (rest₁ rest₂ : List ℕ) → rest₁ ≡ cut_pixels v rest₂ → shown (node_of lines) r rest₁ ≡ cut_pixels v (shown (node_of s) r rest₂)
-  shown_cut none rest₁ rest₂ e = ap (λ (rest : List ℕ). 0 ∷ 0 ∷ rest) e
-  shown_cut (some x) rest₁ rest₂ e = ap₂ (λ (n : Lines) (rest : List ℕ). n.first ∷ n.toggles ∷ rest) (node_cut v s x.from x.to) e
+  shown_cut None rest₁ rest₂ e = ap (λ (rest : List ℕ). 0 ∷ 0 ∷ rest) e
+  shown_cut (Some x) rest₁ rest₂ e = ap₂ (λ (n : Lines) (rest : List ℕ). n.first ∷ n.toggles ∷ rest) (node_cut v s x.from x.to) e
 
   pub row_cut : (range : ℕ → Option Range) (px n : ℕ) → row_by (node_of lines) range px n ≡ cut_pixels v (row_by (node_of s) range px n)
   unfolding row_by

@@ -2,7 +2,8 @@
 use mathlib.Core.Path.{◌≡◌, refl, sym, ap, ap₂, ◌∙◌, subst, subst⁻¹}
 use mathlib.Core.Bool.{Bool, cond}
 use mathlib.Core.List.{List, [], ◌∷◌, ◌++◌}
-use mathlib.Core.Option.{none, none-ne-some}
+use Rattle.std.specs.Prelude.{None}
+use Rattle.rules.proofs.Options.{none-ne-some}
 use Prim.Native.Nat.{ℕ, ◌+◌, ◌-◌, ◌*◌, ◌^◌, ◌≤◌, ◌<◌}
 use native.Mathlib.Decide.{dec_lt}
 use native.Mathlib.Omega.{arith}
@@ -69,7 +70,7 @@ followed xs ys f old new i h = go (dec_lt i (length xs))
 module _ (u capacity : ℕ) where
   -- the record of a store that holds n samples
   abbrev store_of_lem : ℕ → Store
-  store_of_lem n = record { unit = u; capacity = capacity; len = n; mark = none }
+  store_of_lem n = record { unit = u; capacity = capacity; len = n; mark = None }
 
   record Kept (xs : List ℕ) (c : Capture) (m : Memory) : Type 0 where
     record_is : store_of c ≡ store_of_lem (length xs)
@@ -146,13 +147,13 @@ module _ (u capacity : ℕ) where
     one_kept = go (dec_lt c.capacity (c.len + n))
       where
         go : Dec (c.capacity < c.len + n) → Done (fits u capacity xs bytes)
-        go (yes h) = subst⁻¹ Done (lt-leb (length xs + sample_count u bytes) capacity (omega (arith, capacity_is, len_is, count_is))) (kept_now xs (omega (arith, len_is, none)) (omega (arith, before.len_most, none)) old, (equations call_of).number_is ∙ sym full)
+        go (yes h) = subst⁻¹ Done (lt-leb (length xs + sample_count u bytes) capacity (omega (arith, capacity_is, len_is, count_is))) (kept_now xs (omega (arith, len_is, None)) (omega (arith, before.len_most, None)) old, (equations call_of).number_is ∙ sym full)
           where
             full : 8 ≡ number
             full = refused_full c bytes m.samples (levels m) refl k.passes h
 
-            none : more ≡ 0
-            none = taken_none c bytes m.samples (levels m) (λ z. omega (arith, full))
+            None : more ≡ 0
+            None = taken_none c bytes m.samples (levels m) (λ z. omega (arith, full))
         go (no h) =
             subst⁻¹ Done (le-leb (length xs + sample_count u bytes) capacity (omega (arith, capacity_is, len_is, count_is))) (
               kept_now (xs ++ samples_of u bytes) (length-append xs (samples_of u bytes) ∙ omega (arith, samples_length u bytes, len_is, all, count_is)) (omega (arith, all)) (followed xs (samples_of u bytes) (sample_of u m'.samples) old (new all)),
@@ -224,8 +225,8 @@ module _ (a : Filling) where
 
 pub appends_store : AppendsStore
 appends_store one two v =
-    let t = captures_alike (stored one) none one.capture one.memory (stored two) none two.capture two.memory (appends_stored one).held (appends_stored two).held v in
+    let t = captures_alike (stored one) None one.capture one.memory (stored two) None two.capture two.memory (appends_stored one).held (appends_stored two).held v in
     (appends_stored one, appends_stored two, t.0, t.1, t.2)
 
 pub densities_add : DensitiesAdd
-densities_add a = additive (stored a) none a.capture a.memory (appends_stored a).held
+densities_add a = additive (stored a) None a.capture a.memory (appends_stored a).held

@@ -2,7 +2,7 @@
 -- question's answer are 01's for the samples that were taken. It is what raw samples that the tool loads rest on. 01: Store.
 -- The claim speaks of the calls' own contracts, as that of `claim_captures` does. No range is asked of channels, capacity and memory; an append is of bytes.
 use Rattle.std.specs.Prelude.{◌≡◌, Bool, cond, List, [], ◌∷◌, ◌++◌, ◌↔◌, ℕ, ◌+◌, leb, length}
-use Rattle.std.proofs.Math.Option.{none}
+use Rattle.std.specs.Prelude.{None}
 use contract.Lifetimes.{Lfts}
 use Rattle.rules.specs.Sample.{unit_of, sample_count, samples_of}
 use Rattle.rules.specs.Refusal.{store_refusal, fresh}
@@ -72,8 +72,8 @@ abbrev pub stored : Filling → List ℕ
 stored a = stored_from (unit a) a.capacity [] a.appends
 
 pub record Stores (a : Filling) : Type 0 where
-  pub record_is : store_of a.capture ≡ record { unit = unit a; capacity = a.capacity; len = length (stored a); mark = none }
-  pub held : Held (stored a) none a.capture a.memory
+  pub record_is : store_of a.capture ≡ record { unit = unit a; capacity = a.capacity; len = length (stored a); mark = None }
+  pub held : Held (stored a) None a.capture a.memory
   -- refused with 8 exactly when 01 says, and with nothing else
   pub numbers_are : a.numbers ≡ numbers_from (unit a) a.capacity [] a.appends
 
@@ -97,7 +97,7 @@ AppendsStore =
     × Stores two
     × Answers (stored one) one.capture one.memory
     × Answers (stored two) two.capture two.memory
-    × (LookAlike v one.capture one.memory two.capture two.memory ↔ Same v (stored one) none (stored two) none)
+    × (LookAlike v one.capture one.memory two.capture two.memory ↔ Same v (stored one) None (stored two) None)
 
 -- 02, CR 5: what density answers of them adds up
 abbrev pub DensitiesAdd : Type 0

@@ -2,7 +2,7 @@
 use mathlib.Core.Path.{◌≡◌, refl, sym, ap, ◌∙◌}
 use mathlib.Core.Bool.{Bool, true, false, cond}
 use mathlib.Core.List.{List, [], ◌∷◌}
-use mathlib.Core.Option.{Option, none, some}
+use Rattle.std.specs.Prelude.{Option, None, Some}
 use Prim.Native.Nat.{ℕ, zero, suc, ◌≤◌}
 use native.Mathlib.Nat.{suc-ne-zero}
 use native.Mathlib.Omega.{arith}
@@ -16,7 +16,6 @@ use Rattle.rules.specs.Mill.{MillBurst, origin_of, place_at, shown_burst, beyond
 use Rattle.rules.proofs.Bursts.{says_meet}
 use Rattle.rules.proofs.BurstList.{lists_once}
 use Rattle.capture.specs.declared.Capture.{Capture}
-use Rattle.capture.specs.Record.{mark_of}
 use Rattle.capture.proofs.Answer.{unless_given}
 use Rattle.codes.specs.Code.{perhaps_in}
 use Rattle.codes.specs.Record.{capture_in}
@@ -63,8 +62,8 @@ small grant mask mark p = go (beyond grant mask) (before_first (origin_of mark) 
 
 -- code and numbers, read, are what was found
 read_back : (found : Option Burst) (steps : ℕ) (ends : List ℕ) → perhaps_in (bursted found steps ends).code (burst_in (bursted found steps ends).ends) ≡ given found
-read_back none steps ends = refl
-read_back (some b) steps ends = refl
+read_back None steps ends = refl
+read_back (Some b) steps ends = refl
 
 module _ (first last : ℤ) (jumps : List ℕ) (read : ℕ) where
   abbrev written : Answer (Counted MillBurst) → mill-exports.Bursted
@@ -74,8 +73,8 @@ module _ (first last : ℤ) (jumps : List ℕ) (read : ℕ) where
   read_in v = perhaps_in v.code (mill_burst_in v.first v.last v.jumps)
 
   mill_read_back : (found : Option MillBurst) (steps : ℕ) → read_in (written (given (record { found = found; steps = steps }))) ≡ given found
-  mill_read_back none steps = refl
-  mill_read_back (some b) steps = refl
+  mill_read_back None steps = refl
+  mill_read_back (Some b) steps = refl
 
   mill_read : (n : ℕ) → n ≤ 13 → (w : Counted MillBurst) (x : Option MillBurst) → read_in (written (unless n w)) ≡ given x → w.found ≡ x
   mill_read zero h w x e = given_one (sym (mill_read_back w.found w.steps) ∙ e)
@@ -102,7 +101,7 @@ module _ (run : List ℕ) (mark : Option ℕ) (c : Capture) (m : Memory) (h : He
       ap (λ (w : Counted Burst). w.found) (given_one (sym (((answers c m h).burst_is mask sample gap tolerance budget).is v may) ∙ e))
   said mask (mill grant sample) gap tolerance budget o (v, read, may, e) =
       shown_one (origin_of mark) (burst (at run) (length run) mask (place_at (origin_of mark) sample) gap tolerance budget) o
-      (moved_to grant mask sample gap tolerance budget v (through (shown_burst (origin_of (mark_of c.trigger))) (record { found = o; steps = read })) may e ∙ ap (λ (x : Option ℕ). shown_burst (origin_of x) o) h.mark_is)
+      (moved_to grant mask sample gap tolerance budget v (through (shown_burst (origin_of (c.trigger))) (record { found = o; steps = read })) may e ∙ ap (λ (x : Option ℕ). shown_burst (origin_of x) o) h.mark_is)
 
   says : (mask : ℕ) (q : Asker) (gap tolerance budget : ℕ) → Unrefused mark mask q → (o : Option Burst) × Says c m mask q gap tolerance budget o
   says mask (service sample) gap tolerance budget u =
@@ -172,11 +171,11 @@ bursts_that_meet = record {
   moved = λ run mark c m h grant mask sample gap tolerance budget v w may e.
       (burst (at run) (length run) mask (place_at (origin_of mark) sample) gap tolerance budget, sym (moved_to run mark c m h grant mask sample gap tolerance budget v w may e));
   recorded = λ r. calls (recordings.run r) (recordings.mark r) (recordings.store r) r.memory.store (selection r).held;
-  appended = λ a. calls (appends.stored a) none a.capture a.memory (appends_stored a).held;
+  appended = λ a. calls (appends.stored a) None a.capture a.memory (appends_stored a).held;
   exports = exports;
   export_may = export_says;
   export_moved = λ run mark numbers m h grant mask sample gap tolerance budget first last jumps size read v x may e.
       (burst (at run) (length run) mask (place_at (origin_of mark) sample) gap tolerance budget, sym (export_moved_to run mark numbers m h grant mask sample gap tolerance budget first last jumps size read v x may e));
   pushed = λ r. exports (exported.run r) (exported.mark r) (exported.asked r) r.memory.store (recording_held r);
-  filled = λ a. exports (filled.stored a) none a.numbers a.memory (filling_held a);
+  filled = λ a. exports (filled.stored a) None a.numbers a.memory (filling_held a);
 }

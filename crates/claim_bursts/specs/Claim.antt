@@ -2,7 +2,7 @@
 -- `BurstsMeet` and `ListsOnce` (rules.specs.Bursts) say what is promised; here stands who promises it. That each "below the budget" is needed, rules.proofs.BorderBursts computes.
 -- No range is asked of masks, grants, places, gaps, tolerances and budgets.
 use Rattle.std.specs.Prelude.{◌≡◌, List, ℕ, ◌≤◌, ℤ, length, get_or}
-use Rattle.std.proofs.Math.Option.{Option, none}
+use Rattle.std.specs.Prelude.{Option, None}
 use Rattle.rules.specs.Answer.{given}
 use Rattle.rules.specs.Walk.{Counted, through}
 use Rattle.rules.specs.Burst.{Burst, most_place, burst}
@@ -10,7 +10,6 @@ use Rattle.rules.specs.Bursts.{BurstsMeet, ListsOnce}
 use Rattle.rules.specs.Refusal.{first_of}
 use Rattle.rules.specs.Mill.{MillBurst, origin_of, place_at, shown_burst, mill_search_rows}
 use Rattle.capture.specs.declared.Capture.{Capture}
-use Rattle.capture.specs.Record.{mark_of}
 use Rattle.burst.specs.declared.Bursts.{Bursts}
 use Rattle.burst.specs.Answer.{burst_as}
 use Rattle.mill_search.specs.declared.Bursts as mill-answer
@@ -53,7 +52,7 @@ Says c m mask (service sample) gap tolerance budget o =
     (v : Bursts) × (read : ℕ) × MayBurst c m mask sample gap tolerance budget v × (burst_as v ≡ given (record { found = o; steps = read }))
 Says c m mask (mill grant sample) gap tolerance budget o =
     (v : mill-answer.Bursts) × (read : ℕ) × mills.MayBurst c m grant mask sample gap tolerance budget v
-    × (mill-told.burst_as v ≡ given (through (shown_burst (origin_of (mark_of c.trigger))) (record { found = o; steps = read })))
+    × (mill-told.burst_as v ≡ given (through (shown_burst (origin_of (c.trigger))) (record { found = o; steps = read })))
 
 -- ---- the exports: what stands behind the pointers, read back
 -- first, last, the jumps at the end and at the start
@@ -86,7 +85,7 @@ pub record BurstsThatMeet : Type 0 where
       → mills.MayBurst c m grant mask sample gap tolerance budget v → mill-told.burst_as v ≡ given w → (o : Option Burst) × (w.found ≡ shown_burst (origin_of mark) o)
   -- so after every list of pushes and of appends
   pub recorded : (r : recordings.Recording) → Promised (at (recordings.run r)) (length (recordings.run r)) (place_of (recordings.mark r)) (Says (recordings.store r) r.memory.store)
-  pub appended : (a : appends.Filling) → Promised (at (appends.stored a)) (length (appends.stored a)) (place_of none) (Says a.capture a.memory)
+  pub appended : (a : appends.Filling) → Promised (at (appends.stored a)) (length (appends.stored a)) (place_of None) (Says a.capture a.memory)
   -- and of the exports
   pub exports : (run : List ℕ) (mark : Option ℕ) (numbers : List ℕ) (m : Memory) → Held run mark (capture_in numbers) m → Promised (at run) (length run) (place_of mark) (ExportSays numbers m)
   pub export_may : (run : List ℕ) (mark : Option ℕ) (numbers : List ℕ) (m : Memory) → Held run mark (capture_in numbers) m → (mask : ℕ) (q : Asker) (gap tolerance budget : ℕ) → Unrefused mark mask q
@@ -95,4 +94,4 @@ pub record BurstsThatMeet : Type 0 where
       (first last : ℤ) (jumps : List ℕ) → length jumps ≡ 2 → (read : ℕ) (v : mill-exports.Bursted) (x : Option MillBurst)
       → mill-exports.MayBurst numbers m grant mask sample gap tolerance budget first last jumps read v → perhaps_in v.code (mill_burst_in v.first v.last v.jumps) ≡ given x → (o : Option Burst) × (x ≡ shown_burst (origin_of mark) o)
   pub pushed : (r : exported.Recording) → Promised (at (exported.run r)) (length (exported.run r)) (place_of (exported.mark r)) (ExportSays (exported.asked r) r.memory.store)
-  pub filled : (a : filled.Filling) → Promised (at (filled.stored a)) (length (filled.stored a)) (place_of none) (ExportSays a.numbers a.memory)
+  pub filled : (a : filled.Filling) → Promised (at (filled.stored a)) (length (filled.stored a)) (place_of None) (ExportSays a.numbers a.memory)

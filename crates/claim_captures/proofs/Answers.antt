@@ -1,7 +1,7 @@
 -- Asked with a record and memory that hold a run, each question's contract allows 01's answer for the run, and no other.
 use mathlib.Core.Path.{◌≡◌, refl, sym, ap, ap₂, ◌∙◌, subst⁻¹}
 use mathlib.Core.List.{List, [], ◌∷◌}
-use mathlib.Core.Option.{Option, none, some}
+use Rattle.std.specs.Prelude.{Option, None, Some}
 use Prim.Native.Nat.{ℕ, zero, suc, ◌+◌, ◌*◌, ◌≤◌, ◌<◌}
 use native.Mathlib.Nat.{zero-lt-suc}
 use native.Mathlib.Omega.{arith}
@@ -34,7 +34,7 @@ use Rattle.capture.specs.declared.Got.{Got}
 use Rattle.capture.specs.declared.Got.TheVariants as got
 use Rattle.capture.specs.declared.Copied.{Copied}
 use Rattle.capture.specs.declared.Copied.TheVariants as copies
-use Rattle.capture.specs.Record.{mark_of, store_of, lent_of}
+use Rattle.capture.specs.Record.{store_of, lent_of}
 use Rattle.capture.specs.Calls.{got_of, copied_of}
 use Rattle.summary.specs.declared.Summed.{Summed}
 use Rattle.summary.specs.declared.Summed.TheVariants as summed-as
@@ -76,8 +76,8 @@ copied_for_lem (given k) = (copies.Count k, refl)
 
 pub summed_for_lem : (x : Answer (Option rule.Node)) → (v : Summed) × (summed_of v ≡ x)
 summed_for_lem (refused n) = (summed-as.Refused n, refl)
-summed_for_lem (given none) = (summed-as.Nothing, refl)
-summed_for_lem (given (some n)) = (summed-as.Node (record { first = n.first; last = n.last; mask = n.toggles; count = n.count }), refl)
+summed_for_lem (given None) = (summed-as.Nothing, refl)
+summed_for_lem (given (Some n)) = (summed-as.Node (record { first = n.first; last = n.last; mask = n.toggles; count = n.count }), refl)
 
 pub changes_for_lem : (x : Answer ℕ) → (v : Changes) × (changes_of v ≡ x)
 changes_for_lem (refused n) = (changes-as.Refused n, refl)
@@ -89,7 +89,7 @@ encoded_for (given t) = (encoded-as.Turns (record { position = t.position; forwa
 
 -- a search's, by an enum of three cases: a refusal, a find with its count, and a count alone
 pub counted_for : {A R : Type 0} (means : R → Answer (Counted A)) (refusal : ℕ → R) (at : A → ℕ → R) (nothing : ℕ → R)
-    → ((n : ℕ) → means (refusal n) ≡ refused n) → ((a : A) (n : ℕ) → means (at a n) ≡ given (record { found = some a; steps = n })) → ((n : ℕ) → means (nothing n) ≡ given (record { found = none; steps = n }))
+    → ((n : ℕ) → means (refusal n) ≡ refused n) → ((a : A) (n : ℕ) → means (at a n) ≡ given (record { found = Some a; steps = n })) → ((n : ℕ) → means (nothing n) ≡ given (record { found = None; steps = n }))
     → (x : Answer (Counted A)) → (v : R) × (means v ≡ x)
 counted_for means refusal at nothing e₁ e₂ e₃ (refused n) = (refusal n, e₁ n)
 counted_for {A} {R} means refusal at nothing e₁ e₂ e₃ (given w) = go w.found refl
@@ -98,8 +98,8 @@ counted_for {A} {R} means refusal at nothing e₁ e₂ e₃ (given w) = go w.fou
     counted o = given (record { found = o; steps = w.steps })
 
     go : (o : Option A) → w.found ≡ o → (v : R) × (means v ≡ given w)
-    go none e = (nothing w.steps, e₃ w.steps ∙ ap counted (sym e))
-    go (some a) e = (at a w.steps, e₂ a w.steps ∙ ap counted (sym e))
+    go None e = (nothing w.steps, e₃ w.steps ∙ ap counted (sym e))
+    go (Some a) e = (at a w.steps, e₂ a w.steps ∙ ap counted (sym e))
 
 pub found_for : (x : Answer Walked) → (v : Found) × (found_of v ≡ x)
 found_for = counted_for found_of found.Refused found.At found.Nothing (λ n. refl) (λ i n. refl) (λ n. refl)
@@ -169,7 +169,7 @@ module _ {run : List ℕ} {mark : Option ℕ} (c : Capture) (m : Memory) (h : He
   t = sample_of c.unitsize m.samples
 
   abbrev k : Option ℕ
-  k = mark_of c.trigger
+  k = c.trigger
 
   abbrev lent : Lent
   lent = lent_of m.samples (levels m)

@@ -3,7 +3,7 @@
 -- says of the arguments, the answer, and the memory after the call.
 -- No range is asked of record, memory and the viewer's lines. In `LookAlike` a question's arguments range over what its parameters' types hold: nothing else can be asked.
 use Rattle.std.specs.Prelude.{◌≡◌, false, List, [], ◌∷◌, ◌↔◌, ℕ, ◌*◌, ◌≤◌, ◌<◌, length, take}
-use Rattle.std.proofs.Math.Option.{Option}
+use Rattle.std.specs.Prelude.{Option}
 use contract.Lifetimes.{Lfts}
 use denote.Ref.{at_last}
 use Rattle.rules.specs.Sample.{Word, all_lines, sample_of, list_from, Within}
@@ -19,7 +19,7 @@ use Rattle.capture.specs.declared.Capture.{Capture}
 use Rattle.capture.specs.declared.Got.{Got}
 use Rattle.capture.specs.declared.Copied.{Copied}
 use Rattle.capture.specs.declared.Copied.TheVariants as copies
-use Rattle.capture.specs.Record.{mark_of, store_of, lent_of}
+use Rattle.capture.specs.Record.{store_of, lent_of}
 use Rattle.capture.specs.Calls.{got_of}
 use Rattle.capture.proofs.get.Reads as get-call
 use Rattle.capture.proofs.samples.Reads as samples-call
@@ -113,7 +113,7 @@ pixels_in width v = pixels_of width v.output v.answer
 pub record Held (run : List ℕ) (mark : Option ℕ) (c : Capture) (m : Memory) : Type 0 where
   pub passes : store_refusal (store_of c) (lent_of m.samples (levels m)) ≡ 0
   pub len_is : c.len ≡ length run
-  pub mark_is : mark_of c.trigger ≡ mark
+  pub mark_is : c.trigger ≡ mark
   pub samples_are : (i : ℕ) → i < length run → sample_of c.unitsize m.samples i ≡ at run i
   pub levels_right : Right (at run) (length run) (levels m)
   pub words : OfUnit c.unitsize (at run) (length run)
@@ -143,7 +143,7 @@ pub record Answers (run : List ℕ) (c : Capture) (m : Memory) : Type 0 where
 pub record LookAlike (v : ℕ) (c₁ : Capture) (m₁ : Memory) (c₂ : Capture) (m₂ : Memory) : Type 0 where
   -- "the same length, the same mark,"
   pub lens : c₁.len ≡ c₂.len
-  pub marks : mark_of c₁.trigger ≡ mark_of c₂.trigger
+  pub marks : c₁.trigger ≡ c₂.trigger
   -- "the same summaries and pixels cut down to those lines,"
   pub summaries : (a b : ℕ) → Usize a → Usize b → Agree (MaySummary c₁ m₁ a b) (MaySummary c₂ m₂ a b) (λ x. seen (cut_summary v) (summed_of x))
   pub pixels : (view : View) (width : ℕ) → F64 view.start → F64 view.spp → Usize width

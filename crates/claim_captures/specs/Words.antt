@@ -1,6 +1,6 @@
 -- Words that every claim about captures uses: lent memory, what a call may answer, the ranges of arguments, and runs that are the same to a viewer.
 use Rattle.std.specs.Prelude.{◌≡◌, true, List, [], ◌∷◌, ℕ, ◌+◌, ◌^◌, ◌≤◌, ◌<◌, Float, length, get_or}
-use Rattle.std.proofs.Math.Option.{Option}
+use Rattle.std.specs.Prelude.{Option}
 use Rattle.std.specs.Float.{binary64}
 use Rattle.std.specs.Float.Ieee.{fits}
 use denote.Ref.{Bor, MutBor, at_last}

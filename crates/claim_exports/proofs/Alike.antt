@@ -3,7 +3,7 @@ use mathlib.Core.Path.{◌≡◌, refl, sym, ap, ◌∙◌}
 use mathlib.Core.Bool.{cond}
 use mathlib.Core.List.{List, [], ◌∷◌, ◌++◌, map-append}
 use mathlib.Core.Logic.{◌↔◌}
-use mathlib.Core.Option.{Option, none, some}
+use Rattle.std.specs.Prelude.{Option, None, Some}
 use Prim.Native.Nat.{ℕ, zero, suc, ◌+◌, ◌*◌, ◌<◌}
 use native.Mathlib.Nat.{zero-lt-suc}
 use lib.Bits.{bit_and}
@@ -32,17 +32,17 @@ use Rattle.claim_exports.proofs.Answers.{mark_held, exports_answer}
 
 -- cut down, what is told of a summary is what is told of the summary cut down
 cut_summed_lem : (v : ℕ) (o : Option Node) (old : List ℕ) (count : ℕ) → cut_node v (summed o old count) ≡ cut_summed (cut_summary v o) (cut_pixels v old)
-cut_summed_lem v none old count = refl
-cut_summed_lem v (some n) old count = refl
+cut_summed_lem v None old count = refl
+cut_summed_lem v (Some n) old count = refl
 
 -- a summary's lines from what is told of them
 read_back : CutSummed → Option Lines
-read_back t = cond (eqb t.code 0) (some (record { first = get_or t.node 0 0; last = get_or t.node 1 0; toggles = get_or t.node 2 0 })) none
+read_back t = cond (eqb t.code 0) (Some (record { first = get_or t.node 0 0; last = get_or t.node 1 0; toggles = get_or t.node 2 0 })) None
 
 summed_back : (o : Option Lines) (old : List ℕ) → read_back (cut_summed o old) ≡ o
 unfolding read_back
-summed_back none old = refl
-summed_back (some n) old = refl
+summed_back None old = refl
+summed_back (Some n) old = refl
 
 summed_same : (v : ℕ) (o₁ o₂ : Option Node) (old : List ℕ) (count : ℕ) → cut_node v (summed o₁ old count) ≡ cut_node v (summed o₂ old count) → cut_summary v o₁ ≡ cut_summary v o₂
 summed_same v o₁ o₂ old count e =

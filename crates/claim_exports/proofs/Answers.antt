@@ -2,7 +2,7 @@
 use mathlib.Core.Path.{◌≡◌, refl, sym, ap, ◌∙◌, subst, subst⁻¹}
 use mathlib.Core.Bool.{Bool, true, false, cond}
 use mathlib.Core.List.{List, [], ◌∷◌, ◌++◌}
-use mathlib.Core.Option.{Option, none, some}
+use Rattle.std.specs.Prelude.{Option, None, Some}
 use Prim.Native.Nat.{ℕ, zero, suc, ◌+◌, ◌*◌}
 use native.Mathlib.Nat.{suc-ne-zero}
 use lib.Dec.{eqb}
@@ -55,7 +55,7 @@ asked_is a = sym a.allowed.2 ∙ a.is a.answer a.allowed
 pub mark_held : (numbers : List ℕ) → mark_of (capture_in numbers).trigger ≡ mark_in numbers
 mark_held numbers = go (eqb (marked_in numbers) 0)
   where
-    go : (b : Bool) → mark_of (cond b Absent (At (mark_place_in numbers))) ≡ cond b none (some (mark_place_in numbers))
+    go : (b : Bool) → mark_of (cond b Absent (At (mark_place_in numbers))) ≡ cond b None (Some (mark_place_in numbers))
     go true = refl
     go false = refl
 
@@ -101,30 +101,30 @@ module _ (old : List ℕ) (size : length old ≡ 3) (count : ℕ) where
   SummedOut x v = Out node_numbers (perhaps x) v.code old v.node × Out count_number (perhaps x) v.code count v.count
 
   summed_only : (o : Option Node) (v : told.Summed) → SummedOut (given o) v → v ≡ told.summed o old count
-  summed_only none v out = λ i. record { code = out.0.code_is i; node = out.0.value_is i; count = out.1.value_is i }
-  summed_only (some n) v out = λ i. record { code = out.0.code_is i; node = (out.0.value_is ∙ three (lines_of n) old size) i; count = out.1.value_is i }
+  summed_only None v out = λ i. record { code = out.0.code_is i; node = out.0.value_is i; count = out.1.value_is i }
+  summed_only (Some n) v out = λ i. record { code = out.0.code_is i; node = (out.0.value_is ∙ three (lines_of n) old size) i; count = out.1.value_is i }
 
   summed_out : (o : Option Node) → SummedOut (given o) (told.summed o old count)
-  summed_out none = (record { code_is = refl; value_is = refl }, record { code_is = refl; value_is = refl })
-  summed_out (some n) = (record { code_is = refl; value_is = sym (three (lines_of n) old size) }, record { code_is = refl; value_is = refl })
+  summed_out None = (record { code_is = refl; value_is = refl }, record { code_is = refl; value_is = refl })
+  summed_out (Some n) = (record { code_is = refl; value_is = sym (three (lines_of n) old size) }, record { code_is = refl; value_is = refl })
 
 module _ (steps old old-read : ℕ) where
   found_only : (o : Option ℕ) (v : told.Found) → Sought number (given (record { found = o; steps = steps })) v.code old v.place old-read v.read → v ≡ found o steps old
-  found_only none v out = λ i. record { code = out.find.code_is i; place = out.find.value_is i; read = out.count.value_is i }
-  found_only (some k) v out = λ i. record { code = out.find.code_is i; place = out.find.value_is i; read = out.count.value_is i }
+  found_only None v out = λ i. record { code = out.find.code_is i; place = out.find.value_is i; read = out.count.value_is i }
+  found_only (Some k) v out = λ i. record { code = out.find.code_is i; place = out.find.value_is i; read = out.count.value_is i }
 
   found_out : (o : Option ℕ) → Sought number (given (record { found = o; steps = steps })) (found o steps old).code old (found o steps old).place old-read (found o steps old).read
-  found_out none = record { find = record { code_is = refl; value_is = refl }; count = record { code_is = refl; value_is = refl } }
-  found_out (some k) = record { find = record { code_is = refl; value_is = refl }; count = record { code_is = refl; value_is = refl } }
+  found_out None = record { find = record { code_is = refl; value_is = refl }; count = record { code_is = refl; value_is = refl } }
+  found_out (Some k) = record { find = record { code_is = refl; value_is = refl }; count = record { code_is = refl; value_is = refl } }
 
 module _ (steps : ℕ) (old : List ℕ) (size : length old ≡ 4) (old-read : ℕ) where
   bursted_only : (o : Option Burst) (v : told.Bursted) → Sought burst_numbers (given (record { found = o; steps = steps })) v.code old v.ends old-read v.read → v ≡ bursted o steps old
-  bursted_only none v out = λ i. record { code = out.find.code_is i; ends = out.find.value_is i; read = out.count.value_is i }
-  bursted_only (some b) v out = λ i. record { code = out.find.code_is i; ends = (out.find.value_is ∙ four b old size) i; read = out.count.value_is i }
+  bursted_only None v out = λ i. record { code = out.find.code_is i; ends = out.find.value_is i; read = out.count.value_is i }
+  bursted_only (Some b) v out = λ i. record { code = out.find.code_is i; ends = (out.find.value_is ∙ four b old size) i; read = out.count.value_is i }
 
   bursted_out : (o : Option Burst) → Sought burst_numbers (given (record { found = o; steps = steps })) (bursted o steps old).code old (bursted o steps old).ends old-read (bursted o steps old).read
-  bursted_out none = record { find = record { code_is = refl; value_is = refl }; count = record { code_is = refl; value_is = refl } }
-  bursted_out (some b) = record { find = record { code_is = refl; value_is = sym (four b old size) }; count = record { code_is = refl; value_is = refl } }
+  bursted_out None = record { find = record { code_is = refl; value_is = refl }; count = record { code_is = refl; value_is = refl } }
+  bursted_out (Some b) = record { find = record { code_is = refl; value_is = sym (four b old size) }; count = record { code_is = refl; value_is = refl } }
 
 -- some reference to a number
 pub nowhere : One

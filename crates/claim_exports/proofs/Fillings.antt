@@ -1,7 +1,7 @@
 -- A store that the exports filled is one that the calls filled: the numbers read back as the record that each call returned. So they hold the samples that were taken.
 use mathlib.Core.Path.{◌≡◌, refl, sym, ap, ap₂, ◌∙◌, subst⁻¹}
 use mathlib.Core.List.{List, [], ◌∷◌}
-use mathlib.Core.Option.{none}
+use Rattle.std.specs.Prelude.{None}
 use Prim.Native.Nat.{ℕ, zero, suc, ◌+◌}
 use native.Mathlib.Nat.{suc-ne-zero}
 use lib.ListN.{length, length-set}
@@ -117,7 +117,7 @@ module _ (a : Filling) where
     appended = done.appended;
   }
 
-  pub filling_held : Held (stored a) none (capture_in a.numbers) a.memory
+  pub filling_held : Held (stored a) None (capture_in a.numbers) a.memory
   filling_held = (appends_stored filled_by).held
 
   stores : Stores a

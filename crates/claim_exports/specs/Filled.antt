@@ -1,7 +1,7 @@
 -- Stores that a program filled with lc_start and lc_append, to be held beside include/logic_core.h: what they hold and answer, and when two look alike. 01: Store.
 -- What is asked of them is in Questions. No range is asked of channels, capacity and memory; an append is of bytes, and a record's numbers are five.
 use Rattle.std.specs.Prelude.{◌≡◌, List, [], ◌∷◌, ◌↔◌, ℕ, length}
-use Rattle.std.proofs.Math.Option.{none}
+use Rattle.std.specs.Prelude.{None}
 use contract.Lifetimes.{Lfts}
 use denote.Ref.{at_last}
 use Rattle.rules.specs.Sample.{unit_of}
@@ -57,7 +57,7 @@ stored a = stored_from (unit_of a.channels) a.capacity [] a.appends
 
 pub record Stores (a : Filling) : Type 0 where
   pub len_is : len_in a.numbers ≡ length (stored a)
-  pub mark_is : mark_in a.numbers ≡ none
+  pub mark_is : mark_in a.numbers ≡ None
   -- 8 exactly when 01 says, and else 0
   pub codes_are : a.codes ≡ numbers_from (unit_of a.channels) a.capacity [] a.appends
 
@@ -84,7 +84,7 @@ Filled =
     × Stores two
     × Answers (stored one) one.numbers one.memory
     × Answers (stored two) two.numbers two.memory
-    × (LookAlike v one.numbers one.memory two.numbers two.memory ↔ Same v (stored one) none (stored two) none)
+    × (LookAlike v one.numbers one.memory two.numbers two.memory ↔ Same v (stored one) None (stored two) None)
 
 -- 02, CR 5: what lc_density gives of them adds up
 abbrev pub DensitiesAdd : Type 0

@@ -2,7 +2,7 @@
 -- when two captures look alike to a viewer of chosen lines. A capture is its record's five numbers and its memory.
 -- `Post` of an export's generated `Reads` is what its `ensures` says of the arguments, the code, and what stands behind its pointers afterwards.
 use Rattle.std.specs.Prelude.{◌≡◌, false, cond, List, [], ◌∷◌, ◌++◌, ℕ, ◌*◌, ◌≤◌, ◌<◌, eqb, Float, ℤ, length, drop}
-use Rattle.std.proofs.Math.Option.{Option, none, some}
+use Rattle.std.specs.Prelude.{Option, None, Some}
 use contract.Lifetimes.{Lfts}
 use denote.Ref.{MutBor, at_last}
 use Rattle.rules.specs.Sample.{list_from, Word, all_lines, Within}
@@ -29,7 +29,7 @@ use Rattle.claim_captures.specs.Words.{Memory, at, AddUp, Answered, Agree, Usize
 
 -- ---- the record's numbers: which is which, capture.specs.Numbers says
 abbrev pub mark_in : List ℕ → Option ℕ
-mark_in numbers = cond (eqb (marked_in numbers) 0) none (some (mark_place_in numbers))
+mark_in numbers = cond (eqb (marked_in numbers) 0) None (Some (mark_place_in numbers))
 
 -- a number behind a pointer
 abbrev pub One : Type 0
@@ -83,8 +83,8 @@ MaySummary numbers m a b node count v =
 
 -- 0 with first, last, toggles and the count; 100 where the range is empty
 abbrev pub summed : Option Node → List ℕ → ℕ → Summed
-summed none old count = record { code = 100; node = old; count = count }
-summed (some n) old count = record { code = 0; node = n.first ∷ n.last ∷ n.toggles ∷ []; count = n.count }
+summed None old count = record { code = 100; node = old; count = count }
+summed (Some n) old count = record { code = 0; node = n.first ∷ n.last ∷ n.toggles ∷ []; count = n.count }
 
 -- what is told of chosen lines has no count
 pub record CutSummed : Type 0 where
@@ -92,8 +92,8 @@ pub record CutSummed : Type 0 where
   pub node : List ℕ
 
 abbrev pub cut_summed : Option Lines → List ℕ → CutSummed
-cut_summed none old = record { code = 100; node = old }
-cut_summed (some n) old = record { code = 0; node = n.first ∷ n.last ∷ n.toggles ∷ [] }
+cut_summed None old = record { code = 100; node = old }
+cut_summed (Some n) old = record { code = 0; node = n.first ∷ n.last ∷ n.toggles ∷ [] }
 
 -- ---- lc_density: the code, and the number behind `count`; `got` says what they are
 abbrev pub MayDensity : List ℕ → Memory → ℕ → ℕ → ℕ → Got → Type 0
@@ -119,8 +119,8 @@ MayPrevious numbers m mask from place read v =
 
 -- 0 with the place; 100 where there is none; the nodes read either way
 abbrev pub found : Option ℕ → ℕ → ℕ → Found
-found none steps old = record { code = 100; place = old; read = steps }
-found (some i) steps old = record { code = 0; place = i; read = steps }
+found None steps old = record { code = 100; place = old; read = steps }
+found (Some i) steps old = record { code = 0; place = i; read = steps }
 
 -- ---- lc_burst_at: the code, the four numbers behind `ends`, and the one behind `read`
 pub record Bursted : Type 0 where
@@ -136,8 +136,8 @@ MayBurst numbers m mask sample gap tolerance budget ends read v =
 
 -- 0 with first, last, the jumps at the end and at the start; 100 where there is none; the nodes read either way
 abbrev pub bursted : Option Burst → ℕ → List ℕ → Bursted
-bursted none steps old = record { code = 100; ends = old; read = steps }
-bursted (some b) steps old = record { code = 0; ends = b.first ∷ b.last ∷ b.jumps_end ∷ b.jumps_start ∷ []; read = steps }
+bursted None steps old = record { code = 100; ends = old; read = steps }
+bursted (Some b) steps old = record { code = 0; ends = b.first ∷ b.last ∷ b.jumps_end ∷ b.jumps_start ∷ []; read = steps }
 
 -- ---- lc_encoder: the code, the number behind `position`, and the three behind `counts`
 pub record Turned : Type 0 where

@@ -1,7 +1,7 @@
 -- Asked with a record and memory that hold a run, each of a mill's calls is told the run's granted lines, counted from its mark, and nothing else.
 use mathlib.Core.Path.{◌≡◌, refl, ap, ◌∙◌}
 use mathlib.Core.List.{List, []}
-use mathlib.Core.Option.{Option, none, some}
+use Rattle.std.specs.Prelude.{Option, None, Some}
 use Prim.Native.Nat.{ℕ, ◌+◌, ◌*◌, ◌<◌}
 use native.Mathlib.Nat.{zero-lt-suc}
 use lib.Bits.{bit_and}
@@ -27,7 +27,7 @@ use Rattle.rules.proofs.Refusal.{row_passed}
 use Rattle.rules.proofs.Row.{row_length, from_stored}
 use Rattle.claim_alike.proofs.Below.{summary_below, encoder_below, next_below, previous_below, burst_below, row_below}
 use Rattle.capture.specs.declared.Capture.{Capture}
-use Rattle.capture.specs.Record.{mark_of, store_of, lent_of}
+use Rattle.capture.specs.Record.{store_of, lent_of}
 use Rattle.capture.specs.Calls.{got_of}
 use Rattle.summary.specs.Summary.{summed}
 use Rattle.pixel.specs.declared.View.{View}
@@ -60,8 +60,8 @@ bounded_for_lem (given e) = (bounded.Run (record { first = e.first; end = e.end;
 
 shown_for_lem : (x : Answer (Option Lines)) → (v : Shown) × (shown_of v ≡ x)
 shown_for_lem (refused n) = (shown-as.Refused n, refl)
-shown_for_lem (given none) = (shown-as.Nothing, refl)
-shown_for_lem (given (some n)) = (shown-as.Lines (record { first = n.first; last = n.last; mask = n.toggles }), refl)
+shown_for_lem (given None) = (shown-as.Nothing, refl)
+shown_for_lem (given (Some n)) = (shown-as.Lines (record { first = n.first; last = n.last; mask = n.toggles }), refl)
 
 found_for : (x : Answer (Counted ℤ)) → (v : Found) × (found_of v ≡ x)
 found_for = counted_for found_of found.Refused found.At found.Nothing (λ n. refl) (λ p n. refl) (λ n. refl)
@@ -85,7 +85,7 @@ module _ {run : List ℕ} {mark : Option ℕ} (c : Capture) (m : Memory) (h : He
   t = sample_of c.unitsize m.samples
 
   abbrev k : Option ℕ
-  k = mark_of c.trigger
+  k = c.trigger
 
   abbrev lent : Lent
   lent = lent_of m.samples (levels m)

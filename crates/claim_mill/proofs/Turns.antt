@@ -1,7 +1,7 @@
 -- What a mill is told of an encoder is 02's replay of the run, so 02's claims of it hold.
 use mathlib.Core.Path.{sym, ◌∙◌}
 use mathlib.Core.List.{List}
-use mathlib.Core.Option.{Option}
+use Rattle.std.specs.Prelude.{Option}
 use Prim.Native.Nat.{ℕ}
 use Rattle.rules.specs.Refusal.{first_of}
 use Rattle.rules.specs.Mill.{mill_encoder_rows}

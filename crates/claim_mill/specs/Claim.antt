@@ -2,7 +2,7 @@
 -- The claim speaks of the calls' own contracts, as that of `claim_captures` does: `Post` of a call's generated `Reads` is what its `ensures` says.
 -- No range is asked of grant, masks, places and counts.
 use Rattle.std.specs.Prelude.{◌≡◌, List, ℕ, ℤ, length}
-use Rattle.std.proofs.Math.Option.{Option}
+use Rattle.std.specs.Prelude.{Option}
 use Rattle.std.specs.Int.Bits.{bit_and}
 use contract.Lifetimes.{Lfts}
 use denote.Ref.{at_last}

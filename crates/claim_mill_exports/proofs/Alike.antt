@@ -1,7 +1,7 @@
 -- Two captures that hold a run each tell a mill the same through the exports where the runs are the same in length, mark and granted lines: what the calls answer is the same then.
 use mathlib.Core.Path.{refl, ap}
 use mathlib.Core.List.{List}
-use mathlib.Core.Option.{Option}
+use Rattle.std.specs.Prelude.{Option}
 use Prim.Native.Nat.{ℕ}
 use lib.IntN.{ℤ}
 use Rattle.rules.specs.Node.{Lines}

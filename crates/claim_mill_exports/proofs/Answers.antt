@@ -1,7 +1,7 @@
 -- Asked through the exports with numbers and memory that hold a run, each of a mill's questions gives the code and the numbers of the run's granted lines, and no others.
 use mathlib.Core.Path.{◌≡◌, refl, sym, ap, ◌∙◌, subst, subst⁻¹}
 use mathlib.Core.List.{List, [], ◌∷◌, ◌++◌}
-use mathlib.Core.Option.{Option, none, some}
+use Rattle.std.specs.Prelude.{Option, None, Some}
 use Prim.Native.Nat.{ℕ, zero, suc, ◌+◌, ◌*◌}
 use native.Mathlib.Nat.{suc-ne-zero}
 use lib.Bits.{bit_and}
@@ -26,7 +26,7 @@ use Rattle.rules.proofs.SampleBytes.{list_whole}
 use Rattle.rules.proofs.Row.{from_stored}
 use Rattle.claim_alike.proofs.Below.{row_below}
 use Rattle.capture.specs.declared.Capture.{Capture}
-use Rattle.capture.specs.Record.{mark_of, store_of, lent_of}
+use Rattle.capture.specs.Record.{store_of, lent_of}
 use Rattle.rules.specs.Reading.{copied_to}
 use Rattle.summary.specs.Summary as memory
 use Rattle.pixel.specs.declared.View as pixel
@@ -55,22 +55,22 @@ use Rattle.claim_mill_exports.specs.Claim.{MayExtent, MayGet, MaySamples, MaySum
 module _ (old : List ℕ) (size : length old ≡ 3) where
   node_only : (x : Answer (Option Lines)) (v : CutSummed) → Out lines_numbers (perhaps x) v.code old v.node → v ≡ summed_by x old
   node_only (refused n) v out = λ i. record { code = out.code_is i; node = out.value_is i }
-  node_only (given none) v out = λ i. record { code = out.code_is i; node = out.value_is i }
-  node_only (given (some n)) v out = λ i. record { code = out.code_is i; node = (out.value_is ∙ three n old size) i }
+  node_only (given None) v out = λ i. record { code = out.code_is i; node = out.value_is i }
+  node_only (given (Some n)) v out = λ i. record { code = out.code_is i; node = (out.value_is ∙ three n old size) i }
 
   node_out : (x : Answer (Option Lines)) → Out lines_numbers (perhaps x) (summed_by x old).code old (summed_by x old).node
   node_out (refused n) = record { code_is = refl; value_is = refl }
-  node_out (given none) = record { code_is = refl; value_is = refl }
-  node_out (given (some n)) = record { code_is = refl; value_is = sym (three n old size) }
+  node_out (given None) = record { code_is = refl; value_is = refl }
+  node_out (given (Some n)) = record { code_is = refl; value_is = sym (three n old size) }
 
 module _ (old : ℤ) (old-read : ℕ) where
   at_only : (steps : ℕ) (o : Option ℤ) (v : Found) → Sought written.place (given (record { found = o; steps = steps })) v.code old v.place old-read v.read → v ≡ found_at o steps old
-  at_only steps none v out = λ i. record { code = out.find.code_is i; place = out.find.value_is i; read = out.count.value_is i }
-  at_only steps (some p) v out = λ i. record { code = out.find.code_is i; place = out.find.value_is i; read = out.count.value_is i }
+  at_only steps None v out = λ i. record { code = out.find.code_is i; place = out.find.value_is i; read = out.count.value_is i }
+  at_only steps (Some p) v out = λ i. record { code = out.find.code_is i; place = out.find.value_is i; read = out.count.value_is i }
 
   at_out : (steps : ℕ) (o : Option ℤ) → Sought written.place (given (record { found = o; steps = steps })) (found_at o steps old).code old (found_at o steps old).place old-read (found_at o steps old).read
-  at_out steps none = record { find = record { code_is = refl; value_is = refl }; count = record { code_is = refl; value_is = refl } }
-  at_out steps (some p) = record { find = record { code_is = refl; value_is = refl }; count = record { code_is = refl; value_is = refl } }
+  at_out steps None = record { find = record { code_is = refl; value_is = refl }; count = record { code_is = refl; value_is = refl } }
+  at_out steps (Some p) = record { find = record { code_is = refl; value_is = refl }; count = record { code_is = refl; value_is = refl } }
 
   found_only : (x : Answer (Counted ℤ)) (v : Found) → Sought written.place x v.code old v.place old-read v.read → v ≡ found x old old-read
   found_only (refused n) v out = λ i. record { code = out.find.code_is i; place = out.find.value_is i; read = out.count.value_is i }
@@ -90,16 +90,16 @@ module _ (first last : ℤ) (jumps : List ℕ) (size : length jumps ≡ 2) (read
   Told x v = BurstOut x v.code first v.first last v.last jumps v.jumps read v.read
 
   ends_only : (steps : ℕ) (o : Option MillBurst) (v : Bursted) → Told (given (record { found = o; steps = steps })) v → v ≡ bursted_at o steps first last jumps
-  ends_only steps none v out = λ i. record { code = out.first_is.code_is i; first = out.first_is.value_is i; last = out.last_is.value_is i; jumps = out.jumps_are.find.value_is i; read = out.jumps_are.count.value_is i }
-  ends_only steps (some b) v out = λ i. record { code = out.first_is.code_is i; first = out.first_is.value_is i; last = out.last_is.value_is i; jumps = (out.jumps_are.find.value_is ∙ two b jumps size) i; read = out.jumps_are.count.value_is i }
+  ends_only steps None v out = λ i. record { code = out.first_is.code_is i; first = out.first_is.value_is i; last = out.last_is.value_is i; jumps = out.jumps_are.find.value_is i; read = out.jumps_are.count.value_is i }
+  ends_only steps (Some b) v out = λ i. record { code = out.first_is.code_is i; first = out.first_is.value_is i; last = out.last_is.value_is i; jumps = (out.jumps_are.find.value_is ∙ two b jumps size) i; read = out.jumps_are.count.value_is i }
 
   ends_out : (steps : ℕ) (o : Option MillBurst) → Told (given (record { found = o; steps = steps })) (bursted_at o steps first last jumps)
-  ends_out steps none = record {
+  ends_out steps None = record {
     first_is = record { code_is = refl; value_is = refl };
     last_is = record { code_is = refl; value_is = refl };
     jumps_are = record { find = record { code_is = refl; value_is = refl }; count = record { code_is = refl; value_is = refl } };
   }
-  ends_out steps (some b) = record {
+  ends_out steps (Some b) = record {
     first_is = record { code_is = refl; value_is = refl };
     last_is = record { code_is = refl; value_is = refl };
     jumps_are = record { find = record { code_is = refl; value_is = sym (two b jumps size) }; count = record { code_is = refl; value_is = refl } };
@@ -271,7 +271,7 @@ module _ {run : List ℕ} {mark : Option ℕ} (numbers : List ℕ) (m : Memory) 
     abbrev row : (ℕ → ℕ) → Option ℕ → ℕ → List ℕ
     row f x n = cut_pixels grant (row_by (node_of f) (range_from (origin_of x) (view_of start spp) n) 0 width)
 
-    drawn_only : (v : Drawn) → DrawsOut c m.samples (levels m) grant start spp width output v.code v.output → v ≡ drawn (unless draw_refusal_lem (row t (mark_of c.trigger) c.len)) width output
+    drawn_only : (v : Drawn) → DrawsOut c m.samples (levels m) grant start spp width output v.code v.output → v ≡ drawn (unless draw_refusal_lem (row t (c.trigger) c.len)) width output
     drawn_only v out = go draw_refusal_lem refl
       where
         r : (r : answer.Drawn) × (drawn_of r ≡ unless draw_refusal_lem tt)
@@ -281,10 +281,10 @@ module _ {run : List ℕ} {mark : Option ℕ} (numbers : List ℕ) (m : Memory) 
         call : MillDraws (memory.summed (levels m) t) (store_of c) lent grant (view_of start spp) width output r.0 v.output
         call = record { answer_is = r.1; output_is = out.output_is }
 
-        go : (n : ℕ) → draw_refusal_lem ≡ n → v ≡ drawn (unless n (row t (mark_of c.trigger) c.len)) width output
+        go : (n : ℕ) → draw_refusal_lem ≡ n → v ≡ drawn (unless n (row t (c.trigger) c.len)) width output
         go zero e = λ i. record { code = (out.code_is ∙ e) i; output = drawn_row i }
           where
-            drawn_row : v.output ≡ row t (mark_of c.trigger) c.len ++ drop (2 * width) output
+            drawn_row : v.output ≡ row t (c.trigger) c.len ++ drop (2 * width) output
             drawn_row =
                 render_row ([], ([], ([], tt))) c (shown_at anywhere m.samples) (shown_at anywhere m.l1) (shown_at anywhere m.l2) (shown_at anywhere m.l3) (shown_at anywhere m.l4) grant view width (at_last anywhere output) r.0 v.output call (right c m h) e
         go (suc n) e = λ i. record { code = (out.code_is ∙ e) i; output = same i }

@@ -1,6 +1,6 @@
 -- What lc_mill_encoder puts behind its pointers reads back as 02's replay of the run, so 02's claims of it hold.
 use mathlib.Core.List.{List}
-use mathlib.Core.Option.{Option}
+use Rattle.std.specs.Prelude.{Option}
 use Prim.Native.Nat.{ℕ}
 use lib.ListN.{length}
 use Rattle.rules.specs.Encoder.{encoder}

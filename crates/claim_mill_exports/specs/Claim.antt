@@ -2,7 +2,7 @@
 -- A capture is its record's five numbers and its memory. `Post` of an export's generated `Reads` is what its `ensures` says of the arguments, the code, and what stands behind its pointers
 -- afterwards. No range is asked of grant, masks, places and counts.
 use Rattle.std.specs.Prelude.{◌≡◌, cond, List, [], ◌∷◌, ℕ, Float, ℤ, length}
-use Rattle.std.proofs.Math.Option.{Option, none, some}
+use Rattle.std.specs.Prelude.{Option, None, Some}
 use Rattle.std.specs.Int.Bits.{bit_and}
 use contract.Lifetimes.{Lfts}
 use denote.Ref.{at_last}
@@ -86,8 +86,8 @@ MayPrevious numbers m grant mask from place read v =
 
 -- 0 with the place; 100 where there is none; the nodes read either way
 abbrev pub found_at : Option ℤ → ℕ → ℤ → Found
-found_at none steps old = record { code = 100; place = old; read = steps }
-found_at (some p) steps old = record { code = 0; place = p; read = steps }
+found_at None steps old = record { code = 100; place = old; read = steps }
+found_at (Some p) steps old = record { code = 0; place = p; read = steps }
 
 abbrev pub found : Answer (Counted ℤ) → ℤ → ℕ → Found
 found (refused n) old read = record { code = n; place = old; read = read }
@@ -111,8 +111,8 @@ MayBurst numbers m grant mask sample gap tolerance budget first last jumps read 
 
 -- 0 with both places, the jumps at the end and at the start; 100 where there is none; the nodes read either way
 abbrev pub bursted_at : Option MillBurst → ℕ → ℤ → ℤ → List ℕ → Bursted
-bursted_at none steps first last jumps = record { code = 100; first = first; last = last; jumps = jumps; read = steps }
-bursted_at (some b) steps first last jumps = record { code = 0; first = b.first; last = b.last; jumps = b.jumps_end ∷ b.jumps_start ∷ []; read = steps }
+bursted_at None steps first last jumps = record { code = 100; first = first; last = last; jumps = jumps; read = steps }
+bursted_at (Some b) steps first last jumps = record { code = 0; first = b.first; last = b.last; jumps = b.jumps_end ∷ b.jumps_start ∷ []; read = steps }
 
 abbrev pub bursted : Answer (Counted MillBurst) → ℤ → ℤ → List ℕ → ℕ → Bursted
 bursted (refused n) first last jumps read = record { code = n; first = first; last = last; jumps = jumps; read = read }

@@ -1,7 +1,7 @@
 -- Recordings exist: start may give a fresh recorder whenever no row refuses, and on any record, memory and bytes there is something that push may answer and leave.
 use mathlib.Core.Path.{◌≡◌, refl, sym, ap, ◌∙◌}
 use mathlib.Core.List.{List, [], ◌∷◌}
-use mathlib.Core.Option.{Option, none, some}
+use Rattle.std.specs.Prelude.{Option, None, Some}
 use Prim.Native.Nat.{ℕ, ◌-◌}
 use Rattle.rules.specs.Sample.{sample_of}
 use Rattle.rules.specs.Trigger as trigger
@@ -32,12 +32,12 @@ use Rattle.claim_recording.specs.Claim.Pushing.{stop, step}
 
 -- ---- the code's record for each of 01's
 mark_for : (o : Option ℕ) → (x : Mark) × (mark_of x ≡ o)
-mark_for none = (mark.Absent, refl)
-mark_for (some k) = (mark.At k, refl)
+mark_for None = (mark.Absent, refl)
+mark_for (Some k) = (mark.At k, refl)
 
 previous_for : (o : Option ℕ) → (x : Previous) × (previous_of x ≡ o)
-previous_for none = (previous.Nothing, refl)
-previous_for (some v) = (previous.Sample v, refl)
+previous_for None = (previous.Nothing, refl)
+previous_for (Some v) = (previous.Sample v, refl)
 
 armed_for : (a : trigger.Armed) → (x : Armed) × (armed_as x ≡ a)
 armed_for trigger.unarmed = (armed.Unarmed, refl)

@@ -1,7 +1,7 @@
 -- The run of pushes of bytes has samples of their unit.
 use mathlib.Core.Bool.{Bool, true, false, cond}
 use mathlib.Core.List.{List, [], ◌∷◌}
-use mathlib.Core.Option.{none}
+use Rattle.std.specs.Prelude.{None}
 use Prim.Native.Nat.{ℕ, ◌-◌, min}
 use lib.Dec.{ltb, eqb}
 use lib.ListN.{length, take}
@@ -17,7 +17,7 @@ chosen_words u unarmed pre xs h = h
 chosen_words u (waiting m) pre xs h = go (ltb t (length xs))
   where
     t : ℕ
-    t = first_fire m none xs
+    t = first_fire m None xs
 
     go : (b : Bool) → WordList u (cond b (fired_at pre t xs) not_fired).run
     go true = words_drop u (t - min t pre) xs h

@@ -4,7 +4,7 @@
 -- memory after the call. For start over a slice of terms, which changes nothing, `MayStart` is its clause, as proofs/Clauses shows.
 -- No range is asked of settings, memory and the viewer's lines; a push is of bytes.
 use Rattle.std.specs.Prelude.{◌≡◌, Bool, List, [], ◌∷◌, ◌↔◌, ℕ, ◌+◌, ◌≤◌, ◌<◌, length, get_or}
-use Rattle.std.proofs.Math.Option.{Option}
+use Rattle.std.specs.Prelude.{Option}
 use contract.Lifetimes.{Lfts}
 use denote.Ref.{at_last}
 use Rattle.rules.specs.Start.{start_rule, beside_in}

@@ -1,7 +1,7 @@
 -- The claims over the calls' contracts.
 use mathlib.Core.Path.{◌≡◌, refl, sym, ap, ◌∙◌, subst, subst⁻¹}
 use mathlib.Core.List.{List, []}
-use mathlib.Core.Option.{Option, none, some}
+use Rattle.std.specs.Prelude.{Option, None, Some}
 use Prim.Native.Nat.{ℕ, zero, suc, ◌+◌}
 use native.Mathlib.Omega.{arith}
 use lib.ListN.{length, take}
@@ -45,8 +45,8 @@ was_read capacity file m answer m' (v, (κs, p, f, promised), v-is) = record { a
 
 -- ---- there is always an answer
 mark_for : (m : Option ℕ) → (t : Mark) × (mark_of t ≡ m)
-mark_for none = (Absent, refl)
-mark_for (some k) = (At k, refl)
+mark_for None = (Absent, refl)
+mark_for (Some k) = (At k, refl)
 
 pub store_for : (st : Store) → (c : Capture) × (store_of c ≡ st)
 store_for st =

@@ -1,6 +1,6 @@
 -- Shelf files, over the calls' own contracts: `Post` of a call's generated `Reads` is what its `ensures` says. 02: CR 7. `Files` says what is promised.
 use Rattle.std.specs.Prelude.{◌≡◌, List, ℕ, take}
-use Rattle.std.proofs.Math.Option.{Option}
+use Rattle.std.specs.Prelude.{Option}
 use contract.Lifetimes.{Lfts}
 use denote.Ref.{at_last}
 use Rattle.rules.specs.Answer.{Answer}

@@ -1,7 +1,7 @@
 -- Shelf files over the exports, to be held beside include/logic_core.h: `Files` (claim_shelf) says what is promised. 02: CR 7.
 -- A record's numbers are five; no range is asked of them, of memory, output and capacity, nor of what stands behind an out pointer.
 use Rattle.std.specs.Prelude.{◌≡◌, List, ℕ, length, take}
-use Rattle.std.proofs.Math.Option.{Option}
+use Rattle.std.specs.Prelude.{Option}
 use contract.Lifetimes.{Lfts}
 use denote.Ref.{at_last}
 use Rattle.rules.specs.Answer.{Answer, unless}

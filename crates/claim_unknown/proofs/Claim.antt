@@ -2,7 +2,7 @@
 use mathlib.Core.Path.{◌≡◌, refl, sym, ◌∙◌}
 use mathlib.Core.Bool.{Bool, true, false}
 use mathlib.Core.List.{List, []}
-use mathlib.Core.Option.{Option, none, some}
+use Rattle.std.specs.Prelude.{Option, None, Some}
 use Prim.Native.Nat.{ℕ}
 use Rattle.rules.specs.Answer.{Answer, refused, given}
 use Rattle.rules.specs.Unknown.{Sureness, certain, possible}
@@ -25,8 +25,8 @@ use Rattle.claim_unknown.proofs.Salvaged.{salvaged_searched, made_alike}
 
 pub located_for : (x : Answer (Option ℕ)) → (v : Located) × (located_of v ≡ x)
 located_for (refused n) = (located.Refused n, refl)
-located_for (given none) = (located.Nothing, refl)
-located_for (given (some i)) = (located.At i, refl)
+located_for (given None) = (located.Nothing, refl)
+located_for (given (Some i)) = (located.At i, refl)
 
 told : (sure : Sureness) (back : Bool) (c : Capture) (m : Memory) (list : List ℕ) (mask from : ℕ) (answer : Answer (Option ℕ)) → Locates sure back c m list mask from answer
     → answer ≡ answer_of sure back c m.samples (levels m) list mask from

@@ -2,7 +2,7 @@
 use mathlib.Core.Path.{◌≡◌, refl, sym, ap, ap₂, ◌∙◌, subst, subst⁻¹}
 use mathlib.Core.Bool.{Bool, true, false, cond, not, ◌&&◌, ◌||◌}
 use mathlib.Core.List.{List, [], ◌∷◌}
-use mathlib.Core.Option.{Option, none, some}
+use Rattle.std.specs.Prelude.{Option, None, Some}
 use Prim.Native.Nat.{ℕ, ◌-◌, ◌*◌, ◌%◌, ◌^◌, ◌≤◌, ◌<◌}
 use native.Mathlib.Nat.{mod-lt, div-add-mod', mul-le-mul_right, suc-mul, zero-lt-suc}
 use native.Mathlib.Decide.{dec_lt}
@@ -51,14 +51,14 @@ told_right len n list e h = (list_passes len (take (2 * n) list)).1 (record { ev
     two = omega (arith, size, div-add-mod' (length (take (2 * n) list)) 2, mod-lt (length (take (2 * n) list)) (zero-lt-suc 1))
 
 -- the place right behind is the first that is asked
-found_next : (P : ℕ → Type 0) (len i : ℕ) → 1 ≤ i → i < len → P i → (a : Option ℕ) → Nearest false P len (i - 1) a → a ≡ some i
+found_next : (P : ℕ → Type 0) (len i : ℕ) → 1 ≤ i → i < len → P i → (a : Option ℕ) → Nearest false P len (i - 1) a → a ≡ Some i
 unfolding Nearest
-found_next P len i l m p none h = absurd (h i (omega (arith, l), m) p)
-found_next P len i l m p (some j) h = go (dec_lt i j)
+found_next P len i l m p None h = absurd (h i (omega (arith, l), m) p)
+found_next P len i l m p (Some j) h = go (dec_lt i j)
   where
-    go : Dec (i < j) → some j ≡ some i
+    go : Dec (i < j) → Some j ≡ Some i
     go (yes x) = absurd (h.2 i (omega (arith, l), m) x p)
-    go (no x) = ap (λ (k : ℕ). some k) (omega (arith, x, h.0.0, l))
+    go (no x) = ap (λ (k : ℕ). Some k) (omega (arith, x, h.0.0, l))
 
 module _ {C : Type 0} (record_of : C → Capture) (Looks : ℕ → C → Memory → C → Memory → Type 0) (Ask : Sureness → Bool → C → Memory → List ℕ → ℕ → ℕ → Answer (Option ℕ) → Type 0)
     (promised : Searches record_of Looks Ask)
@@ -142,11 +142,11 @@ module _ {C : Type 0} (record_of : C → Capture) (Looks : ℕ → C → Memory 
       small = λ i l e. subst⁻¹ (λ (u : ℕ). at (run_in st m₀) i < 256 ^ u) unit_is (bytes_words st m₀ stored i (omega (arith, l, length_is, run_length st m₀)));
     }
 
-    certains : (back : Bool) (mask from i : ℕ) → Ask certain back c m' stretches mask from (given (some i)) → changed (at (run_in st m₀)) mask i ≡ true
+    certains : (back : Bool) (mask from i : ℕ) → Ask certain back c m' stretches mask from (given (Some i)) → changed (at (run_in st m₀)) mask i ≡ true
     unfolding Nearest
-    certains back mask from i a = (answers.meant certain back stretches mask from (some i) a).1 (at (run_in st m₀)) filling
+    certains back mask from i a = (answers.meant certain back stretches mask from (Some i) a).1 (at (run_in st m₀)) filling
 
-    possibles : (mask i : ℕ) → 1 ≤ i → i < st.len → changed (at (run_in st m₀)) mask i ≡ true → (answer : Answer (Option ℕ)) → Ask possible false c m' stretches mask (i - 1) answer → answer ≡ given (some i)
+    possibles : (mask i : ℕ) → 1 ≤ i → i < st.len → changed (at (run_in st m₀)) mask i ≡ true → (answer : Answer (Option ℕ)) → Ask possible false c m' stretches mask (i - 1) answer → answer ≡ given (Some i)
     possibles mask i l k h answer a =
         let g = accepted possible false mask (i - 1) answer a in
         g.1 ∙ ap given (found_next (Change possible (record_of c).unitsize (length run) (covers (pairs_in stretches)) (at run) mask) (length run) i l (omega (arith, k, length_is)) (at (run_in st m₀), filling, h) g.0

@@ -1,6 +1,6 @@
 -- Searches across unknown stretches, over the calls' own contracts: `Post` of a call's generated `Reads` is what its `ensures` says. 02: CR 9. `Searches` says what is promised.
 use Rattle.std.specs.Prelude.{◌≡◌, Bool, true, false, List, ℕ}
-use Rattle.std.proofs.Math.Option.{Option, none}
+use Rattle.std.specs.Prelude.{Option, None}
 use contract.Lifetimes.{Lfts}
 use Rattle.rules.specs.Answer.{Answer}
 use Rattle.rules.specs.Unknown.{Sureness, certain, possible}
@@ -40,7 +40,7 @@ SalvagedAcross = SalvagedSearched (λ (c : Capture). c) captures.LookAlike Locat
 -- captures that a list of pushes or of appends made
 pub data Stored : List ℕ → Option ℕ → Capture → Memory → Type 0 where
   recorded : (r : Recording) → Stored (run r) (mark r) (store r) r.memory.store
-  appended : (a : Filling) → Stored (stored a) none a.capture a.memory
+  appended : (a : Filling) → Stored (stored a) None a.capture a.memory
 
 abbrev pub AllAlike : Type 0
 AllAlike = MadeAlike (λ (c : Capture). c) captures.LookAlike Locates Stored Reads Salvage

@@ -3,7 +3,7 @@
 -- `Ask sure back c m list mask from answer`: the next, or back the previous, certain or possible change of a capture with a list of stretches, with this answer, a place,
 -- none or a refusal. No range is asked of list, mask and place, beyond what a statement names.
 use Rattle.std.specs.Prelude.{◌≡◌, Bool, true, false, not, ◌&&◌, ◌||◌, List, [], ◌∷◌, ◌↔◌, ℕ, ◌-◌, ◌*◌, ◌≤◌, ◌<◌, ltb, eqb, length, take}
-use Rattle.std.proofs.Math.Option.{Option, some}
+use Rattle.std.specs.Prelude.{Option, Some}
 use Rattle.rules.specs.Sample.{Word, Within}
 use Rattle.rules.specs.SampleBytes.{Bytes}
 use Rattle.rules.specs.Answer.{Answer, given, unless}
@@ -73,11 +73,11 @@ module _ {C : Type 0} (record_of : C → Capture) (Looks : ℕ → C → Memory 
     pub accepted : (sure : Sureness) (back : Bool) (mask from : ℕ) (answer : Answer (Option ℕ)) → Ask sure back c m list mask from answer → (found : Option ℕ) × (answer ≡ given found)
     -- a certain change is a change of every capture whose file has the good blocks of this one,
     pub certains : (st : Store) (m₀ : Memory) (output : List ℕ) (n : ℕ) (output' : List ℕ) → StoredBytes st m₀ → Write st m₀ output (given n) output' → AgreeOutside (bad_in file) file (take n output')
-        → (back : Bool) (mask from i : ℕ) → Ask certain back c m list mask from (given (some i)) → changed (at (run_in st m₀)) mask i ≡ true
+        → (back : Bool) (mask from i : ℕ) → Ask certain back c m list mask from (given (Some i)) → changed (at (run_in st m₀)) mask i ≡ true
     -- and each change of such a capture is a possible one: asked from the place before, it is found
     pub possibles : (st : Store) (m₀ : Memory) (output : List ℕ) (n : ℕ) (output' : List ℕ) → StoredBytes st m₀ → Write st m₀ output (given n) output' → AgreeOutside (bad_in file) file (take n output')
         → (mask i : ℕ) → 1 ≤ i → i < st.len → changed (at (run_in st m₀)) mask i ≡ true
-        → (answer : Answer (Option ℕ)) → Ask possible false c m list mask (i - 1) answer → answer ≡ given (some i)
+        → (answer : Answer (Option ℕ)) → Ask possible false c m list mask (i - 1) answer → answer ≡ given (Some i)
 
   -- `Write` and `Salvage` are as in claim_salvage's `Salvages`
   abbrev pub SalvagedSearched : (Store → Memory → List ℕ → Answer ℕ → List ℕ → Type 0) → (ℕ → List ℕ → Memory → List ℕ → Answer Salvaged → Memory → List ℕ → Type 0) → Type 0

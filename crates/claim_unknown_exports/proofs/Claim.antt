@@ -2,7 +2,7 @@
 use mathlib.Core.Path.{◌≡◌, refl, sym, ap, ap₂, ◌∙◌, subst}
 use mathlib.Core.Bool.{Bool, true, false, cond}
 use mathlib.Core.List.{List, []}
-use mathlib.Core.Option.{Option, none, some}
+use Rattle.std.specs.Prelude.{Option, None, Some}
 use Prim.Native.Nat.{ℕ, zero, suc, ◌≤◌}
 use native.Mathlib.Nat.{suc-ne-zero}
 use native.Mathlib.Omega.{arith}
@@ -46,14 +46,14 @@ small st lent list = go (store_wrong st) (lent_short st lent) (list_wrong st.len
 
 -- the code and what stands behind the pointer, read, are the answer
 read_back : (n : ℕ) → n ≤ 18 → (a : Option ℕ) {code old new : ℕ} → Out number (perhaps (unless n a)) code old new → perhaps_in code new ≡ unless n a
-read_back zero h none o = ap₂ perhaps_in o.code_is o.value_is
-read_back zero h (some i) o = ap₂ perhaps_in o.code_is o.value_is
+read_back zero h None o = ap₂ perhaps_in o.code_is o.value_is
+read_back zero h (Some i) o = ap₂ perhaps_in o.code_is o.value_is
 read_back (suc n) h a {code} {old} {new} o =
     ap (λ (k : ℕ). perhaps_in k new) o.code_is ∙ refusal_back (suc n) new (omega (arith, h)) (suc-ne-zero n)
 
 kept : (n : ℕ) (a : Option ℕ) {code old new : ℕ} → Out number (perhaps (unless n a)) code old new → (code ≡ 0 → ⊥) → new ≡ old
-kept zero none o h = o.value_is
-kept zero (some i) o h = absurd (h o.code_is)
+kept zero None o h = o.value_is
+kept zero (Some i) o h = absurd (h o.code_is)
 kept (suc n) a o h = o.value_is
 
 -- what the contracts say, whichever the export
@@ -85,8 +85,8 @@ told sure back numbers m list mask from answer (place, code, place', may, e) =
 -- ---- there is always an answer
 reply_for_lem : (a : Answer (Option ℕ)) (old : ℕ) → (code new : ℕ) × Out number (perhaps a) code old new
 reply_for_lem (refused n) old = (n, old, record { code_is = refl; value_is = refl })
-reply_for_lem (given none) old = (none_code, old, record { code_is = refl; value_is = refl })
-reply_for_lem (given (some i)) old = (0, i, record { code_is = refl; value_is = refl })
+reply_for_lem (given None) old = (none_code, old, record { code_is = refl; value_is = refl })
+reply_for_lem (given (Some i)) old = (0, i, record { code_is = refl; value_is = refl })
 
 may : (sure : Sureness) (back : Bool) (numbers : List ℕ) (m : Memory) (list : List ℕ) (mask from : ℕ) → (answer : Answer (Option ℕ)) × Locates sure back numbers m list mask from answer
 may sure back numbers m list mask from =

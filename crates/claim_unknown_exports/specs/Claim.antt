@@ -1,7 +1,7 @@
 -- Searches across unknown stretches over the exports, to be held beside include/logic_core.h: `Searches` (claim_unknown) says what is promised. 02: CR 9.
 -- A capture is its record's five numbers and its memory. No range is asked of list, mask and place, nor of what stands behind the out pointer.
 use Rattle.std.specs.Prelude.{◌≡◌, Bool, true, false, List, ℕ}
-use Rattle.std.proofs.Math.Option.{Option, none}
+use Rattle.std.specs.Prelude.{Option, None}
 use contract.Lifetimes.{Lfts}
 use denote.Ref.{at_last}
 use Rattle.rules.specs.Answer.{Answer}
@@ -49,7 +49,7 @@ SalvagedAcross = SalvagedSearched capture_in LookAlike Locates Writes Salvage
 -- captures that a list of pushes or of appends made through the exports
 pub data Stored : List ℕ → Option ℕ → List ℕ → Memory → Type 0 where
   recorded : (r : Recording) → Stored (run r) (mark r) (asked r) r.memory.store
-  appended : (a : Filling) → Stored (stored a) none a.numbers a.memory
+  appended : (a : Filling) → Stored (stored a) None a.numbers a.memory
 
 abbrev pub AllAlike : Type 0
 AllAlike = MadeAlike capture_in LookAlike Locates Stored Reads Salvage

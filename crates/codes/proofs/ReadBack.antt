@@ -2,7 +2,7 @@
 use mathlib.Core.Path.{◌≡◌, refl, ap, subst⁻¹}
 use mathlib.Core.Bool.{Bool, cond}
 use mathlib.Core.List.{List, [], ◌∷◌}
-use mathlib.Core.Option.{Option, none, some}
+use Rattle.std.specs.Prelude.{Option, None, Some}
 use Prim.Native.Nat.{ℕ, zero, suc, ◌<◌}
 use native.Mathlib.Omega.{arith}
 use borrow.Author.Tests.{ne_eqb}
@@ -22,8 +22,8 @@ use Rattle.codes.specs.Record.{capture_in, mark_numbers, store_numbers, len_numb
 
 -- the mark, and whether there is one; where there is none, its number means nothing
 mark_back : (unit capacity len a b : ℕ) (m : Option ℕ) → store_of (capture_in (sets (unit ∷ capacity ∷ len ∷ a ∷ b ∷ []) marked_at (mark_numbers m))) ≡ record { unit = unit; capacity = capacity; len = len; mark = m }
-mark_back unit capacity len a b none = refl
-mark_back unit capacity len a b (some k) = refl
+mark_back unit capacity len a b None = refl
+mark_back unit capacity len a b (Some k) = refl
 
 module _ (old : List ℕ) (size : length old ≡ 5) where
   pub store_back : (st : Store) → store_of (capture_in (store_numbers st old)) ≡ st
@@ -41,13 +41,13 @@ unfolding list_from
 turns_back t place old size = subst⁻¹ (λ (l : List ℕ). turns_in (position_number t place) (step_numbers t l) ≡ t) (list_whole 3 old size) refl
 
 -- ---- an answer that may be none: what is found, with what stands behind the pointers, and none, whatever stands there
-pub found_back : {A : Type 0} (a : A) → perhaps_in (perhaps (given (some a))).code a ≡ given (some a)
+pub found_back : {A : Type 0} (a : A) → perhaps_in (perhaps (given (Some a))).code a ≡ given (Some a)
 found_back a = refl
 
-pub none_back : {A : Type 0} (old : A) → perhaps_in (perhaps {A = A} (given none)).code old ≡ given none
+pub none_back : {A : Type 0} (old : A) → perhaps_in (perhaps {A = A} (given None)).code old ≡ given None
 none_back old = refl
 
 -- a refusal's number is neither 0 nor that of none
 pub refusal_back : {A : Type 0} (n : ℕ) (a : A) → n < none_code → (n ≡ 0 → ⊥) → perhaps_in n a ≡ refused n
 refusal_back zero a few some-row = absurd (some-row refl)
-refusal_back (suc n) a few some-row = ap (λ (b : Bool). cond b (given none) (refused (suc n))) (ne_eqb (suc n) none_code (λ e. omega (arith, few, e)))
+refusal_back (suc n) a few some-row = ap (λ (b : Bool). cond b (given None) (refused (suc n))) (ne_eqb (suc n) none_code (λ e. omega (arith, few, e)))

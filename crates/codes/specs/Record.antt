@@ -1,6 +1,6 @@
 -- A capture's record from its numbers (capture.specs.Numbers) and to them, and how other answers are written as numbers.
 use Rattle.std.specs.Prelude.{Bool, cond, List, [], ◌∷◌, ℕ, eqb}
-use Rattle.std.proofs.Math.Option.{Option, none, some}
+use Rattle.std.specs.Prelude.{Option, None, Some}
 use Rattle.std.proofs.lemmas.List.Edits.{sets}
 use Rattle.rules.specs.Node.{Node, Lines, lines_of}
 use Rattle.rules.specs.Burst.{Burst}
@@ -15,8 +15,8 @@ abbrev pub capture_in : List ℕ → Capture
 capture_in r = record { unitsize = unit_in r; capacity = capacity_in r; len = len_in r; trigger = cond (eqb (marked_in r) 0) Absent (At (mark_place_in r)) }
 
 abbrev pub mark_numbers : Option ℕ → List ℕ
-mark_numbers none = 0 ∷ 0 ∷ []
-mark_numbers (some k) = 1 ∷ k ∷ []
+mark_numbers None = 0 ∷ 0 ∷ []
+mark_numbers (Some k) = 1 ∷ k ∷ []
 
 abbrev pub store_numbers : Store → List ℕ → List ℕ
 store_numbers st old = sets old unit_at (st.unit ∷ st.capacity ∷ st.len ∷ mark_numbers st.mark)

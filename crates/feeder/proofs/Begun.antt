@@ -2,7 +2,7 @@
 use mathlib.Core.Path.{◌≡◌, refl, sym, ap, ◌∙◌, subst}
 use mathlib.Core.Bool.{Bool, true, false, cond}
 use mathlib.Core.List.{List, [], ◌∷◌}
-use mathlib.Core.Option.{none}
+use Rattle.std.specs.Prelude.{None}
 use Prim.Native.Nat.{ℕ, zero, suc, ◌*◌, ◌≤◌, ◌<◌, ◌^◌}
 use native.Mathlib.Nat.{mul-le-mul}
 use native.Mathlib.Omega.{arith}
@@ -58,7 +58,7 @@ module _ (st : Store) (lent : Lent) (limit : ℕ) (wrong : Bool) (wish : rule.Pr
 -- ---- the call; u is the unit, as the code works it out
 module _ (channels capacity limit : ℕ) (terms : Terms) (wish : Pretrigger) (rate : ℕ) (lent : Lent) (ring u : ℕ) (unit : u ≡ unit_of channels) where
   abbrev store : Store
-  store = record { unit = u; capacity = capacity; len = 0; mark = none }
+  store = record { unit = u; capacity = capacity; len = 0; mark = None }
 
   abbrev rows : List Row
   rows = settings_rows store lent limit terms.wrong (wish_of wish) rate []
@@ -67,7 +67,7 @@ module _ (channels capacity limit : ℕ) (terms : Terms) (wish : Pretrigger) (ra
   unfolding start_of
   start_is k e =
       ap (λ (x : rule.Pre). answer_of store lent limit terms (wish_of wish) rate x ring) e
-      ∙ ap (λ (x : ℕ). answer_of (record { unit = x; capacity = capacity; len = 0; mark = none }) lent limit terms (wish_of wish) rate (rule.pre_for (wish_of wish) limit rate x) ring) unit
+      ∙ ap (λ (x : ℕ). answer_of (record { unit = x; capacity = capacity; len = 0; mark = None }) lent limit terms (wish_of wish) rate (rule.pre_for (wish_of wish) limit rate x) ring) unit
 
   numbered : Numbered rows
   numbered = (omega arith, (omega arith, (omega arith, (omega arith, (omega arith, (omega arith, tt))))))

@@ -1,7 +1,7 @@
 -- The masks that a start arms a recorder with, and the previous sample that a push keeps, have 16 lines.
 use mathlib.Core.Path.{◌≡◌, refl, subst}
 use mathlib.Core.List.{List, [], ◌∷◌, Memᴰ}
-use mathlib.Core.Option.{Option, some}
+use Rattle.std.specs.Prelude.{Option, Some}
 use Prim.Native.Nat.{ℕ, zero, suc, ◌+◌, ◌^◌, ◌≤◌, ◌<◌}
 use native.Mathlib.Nat.{pow-le-pow_right}
 use native.Mathlib.Omega.{arith}
@@ -46,15 +46,15 @@ armed_narrow (t ∷ ts) e m q =
 
 -- ---- samples
 abbrev pub NarrowSample : Option ℕ → Type 0
-NarrowSample q = (v : ℕ) → q ≡ some v → v < 65536
+NarrowSample q = (v : ℕ) → q ≡ Some v → v < 65536
 
-pub some_narrow : (x : ℕ) → x < 65536 → NarrowSample (some x)
+pub some_narrow : (x : ℕ) → x < 65536 → NarrowSample (Some x)
 some_narrow x h v e = subst (λ (y : ℕ). y < 65536) (let s : x ≡ v = cc in s) h
 
 pub last_narrow : (s : ℕ → ℕ) → ((i : ℕ) → s i < 65536) → (n p : ℕ) (q : Option ℕ) → NarrowSample q → NarrowSample (last_of q (list_from s p n))
 unfolding last_of list_from
 last_narrow s h zero p q r = r
-last_narrow s h (suc n) p q r = last_narrow s h n (p + 1) (some (s p)) (some_narrow (s p) (h p))
+last_narrow s h (suc n) p q r = last_narrow s h n (p + 1) (Some (s p)) (some_narrow (s p) (h p))
 
 -- of bytes in a unit of at most two
 pub sample_narrow : (unit : ℕ) (b : List ℕ) → unit ≤ 2 → Bytes b → (i : ℕ) → sample_of unit b i < 65536

@@ -1,7 +1,8 @@
 -- Lists of pushes over a record and its memory: from what start gives, with memory that holds anything, they leave 01's run, mark and answers, and never meet rows 1 and 2.
 use mathlib.Core.Path.{◌≡◌, refl, sym, ap, ap₂, ◌∙◌, subst⁻¹}
 use mathlib.Core.List.{List, [], ◌∷◌}
-use mathlib.Core.Option.{none, none-ne-some}
+use Rattle.std.specs.Prelude.{None}
+use Rattle.rules.proofs.Options.{none-ne-some}
 use Prim.Native.Nat.{ℕ, ◌*◌, ◌≤◌, ◌<◌}
 use native.Mathlib.Omega.{arith}
 use lib.ListN.{length}
@@ -75,7 +76,7 @@ module _ (r : Rule) (s g : List ℕ) (hs : r.capacity * r.unit ≤ length s) (hg
   last pushes = pushes_bytes (started_with r s g) pushes
 
   from_fresh : stands_in (started_with r s g) ≡ fresh r memory
-  from_fresh = ap (λ (y : List ℕ). record { armed = r.armed; previous = none; ring = memory; place = 0; kept = 0; stored = y; mark = none }) (units_none r.unit s)
+  from_fresh = ap (λ (y : List ℕ). record { armed = r.armed; previous = None; ring = memory; place = 0; kept = 0; stored = y; mark = None }) (units_none r.unit s)
 
   carry : (pushes : List (List ℕ)) → stands_in (last pushes) ≡ steps r (fresh r memory) pushes
   carry pushes = pushes_carried r (length s) (length g) pushes (started_with r s g) start_goes ∙ ap (λ (x : State). steps r x pushes) from_fresh

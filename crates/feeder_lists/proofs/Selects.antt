@@ -3,7 +3,7 @@ use mathlib.Core.Path.{◌≡◌, refl, sym, ap, ap₂, ◌∙◌, subst⁻¹}
 use mathlib.Core.Bool.{Bool, true, false, cond}
 use mathlib.Core.List.{List, [], ◌∷◌, ◌++◌, append_assoc, append-nil}
 use mathlib.Core.Logic.{◌⊎◌, inl, inr}
-use mathlib.Core.Option.{Option, none, some}
+use Rattle.std.specs.Prelude.{Option, None, Some}
 use Prim.Native.Nat.{ℕ, ◌+◌, ◌-◌, ◌%◌, ◌≤◌, ◌<◌, min}
 use native.Mathlib.Nat.{zero-add}
 use native.Mathlib.Decide.{dec_lt}
@@ -95,12 +95,12 @@ module _ (r : Rule) (back s : State) (ys zs : List ℕ) (is : s.armed ≡ unarme
 pub record Waits (r : Rule) (g xs : List ℕ) (s : State) : Type 0 where
   pub quiet : Quiet r xs
   pub armed : s.armed ≡ r.armed
-  pub previous : s.previous ≡ last_of none xs
+  pub previous : s.previous ≡ last_of None xs
   pub ring : s.ring ≡ ring_after r.pre g 0 xs
   pub place : s.place ≡ place_after r.pre 0 (length xs)
   pub kept : s.kept ≡ min r.pre (length xs)
   pub stored : s.stored ≡ []
-  pub mark : s.mark ≡ none
+  pub mark : s.mark ≡ None
 
 -- what a state has beside its store
 abbrev pub beside_state : State → Beside
@@ -177,8 +177,8 @@ module _ (r : Rule) (g xs : List ℕ) (room : r.pre ≤ length g) (s : State) (w
   i = first_fire m s.previous p
 
   -- the first firing place of all
-  place_is : first_fire m none (xs ++ p) ≡ length xs + i
-  place_is = fire_later m none xs p w.quiet.none_fires ∙ ap (λ (q : Option ℕ). length xs + first_fire m q p) (sym w.previous)
+  place_is : first_fire m None (xs ++ p) ≡ length xs + i
+  place_is = fire_later m None xs p w.quiet.none_fires ∙ ap (λ (q : Option ℕ). length xs + first_fire m q p) (sym w.previous)
 
   -- none fires
   module _ (nowhere : length p ≤ i) where
@@ -189,7 +189,7 @@ module _ (r : Rule) (g xs : List ℕ) (room : r.pre ≤ length g) (s : State) (w
     wait_after = record {
       quiet = still_quiet;
       armed = w.armed;
-      previous = ap (λ (q : Option ℕ). last_of q p) w.previous ∙ sym (last_append none xs p);
+      previous = ap (λ (q : Option ℕ). last_of q p) w.previous ∙ sym (last_append None xs p);
       ring = ap₂ (λ (x : List ℕ) (y : ℕ). ring_after r.pre x y p) w.ring w.place ∙ sym (ring_append r.pre xs p g 0);
       place = ap (λ (x : ℕ). place_after r.pre x (length p)) w.place ∙ sym (place_append r.pre (length xs) (length p) 0) ∙ ap (place_after r.pre 0) (sym (length-append xs p));
       kept = simp length-append (omega (arith, w.kept));
@@ -237,9 +237,9 @@ module _ (r : Rule) (g xs : List ℕ) (room : r.pre ≤ length g) (s : State) (w
         ∙ ap (limited r.limit) head_is
         ∙ ap (λ (c : Selected). limited r.limit c.run) (sym chosen_now)
 
-    fired_mark : some (min r.pre (s.kept + i)) ≡ (selection r all).mark
+    fired_mark : Some (min r.pre (s.kept + i)) ≡ (selection r all).mark
     unfolding selection
-    fired_mark = ap {B = Option ℕ} some mark_is ∙ ap (λ (c : Selected). c.mark) (sym chosen_now)
+    fired_mark = ap {B = Option ℕ} Some mark_is ∙ ap (λ (c : Selected). c.mark) (sym chosen_now)
       where
         mark_is : min r.pre (s.kept + i) ≡ min at r.pre
         mark_is = omega (arith, w.kept)
@@ -282,7 +282,7 @@ module _ (r : Rule) (g : List ℕ) (room : r.pre ≤ length g) where
       ap₂ (λ (a : Reply) (more : List Reply). a ∷ more) (one_push r g xs room s h (samples_of r.unit push)).reply
       (all_replies pushes _ _ (one_push r g xs room s h (samples_of r.unit push)).holds)
 
-last_none : ◌≡◌ {A = Option ℕ} none (last_of none [])
+last_none : ◌≡◌ {A = Option ℕ} None (last_of None [])
 unfolding last_of
 last_none = refl
 
@@ -294,7 +294,7 @@ place_none : (pre : ℕ) → 0 ≡ place_after pre 0 0
 unfolding place_after
 place_none pre = refl
 
-mark_first : (r : Rule) → Steady r [] → none ≡ (selection r []).mark
+mark_first : (r : Rule) → Steady r [] → None ≡ (selection r []).mark
 unfolding selection chosen
 mark_first r (without_terms e) = rw e
 mark_first r (has_fired m e h) = absurd (omega arith)
@@ -310,7 +310,7 @@ fresh_holds r g = go (steady_or_quiet r [])
         is (has_fired m e h) = absurd (omega arith)
 
         none_beside : beside_state (fresh r g) ≡ beside_of r []
-        none_beside = ap (λ (a : Armed). record { armed = a; previous = none; place = 0; kept = 0 }) (is s) ∙ sym (ap (λ (a : Armed). beside_for a r.pre []) (is s))
+        none_beside = ap (λ (a : Armed). record { armed = a; previous = None; place = 0; kept = 0 }) (is s) ∙ sym (ap (λ (a : Armed). beside_for a r.pre []) (is s))
     go (inr q) = waits (record { quiet = q; armed = refl; previous = last_none; ring = ring_none r.pre g; place = place_none r.pre; kept = omega arith; stored = refl; mark = refl })
 
 -- ---- what the invariant says of the store

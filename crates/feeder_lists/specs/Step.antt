@@ -1,6 +1,6 @@
 -- One push as the recorder does it, over samples: what it answers and what it leaves in the record, the ring and the store. 01: Selection and recorder.
 use Rattle.std.specs.Prelude.{cond, List, [], ◌∷◌, ◌++◌, ℕ, ◌+◌, min, ltb, leb, length, take, drop, get_or}
-use Rattle.std.proofs.Math.Option.{Option, none, some}
+use Rattle.std.specs.Prelude.{Option, None, Some}
 use Rattle.rules.specs.Ring.{place_after}
 use Rattle.rules.specs.Push.{room_for}
 use Rattle.rules.specs.Sample.{samples_of}
@@ -43,7 +43,7 @@ storing r back s xs =
 -- ---- an armed recorder
 -- "Firing keeps the firing sample as the previous one and sets kept count and ring place to 0"; i is its place in the push
 abbrev pub fired : Rule → State → List ℕ → ℕ → State
-fired r s p i = record { armed = unarmed; previous = some (get_or p i 0); ring = s.ring; place = 0; kept = 0; stored = s.stored; mark = some (min r.pre (s.kept + i)) }
+fired r s p i = record { armed = unarmed; previous = Some (get_or p i 0); ring = s.ring; place = 0; kept = 0; stored = s.stored; mark = Some (min r.pre (s.kept + i)) }
 
 -- the samples before the firing one
 abbrev pub head_of : Rule → State → List ℕ → ℕ → List ℕ
@@ -86,4 +86,4 @@ replies r s (push ∷ pushes) = (pushed r s push).reply ∷ replies r (pushed r 
 
 -- what start gives, with a ring that holds anything
 abbrev pub fresh : Rule → List ℕ → State
-fresh r g = record { armed = r.armed; previous = none; ring = g; place = 0; kept = 0; stored = []; mark = none }
+fresh r g = record { armed = r.armed; previous = None; ring = g; place = 0; kept = 0; stored = []; mark = None }

@@ -4,7 +4,7 @@ use mathlib.Core.Path.{◌≡◌, refl, sym, ap, ◌∙◌, subst, subst⁻¹}
 use mathlib.Core.Bool.{Bool, true, false, cond}
 use mathlib.Core.List.{List}
 use mathlib.Core.Logic.{◌⊎◌, inl, inr}
-use mathlib.Core.Option.{Option, none, some}
+use Rattle.std.specs.Prelude.{Option, None, Some}
 use Prim.Native.Nat.{ℕ, ◌<◌}
 use native.Mathlib.Nat.{mod-eq_of_lt}
 use lib.Dec.{eqb}
@@ -30,19 +30,19 @@ pub record NarrowMasks (m : Masks) : Type 0 where
 
 pub record Narrow (r : Recorder) : Type 0 where
   pub masks : (m : Masks) → r.armed ≡ waiting m → NarrowMasks m
-  pub previous : (v : ℕ) → r.previous ≡ some v → v < 65536
+  pub previous : (v : ℕ) → r.previous ≡ Some v → v < 65536
 
 -- ---- each part
 mask_back : (v : ℕ) → v < 65536 → mask_in v ≡ v
 mask_back v h = mod-eq_of_lt h
 
 mark_back : (m : Option ℕ) → mark_of (mark_in (mark_flag m) (mark_place m)) ≡ m
-mark_back none = refl
-mark_back (some k) = refl
+mark_back None = refl
+mark_back (Some k) = refl
 
-previous_back : (p : Option ℕ) → ((v : ℕ) → p ≡ some v → v < 65536) → previous_of (previous_in (mark_flag p) (mark_place p)) ≡ p
-previous_back none h = refl
-previous_back (some v) h = ap some (mask_back v (h v refl))
+previous_back : (p : Option ℕ) → ((v : ℕ) → p ≡ Some v → v < 65536) → previous_of (previous_in (mark_flag p) (mark_place p)) ≡ p
+previous_back None h = refl
+previous_back (Some v) h = ap Some (mask_back v (h v refl))
 
 -- the masks of a recorder that waits; of one that does not, those numbers mean nothing
 armed_back : (a : Armed) → ((m : Masks) → a ≡ waiting m → NarrowMasks m)
@@ -68,7 +68,7 @@ pub record Follows (c r : Recorder) : Type 0 where
   pub limit : r.limit ≡ c.limit
   pub pre : r.pre ≡ c.pre
   pub armed : (r.armed ≡ unarmed) ⊎ (r.armed ≡ c.armed)
-  pub previous : (v : ℕ) → r.previous ≡ some v → v < 65536
+  pub previous : (v : ℕ) → r.previous ≡ Some v → v < 65536
 
 -- ---- the record
 module _ (r : Recorder) (old : List ℕ) (size : length old ≡ 17) where

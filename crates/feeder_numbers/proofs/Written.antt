@@ -6,7 +6,7 @@ use lib.Seq.{sets}
 use Rattle.rules.specs.Refusal.{mark_flag, mark_place}
 use Rattle.rules.specs.Trigger as rule
 use Rattle.capture.specs.declared.Mark.{Mark}
-use Rattle.capture.specs.Record.{mark_of, mark_in}
+use Rattle.capture.specs.Record.{mark_in}
 use Rattle.capture.specs.Numbers.{unit_at, len_at, unit_in, capacity_in, len_in, marked_in, mark_place_in}
 use Rattle.terms.specs.declared.Masks.{Masks}
 use Rattle.terms.specs.declared.Previous.{Previous}
@@ -34,8 +34,8 @@ read r e f g h i = record {
 }
 
 pub written : (f : Feeder) (old : List ℕ) {marked mark waits known sample : ℕ}
-    → marked ≡ mark_flag (mark_of f.capture.trigger)
-    → mark ≡ mark_place (mark_of f.capture.trigger)
+    → marked ≡ mark_flag (f.capture.trigger)
+    → mark ≡ mark_place (f.capture.trigger)
     → waits ≡ waits_number (armed_as f.masks)
     → known ≡ mark_flag (previous_of f.prev)
     → sample ≡ mark_place (previous_of f.prev)

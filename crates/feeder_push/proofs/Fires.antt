@@ -1,6 +1,6 @@
 -- Laws of an armed recorder: the room that it has, what a push that fires takes, and what one that does not leaves.
 use mathlib.Core.Path.{◌≡◌, refl, sym, ap, ◌∙◌, subst, subst₂}
-use mathlib.Core.Option.{Option, some}
+use Rattle.std.specs.Prelude.{Option, Some}
 use mathlib.Core.List.{List, ◌++◌}
 use Prim.Native.Nat.{ℕ, ◌+◌, ◌-◌, ◌*◌, ◌≤◌, ◌<◌, min}
 use native.Mathlib.Nat.{mul-le-mul_right}
@@ -60,8 +60,8 @@ wanted_is kept pre i = ap (min kept) (omega arith)
 passed_is : (pre i : ℕ) → i - min i pre ≡ i - pre
 passed_is pre i = omega arith
 
-pub fired_is : (c : Recorder) (v i m : ℕ) → m ≡ min c.pre (c.kept + i) → like c (some m) unarmed (some v) 0 0 ≡ fired_by c v i
-fired_is c v i m e = ap (λ (x : ℕ). like c (some x) unarmed (some v) 0 0) e
+pub fired_is : (c : Recorder) (v i m : ℕ) → m ≡ min c.pre (c.kept + i) → like c (Some m) unarmed (Some v) 0 0 ≡ fired_by c v i
+fired_is c v i m e = ap (λ (x : ℕ). like c (Some x) unarmed (Some v) 0 0) e
 
 -- ---- a push that fires at i; k is the recorder then, and v the sample
 module _ (c : Recorder) (s : List ℕ) (lv : ℕ → List ℕ) (g b : List ℕ) (n : ℕ) (h : PushRoom c s lv (length g) (length b) n) (i : ℕ) (inside : i < n) (j w : ℕ) (ej : j ≡ min i c.pre) (ew : w ≡ min c.kept (c.pre - j)) where

@@ -1,7 +1,7 @@
 -- What is left once samples went to the store, or had no room there.
 use mathlib.Core.Path.{◌≡◌, refl, sym, ap, ◌∙◌, subst, subst⁻¹}
 use mathlib.Core.Bool.{Bool, true, false, cond}
-use mathlib.Core.Option.{none, some}
+use Rattle.std.specs.Prelude.{None, Some}
 use mathlib.Core.List.{List, ◌++◌, append_assoc}
 use Prim.Native.Nat.{ℕ, ◌+◌, ◌-◌, ◌*◌, ◌≤◌}
 use native.Mathlib.Nat.{sub_self}
@@ -30,11 +30,11 @@ use Rattle.feeder_push.specs.Push.{reply_as, feeder_in}
 use Rattle.feeder_push.specs.Inner.{Answers, Stores}
 
 -- ---- which case it was
-not_some : (b : Bool) (m : ℕ) → none ≡ cond b (some m) none → b ≡ false
+not_some : (b : Bool) (m : ℕ) → None ≡ cond b (Some m) None → b ≡ false
 not_some true m e = absurd (let z : ◌≡◌ {A = ℕ} 0 1 = cc in omega arith)
 not_some false m e = refl
 
-is_some : (b : Bool) (m k : ℕ) → some k ≡ cond b (some m) none → (b ≡ true) × (m ≡ k)
+is_some : (b : Bool) (m k : ℕ) → Some k ≡ cond b (Some m) None → (b ≡ true) × (m ≡ k)
 is_some true m k e = (refl, cc)
 is_some false m k e = absurd (let z : ◌≡◌ {A = ℕ} 0 1 = cc in omega arith)
 

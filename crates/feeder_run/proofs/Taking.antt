@@ -1,7 +1,7 @@
 -- What went to the store, in each case.
 use mathlib.Core.Path.{◌≡◌, refl, sym, ap, ◌∙◌, subst}
 use mathlib.Core.Bool.{Bool, false, cond}
-use mathlib.Core.Option.{none, some}
+use Rattle.std.specs.Prelude.{None, Some}
 use mathlib.Core.List.{List, ◌++◌}
 use Prim.Native.Nat.{ℕ, ◌+◌, ◌-◌, ◌*◌, ◌≤◌, ◌<◌}
 use native.Mathlib.Nat.{le_refl, zero-mul}
@@ -23,7 +23,7 @@ use Rattle.feeder_run.proofs.Cuts.{room_cuts, run_count, run_room, first_bytes, 
 -- no room
 pub takes_none : (u capacity len limit n : ℕ) (x s : List ℕ) (lv : ℕ → List ℕ) → capacity < len + room_for limit len n → Takes u capacity len limit n x s lv Full s lv
 takes_none u capacity len limit n x s lv h = record {
-  taken_is = sym (ap (λ (t : Bool). cond t (some (room_for limit len n)) none) (lt-leb (len + room_for limit len n) capacity h));
+  taken_is = sym (ap (λ (t : Bool). cond t (Some (room_for limit len n)) None) (lt-leb (len + room_for limit len n) capacity h));
   memory = stored_none u len 0 x s lv refl;
   enough = omega (arith, zero-mul u);
 }
@@ -56,7 +56,7 @@ module _ (u capacity len limit pre place : ℕ) (s : List ℕ) (lv : ℕ → Lis
 
   pub takes_some : (s' : List ℕ) (lv' : ℕ → List ℕ) → Stored u len r.count (bytes_of u g b d r) s lv s' lv' → Takes u capacity len limit (w + (n - d)) x s lv (Count r.count) s' lv'
   takes_some s' lv' e = record {
-    taken_is = ap (λ (k : ℕ). some k) all ∙ sym (ap (λ (t : Bool). cond t (some (room_for limit len (w + (n - d)))) none) (le-leb (len + room_for limit len (w + (n - d))) capacity fits));
+    taken_is = ap (λ (k : ℕ). Some k) all ∙ sym (ap (λ (t : Bool). cond t (Some (room_for limit len (w + (n - d)))) None) (le-leb (len + room_for limit len (w + (n - d))) capacity fits));
     memory = first_stored u len r.count x s lv s' lv' (subst (λ (y : List ℕ). Stored u len r.count y s lv s' lv') first e);
     enough = omega (arith, length-take (r.count * u) x, ap length first, bytes_size u len r d (length s) lv g b write_room);
   }

@@ -1,6 +1,6 @@
 -- A run on its way to the store: the places that are left, what is cut by them, and the bytes.
 use Rattle.std.specs.Prelude.{◌≡◌, cond, List, ◌++◌, ℕ, ◌+◌, ◌-◌, ◌*◌, ◌≤◌, ◌<◌, min, max, eqb, leb, length, take, drop}
-use Rattle.std.proofs.Math.Option.{Option, none, some}
+use Rattle.std.specs.Prelude.{Option, None, Some}
 use Rattle.store.specs.Stored.{Stored}
 use Rattle.store.specs.Room.{StoreRoom}
 use Rattle.rules.specs.Push.{room_for}
@@ -51,8 +51,8 @@ pub record RunRoom (unit capacity len limit pre place s : ℕ) (levels : ℕ →
   pub bytes : n * unit ≤ b
 
 abbrev pub taken_as : Taken → Option ℕ
-taken_as Full = none
-taken_as (Count k) = some k
+taken_as Full = None
+taken_as (Count k) = Some k
 
 abbrev pub count_in : Taken → ℕ
 count_in Full = 0
@@ -60,6 +60,6 @@ count_in (Count k) = k
 
 -- of n samples, x their bytes, as many went to the store as the limit leaves room for, or none where these have no room
 pub record Takes (unit capacity len limit n : ℕ) (x samples : List ℕ) (levels : ℕ → List ℕ) (t : Taken) (samples' : List ℕ) (levels' : ℕ → List ℕ) : Type 0 where
-  pub taken_is : taken_as t ≡ cond (leb (len + room_for limit len n) capacity) (some (room_for limit len n)) none
+  pub taken_is : taken_as t ≡ cond (leb (len + room_for limit len n) capacity) (Some (room_for limit len n)) None
   pub memory : Stored unit len (count_in t) x samples levels samples' levels'
   pub enough : count_in t * unit ≤ length x

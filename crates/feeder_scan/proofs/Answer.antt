@@ -2,7 +2,7 @@
 use Prim.Native.Nat.{ℕ, zero, suc, ◌-◌, ◌≤◌}
 use mathlib.Core.Path.{◌≡◌, sym, ap, ap₂, ◌∙◌}
 use mathlib.Core.List.{List}
-use mathlib.Core.Option.{Option, some}
+use Rattle.std.specs.Prelude.{Option, Some}
 use native.Mathlib.Nat.{zero-add, sub-zero}
 use native.Mathlib.Omega.{arith}
 use Rattle.rules.specs.Sample.{list_from, sample_of}
@@ -30,7 +30,7 @@ module _ (m : Masks) (q : Option ℕ) (b : List ℕ) (u n : ℕ) (h : 1 ≤ n) (
       ∙ whole n h
     where
       after : ℕ → ℕ
-      after k = first_fire (masks_for (wanted_of m)) (some (before_or q (sample_of u b 0))) (units u k b)
+      after k = first_fire (masks_for (wanted_of m)) (Some (before_or q (sample_of u b 0))) (units u k b)
 
       whole : (k : ℕ) → 1 ≤ k → after k ≡ first_fire (as_masks m) q (units u k b)
       whole zero l = absurd (omega arith)

@@ -3,7 +3,7 @@ use Prim.Native.Nat.{ℕ, suc, ◌+◌, ◌-◌, ◌≤◌, ◌<◌}
 use mathlib.Core.Path.{◌≡◌, refl, sym, ap, ap₂, ◌∙◌}
 use mathlib.Core.Bool.{Bool, true, false, ◌||◌}
 use mathlib.Core.List.{◌++◌}
-use mathlib.Core.Option.{Option, some}
+use Rattle.std.specs.Prelude.{Option, Some}
 use native.Mathlib.Decide.{dec_lt}
 use native.Mathlib.Omega.{arith}
 use lib.Dec.{ltb}
@@ -19,10 +19,10 @@ module _ (m : Masks) (s : ℕ → ℕ) where
   -- ---- one place
   pub fire_end : (p a e : ℕ) → e ≤ a → fire_from m s p a e ≡ a
   unfolding first_fire list_from
-  fire_end p a e h = rw none (omega arith)
+  fire_end p a e h = rw None (omega arith)
     where
-      none : e - a ≡ 0
-      none = omega arith
+      None : e - a ≡ 0
+      None = omega arith
 
   pub fire_here : (p a e : ℕ) → a < e → matches m p (s a) ≡ true → fire_from m s p a e ≡ a
   unfolding first_fire list_from fires
@@ -40,7 +40,7 @@ module _ (m : Masks) (s : ℕ → ℕ) where
 
   -- ---- two parts, from a to i and from i to e
   pub fire_most : (p a e : ℕ) → a ≤ e → fire_from m s p a e ≤ e
-  fire_most p a e h = omega (arith, fire_le m (some p) (list_from s a (e - a)), list_length s a (e - a))
+  fire_most p a e h = omega (arith, fire_le m (Some p) (list_from s a (e - a)), list_length s a (e - a))
 
   module _ (a i e : ℕ) (h : a ≤ i) (l : i ≤ e) where
     parts : list_from s a (e - a) ≡ list_from s a (i - a) ++ list_from s i (e - i)
@@ -54,16 +54,16 @@ module _ (m : Masks) (s : ℕ → ℕ) where
 
     -- fired in the first part
     pub fire_before : (p : ℕ) → fire_from m s p a i < i → fire_from m s p a e ≡ fire_from m s p a i
-    fire_before p f = ap (λ (x : ℕ). a + x) (ap (first_fire m (some p)) parts ∙ fire_stays m (some p) (list_from s a (i - a)) (list_from s i (e - i)) (omega (arith, list_length s a (i - a))))
+    fire_before p f = ap (λ (x : ℕ). a + x) (ap (first_fire m (Some p)) parts ∙ fire_stays m (Some p) (list_from s a (i - a)) (list_from s i (e - i)) (omega (arith, list_length s a (i - a))))
 
     -- not fired there: the second part is left
     pub fire_after : fire_from m s (s (a - 1)) a i ≡ i → fire_from m s (s (a - 1)) a e ≡ fire_from m s (s (i - 1)) i e
     fire_after f =
         ap (λ (x : ℕ). a + x)
-        (ap (first_fire m (some (s (a - 1)))) parts
-        ∙ fire_later m (some (s (a - 1))) (list_from s a (i - a)) (list_from s i (e - i)) (omega (arith, list_length s a (i - a)))
-        ∙ ap₂ (λ (x : ℕ) (q : Option ℕ). x + first_fire m q (list_from s i (e - i))) (list_length s a (i - a)) (last_after s (i - a) a ∙ ap (λ (x : ℕ). some (s x)) at))
-        ∙ whole (first_fire m (some (s (i - 1))) (list_from s i (e - i)))
+        (ap (first_fire m (Some (s (a - 1)))) parts
+        ∙ fire_later m (Some (s (a - 1))) (list_from s a (i - a)) (list_from s i (e - i)) (omega (arith, list_length s a (i - a)))
+        ∙ ap₂ (λ (x : ℕ) (q : Option ℕ). x + first_fire m q (list_from s i (e - i))) (list_length s a (i - a)) (last_after s (i - a) a ∙ ap (λ (x : ℕ). Some (s x)) at))
+        ∙ whole (first_fire m (Some (s (i - 1))) (list_from s i (e - i)))
       where
         at : a + (i - a) - 1 ≡ i - 1
         at = omega arith

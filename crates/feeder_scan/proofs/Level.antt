@@ -2,7 +2,7 @@
 use Prim.Native.Nat.{ℕ, zero, suc, ◌+◌, ◌<◌}
 use mathlib.Core.Path.{◌≡◌, refl, sym, ap, ◌∙◌, subst}
 use mathlib.Core.Bool.{Bool, true, false, cond, ◌&&◌}
-use mathlib.Core.Option.{Option, none, some}
+use Rattle.std.specs.Prelude.{Option, None, Some}
 use native.Mathlib.Nat.{zero-add}
 use native.Mathlib.Numerals.{add-one}
 use native.Mathlib.Decide.{dec_lt}
@@ -42,8 +42,8 @@ module _ (m : Masks) where
 
   no_fire : (q : Option ℕ) (v : ℕ) → level_met (wanted_of m) v ≡ false → rule.fires (as_masks m) q v ≡ false
   unfolding rule.fires
-  no_fire none v h = ap (λ (b : Bool). eqb (bit_or (bit_or m.rising m.falling) m.edge) 0 && b) (misses v v h) ∙ and-false (eqb (bit_or (bit_or m.rising m.falling) m.edge) 0)
-  no_fire (some p) v h = misses p v h
+  no_fire None v h = ap (λ (b : Bool). eqb (bit_or (bit_or m.rising m.falling) m.edge) 0 && b) (misses v v h) ∙ and-false (eqb (bit_or (bit_or m.rising m.falling) m.edge) 0)
+  no_fire (Some p) v h = misses p v h
 
   module _ (s : ℕ → ℕ) where
     none_more : (i : ℕ) → level_met (wanted_of m) (s i) ≡ false → NoneFires (as_masks m) (list_from s 0 i) → NoneFires (as_masks m) (list_from s 0 (i + 1))

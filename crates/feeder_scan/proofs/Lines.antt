@@ -3,7 +3,7 @@ use Prim.Native.Nat.{ℕ, suc, ◌<◌, min, max}
 use mathlib.Core.Path.{◌≡◌, refl, sym, ap, ap₂, ◌∙◌}
 use mathlib.Core.Bool.{Bool, cond, ◌&&◌}
 use mathlib.Core.List.{List, [], ◌∷◌}
-use mathlib.Core.Option.{Option, none, some}
+use Rattle.std.specs.Prelude.{Option, None, Some}
 use native.Mathlib.Decide.{ℕ_discrete}
 use native.Mathlib.Omega.{arith}
 use lib.Bits.{bit_and, bit_or, bit_xor, differ, and_zero_l, and_zero_r, or_zero_r, xor_zero_l, xor_self}
@@ -92,7 +92,7 @@ module _ (m : Masks) where
   matches_same p v = sym (test_is (wanted_of m) p v) ∙ ap (λ (x : ℕ). eqb x 0) (unmet_same p v) ∙ unmet_none (as_masks m) p v
 
   -- the first sample fires as one that comes after itself
-  first_same : (v : ℕ) → rule.fires (as_masks m) none v ≡ rule.matches (masks_for (wanted_of m)) v v
+  first_same : (v : ℕ) → rule.fires (as_masks m) None v ≡ rule.matches (masks_for (wanted_of m)) v v
   unfolding rule.fires
   first_same v = go (ℕ_discrete (wanted_of m).edge 0)
     where
@@ -101,12 +101,12 @@ module _ (m : Masks) where
       go (no n) = ap (λ (b : Bool). b && rule.matches (as_masks m) v v) (ne_eqb _ _ n) ∙ sym (sym (test_is (wanted_of m) v v) ∙ ne_eqb _ _ (λ e. n (after_itself (wanted_of m) v e)))
 
   -- ---- the first firing place
-  fire_same : (xs : List ℕ) (p : ℕ) → rule.first_fire (masks_for (wanted_of m)) (some p) xs ≡ rule.first_fire (as_masks m) (some p) xs
+  fire_same : (xs : List ℕ) (p : ℕ) → rule.first_fire (masks_for (wanted_of m)) (Some p) xs ≡ rule.first_fire (as_masks m) (Some p) xs
   unfolding rule.first_fire rule.fires
   fire_same [] p = refl
   fire_same (v ∷ vs) p = ap₂ (λ (b : Bool) (k : ℕ). cond b 0 (suc k)) (matches_same p v) (fire_same vs v)
 
-  pub fire_first : (q : Option ℕ) (v : ℕ) (vs : List ℕ) → rule.first_fire (masks_for (wanted_of m)) (some (before_or q v)) (v ∷ vs) ≡ rule.first_fire (as_masks m) q (v ∷ vs)
+  pub fire_first : (q : Option ℕ) (v : ℕ) (vs : List ℕ) → rule.first_fire (masks_for (wanted_of m)) (Some (before_or q v)) (v ∷ vs) ≡ rule.first_fire (as_masks m) q (v ∷ vs)
   unfolding rule.first_fire rule.fires
-  fire_first none v vs = ap₂ (λ (b : Bool) (k : ℕ). cond b 0 (suc k)) (sym (first_same v)) (fire_same vs v)
-  fire_first (some p) v vs = fire_same (v ∷ vs) p
+  fire_first None v vs = ap₂ (λ (b : Bool) (k : ℕ). cond b 0 (suc k)) (sym (first_same v)) (fire_same vs v)
+  fire_first (Some p) v vs = fire_same (v ∷ vs) p

@@ -1,6 +1,6 @@
 -- What the scan's inner functions ask and promise.
 use Rattle.std.specs.Prelude.{Bool, ◌≡◌, List, ℕ, ◌+◌, ◌-◌, ◌*◌, ◌≤◌, eqb, length}
-use Rattle.std.proofs.Math.Option.{Option, none, some}
+use Rattle.std.specs.Prelude.{Option, None, Some}
 use Rattle.std.specs.Int.Bits.{bit_and, bit_or, bit_xor}
 use Rattle.rules.specs.Sample.{list_from, UnitSize}
 use Rattle.rules.specs.Trigger as rule
@@ -33,9 +33,9 @@ NoneFires m xs = (q : Option ℕ) → rule.first_fire m q xs ≡ length xs
 
 -- the sample before v, or v itself where there is none
 abbrev pub before_or : Option ℕ → ℕ → ℕ
-before_or none v = v
-before_or (some p) v = p
+before_or None v = v
+before_or (Some p) v = p
 
 -- the first of the places a to e, e not among them, whose sample fires, p the sample before a; e where none does
 abbrev pub fire_from : rule.Masks → (ℕ → ℕ) → ℕ → ℕ → ℕ → ℕ
-fire_from m s p a e = a + rule.first_fire m (some p) (list_from s a (e - a))
+fire_from m s p a e = a + rule.first_fire m (Some p) (list_from s a (e - a))

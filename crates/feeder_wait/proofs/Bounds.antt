@@ -2,7 +2,7 @@
 use mathlib.Core.Path.{◌≡◌, refl}
 use mathlib.Core.Bool.{false, ◌||◌}
 use mathlib.Core.List.{List}
-use mathlib.Core.Option.{none}
+use Rattle.std.specs.Prelude.{None}
 use Prim.Native.Nat.{ℕ, ◌*◌, ◌≤◌, ◌<◌, ◌^◌}
 use native.Mathlib.Nat.{mul-le-mul}
 use native.Mathlib.Omega.{arith}
@@ -19,7 +19,7 @@ use Rattle.feeder_wait.specs.Wait.{Waiting}
 
 -- a store with nothing in it
 abbrev empty : ℕ → ℕ → Store
-empty unit capacity = record { unit = unit; capacity = capacity; len = 0; mark = none }
+empty unit capacity = record { unit = unit; capacity = capacity; len = 0; mark = None }
 
 not_wrong : (unit capacity : ℕ) → unit_wrong unit ≡ false → 0 < capacity → capacity ≤ most_samples → store_wrong (empty unit capacity) ≡ false
 not_wrong unit capacity known some-slots most =

@@ -2,7 +2,7 @@
 use mathlib.Core.Path.{◌≡◌, sym, ap, ◌∙◌, subst}
 use mathlib.Core.Bool.{Bool, true, false}
 use mathlib.Core.List.{List, [], ◌∷◌}
-use mathlib.Core.Option.{Option, none, some}
+use Rattle.std.specs.Prelude.{Option, None, Some}
 use Prim.Native.Nat.{ℕ, ◌+◌, ◌-◌, ◌*◌, ◌/◌, ◌≤◌, ◌<◌, min}
 use native.Mathlib.Omega.{arith}
 use borrow.Author.Tests.{eq-eqb, le-ltb, ltb-false}
@@ -81,7 +81,7 @@ module _ (r : List ℕ) (lent : Lent) (g b : List ℕ) (w : Waiting r lent (leng
   no_mark : mark_in (marked_in r) (mark_place_in r) ≡ Absent
   no_mark = ap (λ (x : ℕ). mark_in x (mark_place_in r)) w.unmarked
 
-  store_is : c.store ≡ record { unit = u; capacity = capacity_in r; len = 0; mark = none }
+  store_is : c.store ≡ record { unit = u; capacity = capacity_in r; len = 0; mark = None }
   store_is = λ i. record { unit = u; capacity = capacity_in r; len = w.len i; mark = mark_of (no_mark i) }
 
   armed_is : c.armed ≡ rule.waiting (as_masks (masks_of r))
@@ -100,7 +100,7 @@ module _ (r : List ℕ) (lent : Lent) (g b : List ℕ) (w : Waiting r lent (leng
     ring = w.slots;
   }
     where
-      never : (k : ℕ) → ◌≡◌ {A = Option ℕ} none (some k) → ⊥
+      never : (k : ℕ) → ◌≡◌ {A = Option ℕ} None (Some k) → ⊥
       never k e = let z : ◌≡◌ {A = ℕ} 0 1 = cc in omega arith
 
   free : recorder_refusal c lent (length g) ≡ 0
@@ -146,7 +146,7 @@ module _ (r : List ℕ) (lent : Lent) (g b : List ℕ) (w : Waiting r lent (leng
         ∙ (λ i. sets r known_at (mark_flag (previous i) ∷ mark_place (previous i) ∷ place i ∷ kept i ∷ []))
         ∙ ap (λ (x : List ℕ). put x) (sym (ap (λ (x : List ℕ). sets x waits_at (waits_number c.armed ∷ [])) same_2 ∙ same_7))
       where
-        previous : some (sample_of u b (n - 1)) ≡ rule.last_of c.previous (samples_of u b)
+        previous : Some (sample_of u b (n - 1)) ≡ rule.last_of c.previous (samples_of u b)
         previous = last_some (sample_of u b) c.previous n some_samples
 
         place : ring_place_in r + n ≡ place_after (pre_in r) (ring_place_in r) (length (samples_of u b))

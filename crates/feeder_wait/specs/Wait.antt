@@ -1,6 +1,6 @@
 -- What a short push of a recorder that waits asks, and what it leaves, over the recorder's numbers (Rattle.feeder_numbers.specs.Numbers).
 use Rattle.std.specs.Prelude.{◌≡◌, Bool, true, false, List, [], ◌∷◌, ℕ, ◌+◌, ◌-◌, ◌*◌, ◌/◌, ◌≤◌, ◌<◌, min}
-use Rattle.std.proofs.Math.Option.{none}
+use Rattle.std.specs.Prelude.{None}
 use Rattle.std.proofs.lemmas.List.Edits.{sets}
 use Rattle.rules.specs.Sample.{sample_of, samples_of, UnitSize}
 use Rattle.rules.specs.Trigger.{first_fire}
@@ -23,7 +23,7 @@ pub record Waiting (numbers : List ℕ) (lent : Lent) (ring : ℕ) : Type 0 wher
   pub len : len_in numbers ≡ 0
   pub unmarked : marked_in numbers ≡ 0
   pub mark : mark_place_in numbers ≡ 0
-  pub store : Sound (record { unit = unit_in numbers; capacity = capacity_in numbers; len = 0; mark = none }) lent
+  pub store : Sound (record { unit = unit_in numbers; capacity = capacity_in numbers; len = 0; mark = None }) lent
   pub limit_most : limit_in numbers ≤ capacity_in numbers
   pub pre_most : pre_in numbers < capacity_in numbers
   pub kept_most : kept_in numbers ≤ pre_in numbers

@@ -2,7 +2,7 @@
 use Prim.Native.Nat.{ℕ, suc, ◌+◌, ◌-◌, ◌≤◌, ◌<◌}
 use mathlib.Core.Path.{◌≡◌, sym, ap, ap₂, ◌∙◌}
 use mathlib.Core.Bool.{true, false}
-use mathlib.Core.Option.{Option, none, some}
+use Rattle.std.specs.Prelude.{Option, None, Some}
 use native.Mathlib.Nat.{le_refl}
 use native.Mathlib.Omega.{arith}
 use Rattle.rules.specs.Node.{Node, quiet, top_level}
@@ -21,8 +21,8 @@ counted_from n r = told r.found (n + r.steps)
 pub from_none : (r : Walked) → counted_from 0 r ≡ r
 from_none r = ap (told r.found) (omega arith)
 
-pub from_end : (n : ℕ) → counted_from n nothing ≡ told none n
-from_end n = ap (told none) (omega arith)
+pub from_end : (n : ℕ) → counted_from n nothing ≡ told None n
+from_end n = ap (told None) (omega arith)
 
 -- m more of them, and one more
 pub from_more : (n m : ℕ) (r : Walked) → counted_from (n + m) r ≡ counted_from n (counted_from m r)
@@ -49,7 +49,7 @@ module _ {w : Way} {mask : ℕ} {whole : Walked} {count p cap v : ℕ} (g : Goin
   pub going_counts : count ≤ whole.steps
   going_counts = omega (arith, ap (λ (r : Walked). r.steps) g.same)
 
-  pub going_end : w.left p ≡ 0 → told none count ≡ whole
+  pub going_end : w.left p ≡ 0 → told None count ≡ whole
   going_end h = sym (from_end count) ∙ sym (ap (counted_from count) (walk_ended w mask (suc g.fuel) p cap v h)) ∙ g.same
 
   -- at level l, whose node is n
@@ -78,5 +78,5 @@ module _ {w : Way} {mask : ℕ} {whole : Walked} {count p cap v : ℕ} (g : Goin
           ∙ g.same;
     }
 
-    pub going_found : quiet n v mask ≡ false → l ≡ 0 → told (some p) (count + 1) ≡ whole
+    pub going_found : quiet n v mask ≡ false → l ≡ 0 → told (Some p) (count + 1) ≡ whole
     going_found q z = sym (ap (counted_from count) (walk_found w mask g.fuel p cap v l n h el en q z)) ∙ g.same

@@ -2,7 +2,7 @@
 use Prim.Native.Nat.{ℕ, zero, suc, ◌+◌, ◌-◌, ◌*◌, ◌≤◌, ◌<◌}
 use mathlib.Core.Path.{◌≡◌, refl, sym, subst, subst₂}
 use mathlib.Core.Bool.{Bool, true, false}
-use mathlib.Core.Option.{some}
+use Rattle.std.specs.Prelude.{Some}
 use native.Mathlib.Nat.{le_refl, suc-mul}
 use native.Mathlib.Omega.{arith}
 use Rattle.rules.specs.Node.{Node}
@@ -36,7 +36,7 @@ module _ {w : Way} {mask : ℕ} {whole : Walked} {count p cap v l : ℕ} {at : �
   run_past = subst (λ (x : ℕ). Going w mask whole (count + k) (at k) cap x) (sym r.quiets.carries) (after k (le_refl k))
 
   -- the first node that is not quiet is the find at level 0, and lowers the cap at the others; it is read too
-  pub run_found : k < n → l ≡ 0 → told (some (at k)) (count + k + 1) ≡ whole
+  pub run_found : k < n → l ≡ 0 → told (Some (at k)) (count + k + 1) ≡ whole
   run_found h z = going_found run_past (line.some_left k h) (line.level k h) (line.reads k h) refl (r.stops h) z
 
   pub run_lower : k < n → l ≤ cap → (l ≡ 0 → ⊥) → Going w mask whole (count + k + 1) (at k) (l - 1) u
@@ -58,13 +58,13 @@ module _ (back : Bool) (reader : ℕ → ℕ → Node) (base hi pos room cap l s
     starts = starts back;
     moves = λ j. moves j back;
     reads = reads;
-    some_left = λ j h. omega (arith, left_after j (omega (arith, fits j h)), fits j h, some);
-    falls = λ j h. omega (arith, left_after j (omega (arith, fits j h)), left_after (suc j) (omega (arith, fits j h, suc-mul j s)), fits j h, some, suc-mul j s);
+    some_left = λ j h. omega (arith, left_after j (omega (arith, fits j h)), fits j h, Some);
+    falls = λ j h. omega (arith, left_after j (omega (arith, fits j h)), left_after (suc j) (omega (arith, fits j h, suc-mul j s)), fits j h, Some, suc-mul j s);
     level = λ j h. level_after_lem back base hi pos room cap l s n p t j h reader;
   }
     where
-      some : 1 ≤ s
-      some = some_samples back base hi pos room cap l s n p t
+      Some : 1 ≤ s
+      Some = some_samples back base hi pos room cap l s n p t
 
       fits : (j : ℕ) → j < n → j * s + s ≤ room
       fits j h = room_for back base hi pos room cap l s n p t j h

@@ -3,7 +3,7 @@ use Prim.Native.Nat.{ℕ, ◌+◌, ◌-◌, ◌*◌, ◌%◌, ◌≤◌, ◌<◌
 use mathlib.Core.Path.{◌≡◌, refl, sym, ap, ap₂, ◌∙◌, subst}
 use mathlib.Core.Bool.{Bool, true, false, cond, true≢false, false≢true}
 use mathlib.Core.List.{List}
-use mathlib.Core.Option.{none, some}
+use Rattle.std.specs.Prelude.{None, Some}
 use native.Mathlib.Nat.{div-one}
 use native.Mathlib.Decide.{dec_lt, ℕ_discrete}
 use native.Mathlib.Omega.{arith}
@@ -12,7 +12,7 @@ use Rattle.rules.specs.Sample.{sample_of}
 use Rattle.rules.specs.Node.{leaf, mirror, chunk, top_level}
 use Rattle.rules.specs.Walk.{Walked, nothing, walk_from}
 use Rattle.node.specs.Memory.{reader_of}
-use Rattle.node.proofs.Memory.{reads_sample}
+use Rattle.node.proofs.NodeMemory.{reads_sample}
 use Rattle.find.specs.Part.{Bytes}
 use Rattle.find.specs.Run.{node_at, nth_node, NthHeld, RunHeld, Run}
 use Rattle.find.specs.Way.{way_in, moved, left_in, to_border}
@@ -28,8 +28,8 @@ module _ (unit len : ℕ) (samples level : List ℕ) (back : Bool) (p mask v m k
   asked : Run (nth_node back (node_at unit samples level 0) p) mask v (few_stored back len p) k u
   asked = subst (λ (x : ℕ). Run (nth_node back (node_at unit samples level 0) p) mask v x k u) em r
 
-  pub near_found : k < m → {q : ℕ} → q ≡ moved back p k → Near unit len samples level back mask p v (told (some q) (k + 1))
-  near_found h eq = record { count = k; value = u; passed = asked; answer_is = ap (λ (x : ℕ). told (some x) (k + 1)) eq ∙ sym (ap (λ (b : Bool). cond b (found_after back p k) nothing) (lt-ltb k (few_stored back len p) (omega arith))) }
+  pub near_found : k < m → {q : ℕ} → q ≡ moved back p k → Near unit len samples level back mask p v (told (Some q) (k + 1))
+  near_found h eq = record { count = k; value = u; passed = asked; answer_is = ap (λ (x : ℕ). told (Some x) (k + 1)) eq ∙ sym (ap (λ (b : Bool). cond b (found_after back p k) nothing) (lt-ltb k (few_stored back len p) (omega arith))) }
 
   pub near_none : m ≤ k → Near unit len samples level back mask p v nothing
   near_none h = record { count = k; value = u; passed = asked; answer_is = sym (ap (λ (b : Bool). cond b (found_after back p k) nothing) (le-ltb k (few_stored back len p) (omega arith))) }
@@ -68,7 +68,7 @@ module _ (unit len : ℕ) (samples level : List ℕ) (back : Bool) (p : ℕ) (hp
       inside false i j = let z : p % 32 ≡ 0 → ⊥ = (free back p n (omega arith)).between (omega arith) in omega arith
 
       found_there : found_after back p k ≡ walk_from (way_in back (reader_of unit samples levels) (c * chunk) hi) mask p v
-      found_there = ap₂ (λ (x n : ℕ). told (some (moved back p x)) n) place counts ∙ run_found (going_starts (way_in back (reader_of unit samples levels) (c * chunk) hi) mask p v) (stretch_line back (reader_of unit samples levels) (c * chunk) hi p (left_in back (c * chunk) hi p) top_level 0 1 n placed taken (nth_node back (node_at unit samples level 0) p) (λ j _. reads j back)) r h refl
+      found_there = ap₂ (λ (x n : ℕ). told (Some (moved back p x)) n) place counts ∙ run_found (going_starts (way_in back (reader_of unit samples levels) (c * chunk) hi) mask p v) (stretch_line back (reader_of unit samples levels) (c * chunk) hi p (left_in back (c * chunk) hi p) top_level 0 1 n placed taken (nth_node back (node_at unit samples level 0) p) (λ j _. reads j back)) r h refl
         where
           place : k ≡ k * 1
           place = omega arith
@@ -95,7 +95,7 @@ module _ (unit len : ℕ) (samples level : List ℕ) (back : Bool) (p : ℕ) (hp
           reads j false = at_sample unit samples level 0 (p + j) refl ∙ ap (λ (x : ℕ). leaf (sample_of unit samples x)) (omega arith) ∙ sym (reads_sample unit samples levels 0 (p + j * 1) refl)
 
   -- what is found is what the walk in p's chunk finds, in as many steps, whatever levels hold
-  pub near_finds : {mask v : ℕ} {answer : Walked} → Near unit len samples level back mask p v answer → (answer.found ≡ none → ⊥) → (levels : ℕ → List ℕ) (c : ℕ) → c * chunk ≤ p → p ≤ (c + 1) * chunk
+  pub near_finds : {mask v : ℕ} {answer : Walked} → Near unit len samples level back mask p v answer → (answer.found ≡ None → ⊥) → (levels : ℕ → List ℕ) (c : ℕ) → c * chunk ≤ p → p ≤ (c + 1) * chunk
       → answer ≡ walk_from (way_in back (reader_of unit samples levels) (c * chunk) (min ((c + 1) * chunk) len)) mask p v
   near_finds {mask} {v} {answer} r t levels c low high = go (dec_lt r.count n)
     where

@@ -3,7 +3,7 @@ use Prim.Native.Nat.{ℕ, suc, ◌+◌, ◌-◌, ◌*◌, ◌/◌, ◌≤◌, �
 use mathlib.Core.Path.{◌≡◌, sym, ap, ◌∙◌, subst, subst₂}
 use mathlib.Core.Bool.{Bool, true, false}
 use mathlib.Core.List.{List}
-use mathlib.Core.Option.{none, some}
+use Rattle.std.specs.Prelude.{None, Some}
 use native.Mathlib.Nat.{mul-le-mul_right}
 use native.Mathlib.Decide.{ℕ_discrete}
 use native.Mathlib.Omega.{arith}
@@ -61,7 +61,7 @@ stands_first back unit base hi part levels mask start room v low high most e = r
 
 module _ {back : Bool} {unit base hi : ℕ} {part : List ℕ} {levels : ℕ → List ℕ} {mask : ℕ} {whole : Walked} {count pos room cap v : ℕ}
     (x : Stands back unit base hi part levels mask whole count pos room cap v) where
-  pub stands_last : room ≡ 0 → told none count ≡ whole
+  pub stands_last : room ≡ 0 → told None count ≡ whole
   stands_last z = going_end x.going (left_is back (reader_from base unit part levels) base hi pos ∙ sym x.placed.room_is ∙ z)
 
   -- a level is taken
@@ -114,8 +114,8 @@ module _ {back : Bool} {unit base hi : ℕ} {part : List ℕ} {levels : ℕ → 
       pub turn_past : Stands back unit base hi part levels mask whole (count + k) q (room - k * s) cap u
       turn_past = record { placed = placed_there; few_steps = x.few_steps; going = subst (λ (y : ℕ). Going (way_in back (reader_from base unit part levels) base hi) mask whole (count + k) y cap u) (sym eq) (run_past x.going line t.passed) }
 
-      pub turn_found : k < n → l ≡ 0 → told (some q) (count + k + 1) ≡ whole
-      turn_found h z = ap (λ (y : ℕ). told (some y) (count + k + 1)) eq ∙ run_found x.going line t.passed h z
+      pub turn_found : k < n → l ≡ 0 → told (Some q) (count + k + 1) ≡ whole
+      turn_found h z = ap (λ (y : ℕ). told (Some y) (count + k + 1)) eq ∙ run_found x.going line t.passed h z
 
       pub turn_lower : k < n → (l ≡ 0 → ⊥) → Stands back unit base hi part levels mask whole (count + k + 1) q (room - k * s) (l - 1) u
       turn_lower h z = record { placed = placed_there; few_steps = x.few_steps; going = subst (λ (y : ℕ). Going (way_in back (reader_from base unit part levels) base hi) mask whole (count + k + 1) y (l - 1) u) (sym eq) (run_lower x.going line t.passed h t.best.below z) }

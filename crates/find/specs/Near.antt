@@ -1,6 +1,6 @@
 -- A look at the next few samples of a capture.
 use Rattle.std.specs.Prelude.{◌≡◌, Bool, cond, List, ℕ, ◌+◌, ◌%◌, min, ltb, eqb}
-use Rattle.std.proofs.Math.Option.{some}
+use Rattle.std.specs.Prelude.{Some}
 use Rattle.rules.specs.Walk.{Walked, nothing}
 use Rattle.find.specs.Run.{node_at, nth_node, Run}
 use Rattle.find.specs.Way.{moved, left_in, to_border}
@@ -15,7 +15,7 @@ few_stored back len p = min (few back p) (left_in back 0 len p)
 
 -- the walk to the one after k of them, which is read too
 abbrev pub found_after : Bool → ℕ → ℕ → Walked
-found_after back p k = record { found = some (moved back p k); steps = k + 1 }
+found_after back p k = record { found = Some (moved back p k); steps = k + 1 }
 
 -- the first of them that is not quiet, found, or nothing
 pub record Near (unit len : ℕ) (samples level : List ℕ) (back : Bool) (mask p v : ℕ) (answer : Walked) : Type 0 where

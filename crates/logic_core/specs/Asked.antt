@@ -1,6 +1,6 @@
 -- What each call under the boundary answers, over the record's numbers and the lent lists.
 use Rattle.std.specs.Prelude.{◌≡◌, List, ℕ, ◌+◌, Float, length}
-use Rattle.std.proofs.Math.Option.{Option}
+use Rattle.std.specs.Prelude.{Option}
 use Rattle.rules.specs.Sample.{sample_of}
 use Rattle.rules.specs.Node.{Node}
 use Rattle.rules.specs.Search.{count_in}

@@ -1,6 +1,6 @@
 -- What a mill's calls under the boundary answer, over the record's numbers and the lent lists.
 use Rattle.std.specs.Prelude.{◌≡◌, List, ℕ, Float, ℤ, length}
-use Rattle.std.proofs.Math.Option.{Option}
+use Rattle.std.specs.Prelude.{Option}
 use Rattle.std.specs.Int.Bits.{bit_and}
 use Rattle.rules.specs.Reading.{copied_to}
 use Rattle.rules.specs.Sample.{sample_of, cut_lines}

@@ -3,7 +3,7 @@ use Prim.Native.Nat.{ℕ, ◌≤◌}
 use mathlib.Core.Path.{◌≡◌, refl, sym, ap, ◌∙◌}
 use mathlib.Core.Bool.{Bool, true, false, cond}
 use mathlib.Core.List.{List, [], ◌++◌}
-use mathlib.Core.Option.{Option, none, some}
+use Rattle.std.specs.Prelude.{Option, None, Some}
 use native.Mathlib.Omega.{arith}
 use lib.IntN.{ℤ}
 use Rattle.rules.specs.Answer.{refused, given, unless, seen}
@@ -31,9 +31,9 @@ pub record Passed (st : Store) (lent : Lent) (p q : ℤ) : Type 0 where
   pub first : before_first (origin_of st.mark) p ≡ false
   pub second : before_first (origin_of st.mark) q ≡ false
 
-pub origin_inside : (mark : Option ℕ) (len : ℕ) → ((k : ℕ) → mark ≡ some k → k ≤ len) → origin_of mark ≤ len
-origin_inside none len h = omega arith
-origin_inside (some k) len h = h k refl
+pub origin_inside : (mark : Option ℕ) (len : ℕ) → ((k : ℕ) → mark ≡ Some k → k ≤ len) → origin_of mark ≤ len
+origin_inside None len h = omega arith
+origin_inside (Some k) len h = h k refl
 
 -- ---- the mill's number n is that of its own rows
 module _ (st : Store) (lent : Lent) (outside : Bool) (p q : ℤ) {n : ℕ} (is : n ≡ first_of (store_rows st lent (mill_rows st outside p q))) where

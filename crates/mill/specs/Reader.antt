@@ -4,11 +4,10 @@ use Rattle.std.specs.Int.Bits.{bit_and}
 use Rattle.rules.specs.Refusal.{Store, Row}
 use Rattle.rules.specs.Mill.{origin_of, beyond_row, before_row}
 use Rattle.capture.specs.declared.Capture.{Capture}
-use Rattle.capture.specs.Record.{mark_of}
 
 -- the place of a capture that counts as 0
 abbrev pub origin_in : Capture → ℕ
-origin_in c = origin_of (mark_of c.trigger)
+origin_in c = origin_of (c.trigger)
 
 -- 12 and then 13, of a call with a mask and two places. The place 0 is never before the first sample, so it stands for no place
 abbrev pub mill_rows : Store → Bool → ℤ → ℤ → List Row

@@ -1,6 +1,6 @@
 -- What a mill's extent, samples and summary answer, and the memory that samples leaves. 02: CR 1.
 use Rattle.std.specs.Prelude.{◌≡◌, Bool, true, false, List, ℕ, ℤ, length}
-use Rattle.std.proofs.Math.Option.{Option, none, some}
+use Rattle.std.specs.Prelude.{Option, None, Some}
 use Rattle.std.specs.Int.Bits.{bit_and}
 use Rattle.rules.specs.Reading.{copied_to}
 use Rattle.rules.specs.Sample.{sample_of, cut_lines}
@@ -25,8 +25,8 @@ pub record Extent : Type 0 where
   pub marked : Bool
 
 abbrev pub is_marked : Option ℕ → Bool
-is_marked none = false
-is_marked (some mark) = true
+is_marked None = false
+is_marked (Some mark) = true
 
 abbrev pub extent_for : Option ℕ → ℕ → Extent
 extent_for mark len = record { first = mill_place (origin_of mark) 0; end = mill_place (origin_of mark) len; marked = is_marked mark }
@@ -51,5 +51,5 @@ as_lines n = record { first = n.first; last = n.last; toggles = n.mask }
 
 abbrev pub shown_of : Shown → Answer (Option rule.Lines)
 shown_of (shown.Refused n) = refused n
-shown_of (shown.Lines n) = given (some (as_lines n))
-shown_of shown.Nothing = given none
+shown_of (shown.Lines n) = given (Some (as_lines n))
+shown_of shown.Nothing = given None

@@ -1,6 +1,6 @@
 -- What render answers a mill and what it leaves in output, whatever memory holds. 02: CR 1; 01: Where each number is checked, 1, 2, 10 and 11.
 use Rattle.std.specs.Prelude.{◌≡◌, List, ◌++◌, ℕ, ◌*◌, length, drop}
-use Rattle.std.proofs.Math.Option.{Option}
+use Rattle.std.specs.Prelude.{Option}
 use Rattle.rules.specs.Node.{Node}
 use Rattle.rules.specs.Pixel.{View, Range, row_by, cut_pixels, range_from}
 use Rattle.rules.specs.Answer.{unless, unrefused}

@@ -3,7 +3,7 @@ use Prim.Native.Nat.{ℕ, ◌≤◌, ◌<◌}
 use mathlib.Core.Path.{◌≡◌, refl, sym, ap, ◌∙◌}
 use mathlib.Core.Bool.{Bool, true, false}
 use mathlib.Core.List.{List, []}
-use mathlib.Core.Option.{Option, some}
+use Rattle.std.specs.Prelude.{Option, Some}
 use native.Mathlib.Omega.{arith}
 use lib.IntN.{ℤ, pos}
 use mir.Syntax.{w64}
@@ -66,8 +66,8 @@ module _ (c : Capture) (samples : List ℕ) (levels : ℕ → List ℕ) (grant m
     -- the service's answer to the question `find`, at a place i
     module _ {A : Type 0} (find : ℕ → Counted A) (i : ℕ) (i-is : i ≡ place_at origin p) (answer : Answer (Counted A)) (answer_is : answer ≡ unless (store_refusal (store_of c) lent) (find i)) where
       -- a place that is found can be counted
-      pub asked_counts : (Small : A → Type 0) → ((x : ℕ) (a : A) → c.len ≤ most_samples → (find x).found ≡ some a → Small a) → Counts Small origin answer
-      asked_counts Small h = (asked_placed.0, λ a k e. h i a (omega (arith, let_pass.sound.len_most, let_pass.sound.capacity_most)) (ap (λ (x : Counted A). x.found) (unless_given (find i) (store_refusal (store_of c) lent) (record { found = some a; steps = k }) (sym answer_is ∙ e)).1))
+      pub asked_counts : (Small : A → Type 0) → ((x : ℕ) (a : A) → c.len ≤ most_samples → (find x).found ≡ Some a → Small a) → Counts Small origin answer
+      asked_counts Small h = (asked_placed.0, λ a k e. h i a (omega (arith, let_pass.sound.len_most, let_pass.sound.capacity_most)) (ap (λ (x : Counted A). x.found) (unless_given (find i) (store_refusal (store_of c) lent) (record { found = Some a; steps = k }) (sym answer_is ∙ e)).1))
 
       -- what the mill is shown of it
       pub asked_shown : {B : Type 0} (show : ℕ → Option A → Option B) (shown : Answer (Counted B)) → shown ≡ seen (through (show origin)) answer
@@ -89,13 +89,13 @@ module _ (c : Capture) (samples : List ℕ) (levels : ℕ → List ℕ) (mask : 
   abbrev previous_walk_lem : ℕ → Walked
   previous_walk_lem = back c.unitsize c.len samples levels mask
 
-  next_below : (x i : ℕ) → (next_walk_lem x).found ≡ some i → i < c.len
+  next_below : (x i : ℕ) → (next_walk_lem x).found ≡ Some i → i < c.len
   next_below x i e = (next_within all_levels (reader_of c.unitsize samples levels) c.len mask x i e).below
 
-  previous_below : (x i : ℕ) → (previous_walk_lem x).found ≡ some i → i < c.len
+  previous_below : (x i : ℕ) → (previous_walk_lem x).found ≡ Some i → i < c.len
   previous_below x i e = (previous_within all_levels (reader_of c.unitsize samples levels) c.len mask x i e).below
 
-  pub change_small : (backward : Bool) (x i : ℕ) → c.len ≤ most_samples → (sought backward c.unitsize c.len samples levels mask x).found ≡ some i → SmallPlace i
+  pub change_small : (backward : Bool) (x i : ℕ) → c.len ≤ most_samples → (sought backward c.unitsize c.len samples levels mask x).found ≡ Some i → SmallPlace i
   change_small true x i h e = omega (arith, previous_below x i e)
   change_small false x i h e = omega (arith, next_below x i e)
 
@@ -107,7 +107,7 @@ module _ (c : Capture) (samples : List ℕ) (levels : ℕ → List ℕ) (mask : 
     unfolding bursts.burst_of
     burst_asked sample = refl
 
-    pub burst_small : (x : ℕ) (b : Burst) → c.len ≤ most_samples → (burst_in_lem x).found ≡ some b → SmallBurst b
+    pub burst_small : (x : ℕ) (b : Burst) → c.len ≤ most_samples → (burst_in_lem x).found ≡ Some b → SmallBurst b
     burst_small x b h e =
         let t = burst_ends (λ (i : ℕ). i < c.len) (places previous_walk_lem) (places next_walk_lem) previous_below next_below c.len x gap tolerance budget b e in
         (omega (arith, t.at_first), omega (arith, t.at_last))

@@ -1,6 +1,6 @@
 -- What a mill's searches answer: 02's refusals, else the service's walk over memory's own nodes, its places as the mill counts them.
 use Rattle.std.specs.Prelude.{◌≡◌, Bool, true, false, List, ℕ, ◌≤◌, ℤ}
-use Rattle.std.proofs.Math.Option.{none, some}
+use Rattle.std.specs.Prelude.{None, Some}
 use Rattle.rules.specs.Answer.{Answer, refused, given, unless}
 use Rattle.rules.specs.Burst as rule
 use Rattle.rules.specs.Walk.{Counted, Walked, through}
@@ -18,13 +18,13 @@ use Rattle.mill_search.specs.declared.Bursts.TheVariants as bursts
 -- the number, or the place or burst, for each case
 abbrev pub found_of : Found → Answer (Counted ℤ)
 found_of (found.Refused n) = refused n
-found_of (found.At p k) = given (record { found = some p; steps = k })
-found_of (found.Nothing k) = given (record { found = none; steps = k })
+found_of (found.At p k) = given (record { found = Some p; steps = k })
+found_of (found.Nothing k) = given (record { found = None; steps = k })
 
 abbrev pub burst_as : Bursts → Answer (Counted MillBurst)
 burst_as (bursts.Refused n) = refused n
-burst_as (bursts.At b k) = given (record { found = some (record { first = b.first; last = b.last; jumps_end = b.jumps_end; jumps_start = b.jumps_start }); steps = k })
-burst_as (bursts.Nothing k) = given (record { found = none; steps = k })
+burst_as (bursts.At b k) = given (record { found = Some (record { first = b.first; last = b.last; jumps_end = b.jumps_end; jumps_start = b.jumps_start }); steps = k })
+burst_as (bursts.Nothing k) = given (record { found = None; steps = k })
 
 -- ---- the answers
 -- what is asked, unless row 1, 2, 12 or 13 refuses
@@ -59,4 +59,4 @@ abbrev pub SmallBurst : rule.Burst → Type 0
 SmallBurst b = (b.first ≤ most_samples) × (b.last ≤ most_samples)
 
 abbrev pub Counts : {A : Type 0} → (A → Type 0) → ℕ → Answer (Counted A) → Type 0
-Counts {A} Small origin answer = (origin ≤ most_samples) × ((a : A) (k : ℕ) → answer ≡ given (record { found = some a; steps = k }) → Small a)
+Counts {A} Small origin answer = (origin ≤ most_samples) × ((a : A) (k : ℕ) → answer ≡ given (record { found = Some a; steps = k }) → Small a)

@@ -1,16 +1,17 @@
-// Summary nodes: how two join, and where they stand in the lent memory of a level.
+// Summary nodes: how two join, and where they stand in lent memory.
 #![tactic(auto)]
 
 ghost use Rattle.std.specs.Prelude.{◌≡◌, Bool, false, ◌+◌, ◌*◌, ◌/◌, ◌%◌, ◌≤◌, length};
 ghost use Rattle.rules.specs.Node.{half, leaf, join, quiet, differs, cap_count, lines_of};
 ghost use Rattle.rules.specs.Refusal.{node_size};
 ghost use Rattle.node.specs.Told.{Told};
-ghost use Rattle.node.specs.Memory.{as_node, node_in, put_node, level_of};
+ghost use Rattle.node.specs.Memory.{as_node, node_in, put_node};
+ghost use Rattle.node.specs.Lent.{levels_of};
 
 use lines::Mask;
 
 // 01's node, with the count of 02's CR 5; `mask` is its toggles.
-#[derive(Clone, Copy)]
+#[derive(Clone, Copy, PartialEq, Eq)]
 pub struct Node {
     pub first: Mask,
     pub last: Mask,
@@ -163,24 +164,33 @@ pub fn put_node(level: &mut [Mask], j: usize, n: Node)
     level[at + 4] = high_of(n.count);
 }
 
-// The slice of a level, 1 to 4.
-pub fn level_of<'a>(
-    l1: &'a [Mask],
-    l2: &'a [Mask],
-    l3: &'a [Mask],
-    l4: &'a [Mask],
-    level: usize,
-) -> &'a [Mask]
-    ensures { result.now ≡ level_of l1.now l2.now l3.now l4.now level }
-{
-    if level <= 1 {
-        return l1;
+// The nodes of the levels 1 to 4, lent to be read.
+#[derive(Clone, Copy)]
+pub struct Levels<'a> {
+    pub l1: &'a [Mask],
+    pub l2: &'a [Mask],
+    pub l3: &'a [Mask],
+    pub l4: &'a [Mask],
+}
+
+impl<'a> Levels<'a> {
+    // The nodes of a level.
+    #[tactic(auto, unfolding(crate::specs::Memory::level_of))]
+    pub fn level(&self, level: usize) -> &'a [Mask]
+        ensures { result.now ≡ levels_of self.now level }
+    {
+        match level {
+            0 | 1 => self.l1,
+            2 => self.l2,
+            3 => self.l3,
+            _ => self.l4,
+        }
     }
-    if level == 2 {
-        return l2;
-    }
-    if level == 3 {
-        return l3;
-    }
-    l4
+}
+
+// A capture's memory, lent to be read.
+#[derive(Clone, Copy)]
+pub struct Memory<'a> {
+    pub samples: &'a [u8],
+    pub levels: Levels<'a>,
 }

@@ -17,7 +17,7 @@ use Rattle.rules.specs.Walk.{best}
 use Rattle.rules.proofs.Node.{Quiet, quiet_true}
 use Rattle.rules.proofs.Walk.{span_pos, best_le, best_taken}
 use Rattle.node.specs.Memory.{node_in, reader_of, Right}
-use Rattle.node.proofs.Memory.{right_true}
+use Rattle.node.proofs.NodeMemory.{right_true}
 use Rattle.level.specs.Best.{fits_at}
 use Rattle.level.proofs.Best.{Fits, fitting, fits_sample}
 use Rattle.find.specs.Run.{node_at, carried}

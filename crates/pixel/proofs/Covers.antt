@@ -1,24 +1,24 @@
 -- The range by where the two floors lie among the stored places is the rule's range. Assumes nothing.
 use mathlib.Core.Path.{◌≡◌, refl, sym, ap, ◌∙◌}
 use mathlib.Core.Bool.{Bool, true, false, cond, ◌||◌}
-use mathlib.Core.Option.{Option, some}
+use Rattle.std.specs.Prelude.{Option, Some}
 use Prim.Native.Nat.{ℕ, ◌≤◌}
 use native.Mathlib.Omega.{arith}
 use lib.IntN.{pos, negsuc}
 use lib.Dec.{leb, ltb, eqb}
 use borrow.Author.Tests.{ltb-true, ltb-false, le-leb, lt-leb}
-use Rattle.rules.specs.Floor.{Whole, none, under, over, at, natural}
+use Rattle.rules.specs.Floor.{Whole, None, under, over, at, natural}
 use Rattle.rules.specs.Pixel.{Range, below0, reaches, end_of, range_of}
 use Rattle.float.specs.declared.Place.TheVariants.{At, Beyond}
 use Rattle.float.specs.Places.{place_of}
 use Rattle.pixel.specs.Ranges.{end_at, spanned_by, ended_by, cover_by}
 
 abbrev unless : Bool → ℕ → ℕ → Option Range
-unless b from to = cond b Option.none (some (record { from = from; to = to }))
+unless b from to = cond b Option.none (Some (record { from = from; to = to }))
 
 -- where a lies
 spans : (a : Whole) (n len : ℕ) → spanned_by (place_of a len) n len ≡ unless (reaches a len) (natural a) (end_at (natural a) n len)
-spans none n len = refl
+spans None n len = refl
 spans under n len = refl
 spans over n len = refl
 spans (at (negsuc k)) n len = refl
@@ -40,7 +40,7 @@ module _ (a : Whole) (len : ℕ) where
   spans_to k e = spans a len len ∙ ap (λ (k : ℕ). unless (reaches a len) (natural a) k) e
 
   ends : (b : Whole) → ended_by (place_of a len) (place_of b len) len ≡ cond (below0 b) Option.none (unless (reaches a len) (natural a) (end_of b (natural a) len))
-  ends none = refl
+  ends None = refl
   ends under = refl
   ends over = spans_to len (whole (natural a) len)
   ends (at (negsuc k)) = refl
@@ -62,4 +62,4 @@ tests false false false r = refl
 pub covers : (a b : Whole) (len : ℕ) → cover_by (place_of a len) (place_of b len) len ≡ range_of a b len
 covers a b len =
     ap (λ (r : Option Range). cond (eqb len 0) Option.none r) (ends a len b)
-    ∙ tests (eqb len 0) (below0 b) (reaches a len) (some (record { from = natural a; to = end_of b (natural a) len }))
+    ∙ tests (eqb len 0) (below0 b) (reaches a len) (Some (record { from = natural a; to = end_of b (natural a) len }))

@@ -10,7 +10,7 @@ use lib.ListN.{length, get_or}
 use Rattle.rules.specs.Node.{Node}
 use Rattle.rules.specs.Refusal.{node_size}
 use Rattle.node.specs.Memory.{node_in, put_node}
-use Rattle.node.proofs.Memory.{length_put, put_same, put_rest, node_at}
+use Rattle.node.proofs.NodeMemory.{length_put, put_same, put_rest, node_at}
 use Rattle.rebuild.specs.Rebuild.{put_nodes}
 
 -- ---- a run of nodes

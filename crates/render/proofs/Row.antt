@@ -2,7 +2,7 @@
 use Prim.Native.Nat.{ℕ, zero, suc, ◌+◌, ◌*◌, ◌≤◌, ◌<◌}
 use mathlib.Core.Path.{◌≡◌, refl, sym, ap, ap₂, ◌∙◌}
 use mathlib.Core.List.{List, [], ◌∷◌, ◌++◌}
-use mathlib.Core.Option.{Option, none, some}
+use Rattle.std.specs.Prelude.{Option, None, Some}
 use native.Mathlib.Nat.{add-zero}
 use native.Mathlib.Numerals.{add-one}
 use native.Mathlib.Omega.{arith}
@@ -16,12 +16,12 @@ use Rattle.render.specs.Render.{drawn, pixel_node}
 module _ (node : ℕ → ℕ → Node) where
   -- ---- one pixel
   shown_append : (r : Option Range) (a b : List ℕ) → shown node r (a ++ b) ≡ shown node r a ++ b
-  shown_append none a b = refl
-  shown_append (some r) a b = refl
+  shown_append None a b = refl
+  shown_append (Some r) a b = refl
 
   shown_is : (r : Option Range) (n : Node) → lines_of n ≡ lines_of (pixel_node node r) → n.first ∷ n.toggles ∷ [] ≡ shown node r []
-  shown_is none n e = ap (λ (l : Lines). l.first ∷ l.toggles ∷ []) e
-  shown_is (some r) n e = ap (λ (l : Lines). l.first ∷ l.toggles ∷ []) e
+  shown_is None n e = ap (λ (l : Lines). l.first ∷ l.toggles ∷ []) e
+  shown_is (Some r) n e = ap (λ (l : Lines). l.first ∷ l.toggles ∷ []) e
 
   -- ---- a row
   module _ (range : ℕ → Option Range) where

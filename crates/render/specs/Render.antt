@@ -1,6 +1,6 @@
 -- What render answers and what it leaves in output, whatever memory holds. 01: Burst and render; Where each number is checked, 1, 2, 10 and 11.
 use Rattle.std.specs.Prelude.{◌≡◌, List, ◌++◌, ℕ, ◌*◌, ◌≤◌, ◌<◌, length, drop}
-use Rattle.std.proofs.Math.Option.{Option, none, some}
+use Rattle.std.specs.Prelude.{Option, None, Some}
 use Rattle.rules.specs.Node.{Node, leaf}
 use Rattle.rules.specs.Pixel.{View, Range, pixel_range, row_by}
 use Rattle.rules.specs.Answer.{Answer, refused, given, unless, unrefused}
@@ -26,13 +26,13 @@ pub record Draws (node : ℕ → ℕ → Node) (st : Store) (lent : Lent) (v : V
 -- ---- one pixel
 -- the node that a pixel shows the first and the toggles of
 abbrev pub pixel_node : (ℕ → ℕ → Node) → Option Range → Node
-pixel_node node none = leaf 0
-pixel_node node (some r) = node r.from r.to
+pixel_node node None = leaf 0
+pixel_node node (Some r) = node r.from r.to
 
 -- a range of stored places, or none
 abbrev pub Inside : Option Range → ℕ → Type 0
-Inside none len = Unit
-Inside (some r) len = (r.from < r.to) × (r.to ≤ len)
+Inside None len = Unit
+Inside (Some r) len = (r.from < r.to) × (r.to ≤ len)
 
 pub record Covered (st : Store) (lent : Lent) (range : Option Range) : Type 0 where
   pub sound : Sound st lent

@@ -2,7 +2,7 @@
 use mathlib.Core.Path.{◌≡◌, refl}
 use mathlib.Core.Bool.{cond}
 use mathlib.Core.List.{List, [], ◌∷◌}
-use mathlib.Core.Option.{Option, none, some}
+use Rattle.std.specs.Prelude.{Option, None, Some}
 use Prim.Native.Nat.{ℕ}
 use lib.Bits.{bit_xor}
 use lib.Dec.{ltb}
@@ -21,30 +21,30 @@ abbrev burst_at : List ℕ → ℕ → ℕ → ℕ → ℕ → Option Burst
 burst_at cs sample gap tolerance budget = (burst_search (turning cs) 20 1 sample gap tolerance budget).found
 
 abbrev is : ℕ → ℕ → ℕ → ℕ → Option Burst
-is first last jumps_end jumps_start = some (record { first = first; last = last; jumps_end = jumps_end; jumps_start = jumps_start })
+is first last jumps_end jumps_start = Some (record { first = first; last = last; jumps_end = jumps_end; jumps_start = jumps_start })
 
 pub pairs :
     -- "if both exist and n − p < max_gap, the pair is (p,n)": gap, and gap − 1; the place itself may change; before a side that is nearer
-    (burst_at (2 ∷ 6 ∷ []) 3 4 0 0 ≡ none)
+    (burst_at (2 ∷ 6 ∷ []) 3 4 0 0 ≡ None)
     × (burst_at (2 ∷ 6 ∷ []) 3 5 0 0 ≡ is 2 6 0 0)
     × (burst_at (2 ∷ 6 ∷ []) 2 5 0 0 ≡ is 2 6 0 0)
     × (burst_at (1 ∷ 2 ∷ 6 ∷ []) 3 5 9 0 ≡ is 2 6 0 0)
     -- "sample − p ≤ tolerance and their gap is below max_gap": distance, then gap
     × (burst_at (2 ∷ 5 ∷ []) 8 4 3 0 ≡ is 2 5 0 0)
-    × (burst_at (2 ∷ 5 ∷ []) 8 4 2 0 ≡ none)
+    × (burst_at (2 ∷ 5 ∷ []) 8 4 2 0 ≡ None)
     × (burst_at (2 ∷ 5 ∷ []) 6 4 9 0 ≡ is 2 5 0 0)
-    × (burst_at (2 ∷ 5 ∷ []) 6 3 9 0 ≡ none)
+    × (burst_at (2 ∷ 5 ∷ []) 6 3 9 0 ≡ None)
     × (burst_at (2 ∷ 6 ∷ []) 6 5 0 0 ≡ is 2 6 0 0)
     -- "right likewise from n"
     × (burst_at (9 ∷ 12 ∷ []) 6 4 3 0 ≡ is 9 12 0 0)
-    × (burst_at (9 ∷ 12 ∷ []) 6 4 2 0 ≡ none)
+    × (burst_at (9 ∷ 12 ∷ []) 6 4 2 0 ≡ None)
     × (burst_at (9 ∷ 12 ∷ []) 8 4 9 0 ≡ is 9 12 0 0)
-    × (burst_at (9 ∷ 12 ∷ []) 8 3 9 0 ≡ none)
+    × (burst_at (9 ∷ 12 ∷ []) 8 3 9 0 ≡ None)
     -- "tolerance becomes min(tolerance, max_gap − 1)"
     × (burst_at (4 ∷ 5 ∷ []) 8 4 99 0 ≡ is 4 5 0 0)
-    × (burst_at (4 ∷ 5 ∷ []) 9 4 99 0 ≡ none)
+    × (burst_at (4 ∷ 5 ∷ []) 9 4 99 0 ≡ None)
     × (burst_at (9 ∷ 10 ∷ []) 6 4 99 0 ≡ is 9 10 0 0)
-    × (burst_at (9 ∷ 10 ∷ []) 5 4 99 0 ≡ none)
+    × (burst_at (9 ∷ 10 ∷ []) 5 4 99 0 ≡ None)
     -- "The nearer side wins, left at equal distance": right nearer, equal, left nearer; a side that is none
     × (burst_at (1 ∷ 2 ∷ 7 ∷ 8 ∷ []) 5 4 3 0 ≡ is 7 8 0 0)
     × (burst_at (1 ∷ 2 ∷ 8 ∷ 9 ∷ []) 5 4 3 0 ≡ is 1 2 0 0)
@@ -57,16 +57,16 @@ pairs = (refl, refl, refl, refl, refl, refl, refl, refl, refl, refl, refl, refl,
 -- where both changes exist and are no pair: the side's gap and its distance, left and right; "with neither side the answer is none"
 pub sides :
     (burst_at (2 ∷ 5 ∷ 9 ∷ []) 6 4 3 0 ≡ is 2 5 0 0)
-    × (burst_at (1 ∷ 5 ∷ 9 ∷ []) 6 4 3 0 ≡ none)
+    × (burst_at (1 ∷ 5 ∷ 9 ∷ []) 6 4 3 0 ≡ None)
     × (burst_at (1 ∷ 2 ∷ 9 ∷ []) 5 4 3 0 ≡ is 1 2 0 0)
-    × (burst_at (1 ∷ 2 ∷ 9 ∷ []) 5 4 2 0 ≡ none)
+    × (burst_at (1 ∷ 2 ∷ 9 ∷ []) 5 4 2 0 ≡ None)
     × (burst_at (2 ∷ 6 ∷ 9 ∷ []) 5 4 3 0 ≡ is 6 9 0 0)
-    × (burst_at (2 ∷ 6 ∷ 10 ∷ []) 5 4 3 0 ≡ none)
+    × (burst_at (2 ∷ 6 ∷ 10 ∷ []) 5 4 3 0 ≡ None)
     × (burst_at (2 ∷ 7 ∷ 8 ∷ []) 5 4 2 0 ≡ is 7 8 0 0)
-    × (burst_at (2 ∷ 7 ∷ 8 ∷ []) 5 4 1 0 ≡ none)
-    × (burst_at [] 5 4 3 0 ≡ none)
-    × (burst_at (5 ∷ []) 5 4 3 0 ≡ none)
-    × (burst_at (5 ∷ []) 3 4 3 0 ≡ none)
+    × (burst_at (2 ∷ 7 ∷ 8 ∷ []) 5 4 1 0 ≡ None)
+    × (burst_at [] 5 4 3 0 ≡ None)
+    × (burst_at (5 ∷ []) 5 4 3 0 ≡ None)
+    × (burst_at (5 ∷ []) 3 4 3 0 ≡ None)
 unfolding toggles_of count_of node_of seek jump burst_by jump_steps steps_by best walk chunks
 sides = (refl, refl, refl, refl, refl, refl, refl, refl, refl, refl, refl)
 
@@ -100,28 +100,28 @@ abbrev short : ℕ → ℕ → ℕ → ℕ → Option Burst
 short sample gap tolerance budget = (burst_search (turning (1 ∷ 2 ∷ [])) 3 1 sample gap tolerance budget).found
 
 abbrev always : ℕ → ℕ → Counted Burst
-always len gap = bursted_by (λ p. record { found = some 1; steps = 5 }) (λ p. record { found = some 1; steps = 7 }) len 1 gap 3 0
+always len gap = bursted_by (λ p. record { found = Some 1; steps = 5 }) (λ p. record { found = Some 1; steps = 7 }) len 1 gap 3 0
 
 pub limits :
     -- "none if len = 0 or max_gap < 2"
-    (always 0 2 ≡ record { found = none; steps = 0 })
+    (always 0 2 ≡ record { found = None; steps = 0 })
     × (always 1 2 ≡ record { found = is 1 1 0 0; steps = 12 })
-    × (always 1 1 ≡ record { found = none; steps = 0 })
-    × (burst_at (3 ∷ 4 ∷ []) 3 1 0 0 ≡ none)
+    × (always 1 1 ≡ record { found = None; steps = 0 })
+    × (burst_at (3 ∷ 4 ∷ []) 3 1 0 0 ≡ None)
     × (burst_at (3 ∷ 4 ∷ []) 3 2 0 0 ≡ is 3 4 0 0)
     -- a place past the last sample: only the left side can win
     × (short 5 4 3 1 ≡ is 1 2 0 0)
-    × (short 6 4 99 1 ≡ none)
+    × (short 6 4 99 1 ≡ None)
     × (short 18446744073709551615 18446744073709551615 18446744073709551615 0 ≡ is 1 2 0 0)
     -- "sums of places above 2^64 − 1 count as that"
     × (sum 3 4 ≡ 7)
     × (sum 18446744073709551614 1 ≡ 18446744073709551615)
     × (sum 18446744073709551614 2 ≡ 18446744073709551615)
     × (short 1 18446744073709551614 0 1 ≡ is 1 2 0 0)
-    × (last_end some some 3 9 18446744073709551612 ≡ record { place = 18446744073709551615; jumps = 2 })
+    × (last_end Some Some 3 9 18446744073709551612 ≡ record { place = 18446744073709551615; jumps = 2 })
     -- a search that finds nothing ends the jumps
-    × (last_end (λ p. cond (ltb p 8) (some 6) none) some 3 9 5 ≡ record { place = 6; jumps = 1 })
-    × (first_end some (λ p. cond (ltb 2 p) (some 4) none) 3 9 6 ≡ record { place = 4; jumps = 1 })
+    × (last_end (λ p. cond (ltb p 8) (Some 6) None) Some 3 9 5 ≡ record { place = 6; jumps = 1 })
+    × (first_end Some (λ p. cond (ltb 2 p) (Some 4) None) 3 9 6 ≡ record { place = 4; jumps = 1 })
 unfolding toggles_of count_of node_of seek jump burst_by jump_steps steps_by best walk chunks
 limits = (refl, refl, refl, refl, refl, refl, refl, refl, refl, refl, refl, refl, refl, refl, refl)
 
@@ -185,7 +185,7 @@ pub nodes_read_growing :
     × (reads (1 ∷ 5 ∷ 6 ∷ []) 5 4 0 9 ≡ 10)
     × (reads (4 ∷ 5 ∷ 8 ∷ []) 4 4 0 9 ≡ 11)
     × (reads (4 ∷ 5 ∷ 9 ∷ []) 4 4 0 9 ≡ 10)
-    × (jump_steps (λ p. record { found = none; steps = 4 }) ltb 9 5 ≡ 4)
+    × (jump_steps (λ p. record { found = None; steps = 4 }) ltb 9 5 ≡ 4)
 unfolding toggles_of count_of node_of seek jump burst_by jump_steps steps_by best walk chunks
 nodes_read_growing = (refl, refl, refl, refl, refl, refl, refl, refl, refl, refl, refl, refl, refl, refl, refl, refl, refl, refl, refl, refl, refl, refl, refl, refl)
 

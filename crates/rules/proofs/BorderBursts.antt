@@ -3,7 +3,7 @@ use mathlib.Core.Path.{◌≡◌, refl, subst}
 use mathlib.Core.Bool.{true, false, false≢true}
 use mathlib.Core.List.{List, [], ◌∷◌}
 use mathlib.Core.Logic.{◌⊎◌, inl, inr}
-use mathlib.Core.Option.{Option, none, some}
+use Rattle.std.specs.Prelude.{Option, None, Some}
 use Prim.Native.Nat.{ℕ, ◌≤◌, ◌<◌}
 use native.Mathlib.Decide.{dec_lt}
 use native.Mathlib.Omega.{arith}
@@ -36,7 +36,7 @@ late = made 2 4 0 1
 abbrev early : Burst
 early = made 1 3 1 0
 
-pub found : (asked 2 2 ≡ some whole) × (asked 3 1 ≡ some late) × (asked 1 1 ≡ some early)
+pub found : (asked 2 2 ≡ Some whole) × (asked 3 1 ≡ Some late) × (asked 1 1 ≡ Some early)
 unfolding seek jump burst_by
 found = (refl, refl, refl)
 
@@ -120,20 +120,20 @@ shared = (
 )
 
 -- smaller: at its start, at its end, and none in either place
-pub smaller : (NoSmaller (some (made 1 3 0 0)) (some (made 2 3 0 0)) → ⊥)
-    × (NoSmaller (some (made 1 3 0 0)) (some (made 1 2 0 0)) → ⊥)
-    × (NoSmaller none (some (made 1 3 0 0)) → ⊥)
-    × (NoSmaller (some (made 1 3 0 0)) none → ⊥)
+pub smaller : (NoSmaller (Some (made 1 3 0 0)) (Some (made 2 3 0 0)) → ⊥)
+    × (NoSmaller (Some (made 1 3 0 0)) (Some (made 1 2 0 0)) → ⊥)
+    × (NoSmaller None (Some (made 1 3 0 0)) → ⊥)
+    × (NoSmaller (Some (made 1 3 0 0)) None → ⊥)
 smaller = (λ h. omega (arith, h.0), λ h. omega (arith, h.1), λ h. h, λ h. h)
 
 -- ---- "none exactly when none", whichever budget is larger
-pub none_whatever : (s : ℕ → ℕ) (len : ℕ) → len ≤ most_place → (mask sample gap tolerance budget other : ℕ) → burst s len mask sample gap tolerance budget ≡ none → burst s len mask sample gap tolerance other ≡ none
+pub none_whatever : (s : ℕ → ℕ) (len : ℕ) → len ≤ most_place → (mask sample gap tolerance budget other : ℕ) → burst s len mask sample gap tolerance budget ≡ None → burst s len mask sample gap tolerance other ≡ None
 none_whatever s len few mask sample gap tolerance budget other e = go (burst s len mask sample gap tolerance other) refl (dec_lt budget other)
   where
-    go : (o : Option Burst) → burst s len mask sample gap tolerance other ≡ o → Dec (budget < other) → o ≡ none
-    go none f h = refl
-    go (some b) f (yes h) = absurd ((rule_meets s len few).larger mask sample gap tolerance budget other (omega (arith, h)) none (some b) e f)
-    go (some b) f (no h) = absurd ((rule_meets s len few).larger mask sample gap tolerance other budget (omega (arith, h)) (some b) none f e)
+    go : (o : Option Burst) → burst s len mask sample gap tolerance other ≡ o → Dec (budget < other) → o ≡ None
+    go None f h = refl
+    go (Some b) f (yes h) = absurd ((rule_meets s len few).larger mask sample gap tolerance budget other (omega (arith, h)) None (Some b) e f)
+    go (Some b) f (no h) = absurd ((rule_meets s len few).larger mask sample gap tolerance other budget (omega (arith, h)) (Some b) None f e)
 
 -- ---- a list: changes at 1, 2, 5, 9 and 10, gap 3. Whatever is found below its budget is the first burst or the last, and the change at 5 is in none
 abbrev line : ℕ → ℕ
@@ -148,7 +148,7 @@ OnLine = IsChange line 20 1
 abbrev Found : Burst → Type 0
 Found = IsFound line 20 (λ (sample : ℕ). sample) Rule 1 3
 
-is_next : (from n : ℕ) → next line 20 1 from ≡ some n → IsNext line 20 (λ (sample : ℕ). sample) Rule 1 3 from n
+is_next : (from n : ℕ) → next line 20 1 from ≡ Some n → IsNext line 20 (λ (sample : ℕ). sample) Rule 1 3 from n
 is_next from n e =
     let r = neighbour line 20 1 false from n e in
     record { change = r.is; behind = r.asked.0; soonest = λ i c h. let no : i < n → ⊥ = r.first i c (h, c.most) in omega (arith, no) }

@@ -2,7 +2,7 @@
 use mathlib.Core.Path.{◌≡◌, refl}
 use mathlib.Core.Bool.{true, false}
 use mathlib.Core.List.{List, [], ◌∷◌}
-use mathlib.Core.Option.{none}
+use Rattle.std.specs.Prelude.{None}
 use Prim.Native.Nat.{ℕ}
 use lib.IntN.{ℤ, pos, negsuc}
 use lib.ListN.{length, get_or}
@@ -82,11 +82,11 @@ replays = (refl, refl, refl, refl, refl, refl, refl, refl, refl, refl, refl, ref
 
 -- ---- 14: "equal lines or a line above 15"
 abbrev sound : Store
-sound = store 1 8 5 none
+sound = store 1 8 5 None
 
 -- unit 3, and len above capacity
 abbrev wrong : Store
-wrong = store 3 8 9 none
+wrong = store 3 8 9 None
 
 abbrev asked : ℕ → ℕ → ℕ
 asked a b = encoder_refusal sound plenty a b

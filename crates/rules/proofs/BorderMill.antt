@@ -1,6 +1,6 @@
 -- The borders of a mill's rows and places, computed. 0 is no refusal. 02: CR 1. Assumes nothing.
 use mathlib.Core.Path.{◌≡◌, refl}
-use mathlib.Core.Option.{none, some}
+use Rattle.std.specs.Prelude.{None, Some}
 use Prim.Native.Nat.{ℕ}
 use lib.IntN.{ℤ, pos, negsuc}
 use Rattle.rules.specs.Refusal.{Store, level_short}
@@ -9,17 +9,17 @@ use Rattle.rules.proofs.BorderRows.{store, plenty, no_memory}
 
 -- five samples, without a mark, and with the mark at the fourth; and none
 abbrev plain : Store
-plain = store 1 8 5 none
+plain = store 1 8 5 None
 
 abbrev marked : Store
-marked = store 1 8 5 (some 3)
+marked = store 1 8 5 (Some 3)
 
 abbrev empty : Store
-empty = store 1 8 0 none
+empty = store 1 8 0 None
 
 -- unit 3, and len above capacity
 abbrev wrong : Store
-wrong = store 3 8 9 none
+wrong = store 3 8 9 None
 
 -- ---- 12: "a search or burst mask beyond the grant"
 abbrev search : ℕ → ℕ → ℕ
@@ -102,8 +102,8 @@ in_order = (refl, refl, refl, refl, refl, refl, refl, refl, refl, refl, refl, re
 
 -- ---- "places count from the mark, negative before it (from the first sample if there is no mark)"
 pub places :
-    (origin_of none ≡ 0)
-    × (origin_of (some 3) ≡ 3)
+    (origin_of None ≡ 0)
+    × (origin_of (Some 3) ≡ 3)
     × (mill_place 3 0 ≡ negsuc 2)
     × (mill_place 3 2 ≡ negsuc 0)
     × (mill_place 3 3 ≡ pos 0)
@@ -113,9 +113,9 @@ pub places :
     × (place_at 3 (negsuc 0) ≡ 2)
     × (place_at 3 (pos 0) ≡ 3)
     × (place_at 3 (pos 1) ≡ 4)
-    × (shown_place 3 none ≡ none)
-    × (shown_place 3 (some 2) ≡ some (negsuc 0))
-    × (shown_place 3 (some 3) ≡ some (pos 0))
-    × (shown_burst 3 none ≡ none)
-    × (shown_burst 3 (some (record { first = 2; last = 4; jumps_end = 7; jumps_start = 8 })) ≡ some (record { first = negsuc 0; last = pos 1; jumps_end = 7; jumps_start = 8 }))
+    × (shown_place 3 None ≡ None)
+    × (shown_place 3 (Some 2) ≡ Some (negsuc 0))
+    × (shown_place 3 (Some 3) ≡ Some (pos 0))
+    × (shown_burst 3 None ≡ None)
+    × (shown_burst 3 (Some (record { first = 2; last = 4; jumps_end = 7; jumps_start = 8 })) ≡ Some (record { first = negsuc 0; last = pos 1; jumps_end = 7; jumps_start = 8 }))
 places = (refl, refl, refl, refl, refl, refl, refl, refl, refl, refl, refl, refl, refl, refl, refl, refl)

@@ -2,7 +2,7 @@
 use mathlib.Core.Path.{◌≡◌, refl}
 use mathlib.Core.Bool.{true, false}
 use mathlib.Core.List.{[], ◌∷◌}
-use mathlib.Core.Option.{none, some}
+use Rattle.std.specs.Prelude.{None, Some}
 use Prim.Native.Nat.{ℕ, ◌+◌, ◌*◌, ◌^◌}
 use Rattle.rules.specs.Sample.{unit_of, sample_of, sample_count, list_from, samples_of, line}
 use Rattle.rules.specs.Node.{Node, Lines, toggles_of, differs, count_of, changes_in, most_count, numbers_of, cap_count, node_of, join, leaf, mirror, lines_of, cut, quiet, top_level, span, chunk, nodes_for, node_start, node_end, level_node}
@@ -128,49 +128,49 @@ t = sample_of 1 (0 ∷ 0 ∷ 1 ∷ 1 ∷ 3 ∷ [])
 
 -- "smallest i with from < i < len"
 pub nexts :
-    (next t 5 1 1 ≡ some 2)
-    × (next t 5 1 2 ≡ none)
-    × (next t 3 1 0 ≡ some 2)
-    × (next t 2 1 0 ≡ none)
-    × (next t 5 2 3 ≡ some 4)
-    × (next t 5 3 0 ≡ some 2)
-    × (next t 5 3 2 ≡ some 4)
-    × (next t 5 0 0 ≡ none)
-    × (next t 5 65532 0 ≡ none)
-    × (next t 5 1 18446744073709551615 ≡ none)
-    × (next t 0 1 0 ≡ none)
+    (next t 5 1 1 ≡ Some 2)
+    × (next t 5 1 2 ≡ None)
+    × (next t 3 1 0 ≡ Some 2)
+    × (next t 2 1 0 ≡ None)
+    × (next t 5 2 3 ≡ Some 4)
+    × (next t 5 3 0 ≡ Some 2)
+    × (next t 5 3 2 ≡ Some 4)
+    × (next t 5 0 0 ≡ None)
+    × (next t 5 65532 0 ≡ None)
+    × (next t 5 1 18446744073709551615 ≡ None)
+    × (next t 0 1 0 ≡ None)
 unfolding sample_of seek
 nexts = (refl, refl, refl, refl, refl, refl, refl, refl, refl, refl, refl)
 
 -- "largest such i with 1 ≤ i ≤ from"
 pub previouses :
-    (previous t 5 1 1 ≡ none)
-    × (previous t 5 1 2 ≡ some 2)
-    × (previous t 5 3 3 ≡ some 2)
-    × (previous t 5 3 4 ≡ some 4)
-    × (previous t 5 3 5 ≡ some 4)
-    × (previous t 4 3 100 ≡ some 2)
-    × (previous t 3 3 100 ≡ some 2)
-    × (previous t 2 3 100 ≡ none)
-    × (previous s 4 2 1 ≡ some 1)
-    × (previous s 2 2 9 ≡ some 1)
-    × (previous s 4 2 0 ≡ none)
-    × (previous t 0 1 100 ≡ none)
+    (previous t 5 1 1 ≡ None)
+    × (previous t 5 1 2 ≡ Some 2)
+    × (previous t 5 3 3 ≡ Some 2)
+    × (previous t 5 3 4 ≡ Some 4)
+    × (previous t 5 3 5 ≡ Some 4)
+    × (previous t 4 3 100 ≡ Some 2)
+    × (previous t 3 3 100 ≡ Some 2)
+    × (previous t 2 3 100 ≡ None)
+    × (previous s 4 2 1 ≡ Some 1)
+    × (previous s 2 2 9 ≡ Some 1)
+    × (previous s 4 2 0 ≡ None)
+    × (previous t 0 1 100 ≡ None)
 unfolding sample_of seek
 previouses = (refl, refl, refl, refl, refl, refl, refl, refl, refl, refl, refl, refl)
 
 -- "the node of [a, min(b,len)), or none if empty"
 pub summaries :
-    (summary t 5 1 2 ≡ some (node 0 0 0 0))
-    × (summary t 5 1 3 ≡ some (node 0 1 1 1))
-    × (summary t 5 2 2 ≡ none)
-    × (summary t 5 3 2 ≡ none)
-    × (summary t 5 4 9 ≡ some (node 3 3 0 0))
-    × (summary t 5 3 5 ≡ some (node 1 3 2 1))
-    × (summary t 4 3 5 ≡ some (node 1 1 0 0))
-    × (summary t 5 5 9 ≡ none)
-    × (cut_summary 5 none ≡ none)
-    × (cut_summary 6 (some (node 5 3 15 9)) ≡ some (lines 4 2 6))
+    (summary t 5 1 2 ≡ Some (node 0 0 0 0))
+    × (summary t 5 1 3 ≡ Some (node 0 1 1 1))
+    × (summary t 5 2 2 ≡ None)
+    × (summary t 5 3 2 ≡ None)
+    × (summary t 5 4 9 ≡ Some (node 3 3 0 0))
+    × (summary t 5 3 5 ≡ Some (node 1 3 2 1))
+    × (summary t 4 3 5 ≡ Some (node 1 1 0 0))
+    × (summary t 5 5 9 ≡ None)
+    × (cut_summary 5 None ≡ None)
+    × (cut_summary 6 (Some (node 5 3 15 9)) ≡ Some (lines 4 2 6))
 unfolding sample_of toggles_of count_of node_of
 summaries = (refl, refl, refl, refl, refl, refl, refl, refl, refl, refl)
 
@@ -210,8 +210,8 @@ pub counts :
     × (cap_count 4294967294 ≡ 4294967294)
     × (cap_count 4294967295 ≡ 4294967295)
     × (cap_count 4294967296 ≡ 4294967295)
-    × (count_in none ≡ 0)
-    × (count_in (some (node 1 2 3 4)) ≡ 4)
+    × (count_in None ≡ 0)
+    × (count_in (Some (node 1 2 3 4)) ≡ 4)
     -- cut at len, and any numbers
     × (density t 5 0 5 ≡ 2)
     × (density t 5 0 4 ≡ 1)

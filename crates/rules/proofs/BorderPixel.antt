@@ -2,7 +2,7 @@
 use mathlib.Core.Path.{◌≡◌, refl}
 use mathlib.Core.Bool.{true, false}
 use mathlib.Core.List.{[], ◌∷◌}
-use mathlib.Core.Option.{Option, none, some}
+use Rattle.std.specs.Prelude.{Option, None, Some}
 use Prim.Native.Nat.{ℕ, ◌+◌, ◌*◌}
 use lib.IntN.{pos, negsuc}
 use lib.Ieee.{Float, nan, inf, fin, add, mul, of_int}
@@ -55,7 +55,7 @@ abbrev view : Float → Float → View
 view start spp = record { start = start; spp = spp }
 
 abbrev from : ℕ → ℕ → Option Range
-from a b = some (record { from = a; to = b })
+from a b = Some (record { from = a; to = b })
 
 -- pixel px of 8 samples
 abbrev pixel : Float → Float → ℕ → Option Range
@@ -65,19 +65,19 @@ pub drawn_or_blank :
     -- −0.0, and just below 0: a and b, a alone, b alone
     (pixel (minus 0) (whole 0) 0 ≡ from 0 2)
     × (pixel (minus 0) (minus 0) 0 ≡ from 0 2)
-    × (pixel least (whole 0) 0 ≡ none)
+    × (pixel least (whole 0) 0 ≡ None)
     × (pixel least (whole 1) 0 ≡ from 0 2)
-    × (pixel (whole 0) least 0 ≡ none)
+    × (pixel (whole 0) least 0 ≡ None)
     -- b at 0, at −0.5 and at −1
     × (pixel (minus 1) (whole 1) 0 ≡ from 0 2)
-    × (pixel (minus 1) (fin false 1 (negsuc 0)) 0 ≡ none)
-    × (pixel (minus 2) (whole 1) 0 ≡ none)
+    × (pixel (minus 1) (fin false 1 (negsuc 0)) 0 ≡ None)
+    × (pixel (minus 2) (whole 1) 0 ≡ None)
     -- a at len − 1, just below len and at len
     × (pixel (whole 7) (whole 1) 0 ≡ from 7 8)
     × (pixel (fin false 31 (negsuc 1)) (whole 1) 0 ≡ from 7 8)
-    × (pixel (whole 8) (whole 1) 0 ≡ none)
+    × (pixel (whole 8) (whole 1) 0 ≡ None)
     -- len = 0
-    × (pixel_range (view (minus 1) (whole 2)) 0 0 ≡ none)
+    × (pixel_range (view (minus 1) (whole 2)) 0 0 ≡ None)
     × (pixel_range (view (whole 0) (whole 1)) 1 0 ≡ from 0 1)
 unfolding floor_of pixel_edge add mul of_int
 drawn_or_blank = (refl, refl, refl, refl, refl, refl, refl, refl, refl, refl, refl, refl, refl)
@@ -94,13 +94,13 @@ pub ends :
     × (pixel (whole 3) (whole 2) 0 ≡ from 3 6)
     × (pixel (whole 5) (minus 2) 0 ≡ from 5 7)
     × (pixel (whole 5) (minus 2) 1 ≡ from 3 5)
-    × (pixel (whole 5) (minus 2) 2 ≡ none)
+    × (pixel (whole 5) (minus 2) 2 ≡ None)
     -- an edge far beyond len and at +∞; far below 0 and at −∞
     × (pixel (whole 0) (fin false 1 (pos 64)) 0 ≡ from 0 8)
     × (pixel (fin true 9007199254740991 (pos 971)) largest 0 ≡ from 0 2)
     × (pixel (fin true 9007199254740991 (pos 971)) largest 1 ≡ from 0 8)
-    × (pixel (whole 0) largest 2 ≡ none)
-    × (pixel (whole 0) (fin true 9007199254740991 (pos 971)) 1 ≡ none)
+    × (pixel (whole 0) largest 2 ≡ None)
+    × (pixel (whole 0) (fin true 9007199254740991 (pos 971)) 1 ≡ None)
     × (range_of under over 8 ≡ from 0 8)
     × (range_of under (at (pos 3)) 8 ≡ from 0 4)
     × (end_of under 3 8 ≡ 5)
@@ -117,16 +117,16 @@ moved start spp px = range_from 3 (view start spp) 8 px
 pub from_mark :
     (moved (minus 3) (whole 1) 0 ≡ from 0 2)
     × (moved (minus 4) (whole 1) 0 ≡ from 0 2)
-    × (moved (minus 5) (whole 1) 0 ≡ none)
+    × (moved (minus 5) (whole 1) 0 ≡ None)
     × (moved (whole 0) (whole 1) 0 ≡ from 3 5)
     × (moved (whole 0) (whole 1) 1 ≡ from 4 6)
     × (moved (whole 4) (whole 1) 0 ≡ from 7 8)
-    × (moved (whole 5) (whole 1) 0 ≡ none)
+    × (moved (whole 5) (whole 1) 0 ≡ None)
     × (moved (minus 3) (whole 7) 0 ≡ from 0 8)
     × (moved least (whole 0) 0 ≡ from 2 4)
     × (moved (fin true 9007199254740991 (pos 971)) largest 1 ≡ from 3 8)
-    × (moved (whole 0) largest 2 ≡ none)
-    × (moved (whole 0) (fin true 9007199254740991 (pos 971)) 1 ≡ none)
+    × (moved (whole 0) largest 2 ≡ None)
+    × (moved (whole 0) (fin true 9007199254740991 (pos 971)) 1 ≡ None)
     × (range_from 0 (view (whole 5) (minus 2)) 8 1 ≡ from 3 5)
 unfolding floor_of pixel_edge add mul of_int
 from_mark = (refl, refl, refl, refl, refl, refl, refl, refl, refl, refl, refl, refl, refl)

@@ -3,7 +3,7 @@
 use mathlib.Core.Path.{◌≡◌, refl}
 use mathlib.Core.Bool.{Bool, true, false}
 use mathlib.Core.List.{List, [], ◌∷◌, ◌++◌}
-use mathlib.Core.Option.{Option, none, some}
+use Rattle.std.specs.Prelude.{Option, None, Some}
 use Prim.Native.Nat.{ℕ}
 use lib.IntN.{negsuc}
 use lib.ListN.{length, take, drop}
@@ -126,32 +126,32 @@ push c g b = left_of c enough eight g b
 -- ---- none of its samples fires: all go to the ring, and the store is as it was
 -- capacity 8, no limit
 abbrev waits_with : ℕ → Option ℕ → ℕ → ℕ → Recorder
-waits_with pre previous place kept = recorder (store 1 8 0 none) 0 pre rises previous place kept
+waits_with pre previous place kept = recorder (store 1 8 0 None) 0 pre rises previous place kept
 
 abbrev waits : Option ℕ → ℕ → ℕ → Recorder
 waits previous place kept = waits_with 3 previous place kept
 
 -- unit 2: capacity 4, pre 2
 abbrev waits2 : ℕ → ℕ → ℕ → Recorder
-waits2 previous place kept = recorder (store 2 4 0 none) 0 2 rises (some previous) place kept
+waits2 previous place kept = recorder (store 2 4 0 None) 0 2 rises (Some previous) place kept
 
 -- a full store, with a limit and a mark
 abbrev waits_full : ℕ → ℕ → ℕ → Recorder
-waits_full previous place kept = recorder (store 1 8 8 (some 2)) 8 3 rises (some previous) place kept
+waits_full previous place kept = recorder (store 1 8 8 (Some 2)) 8 3 rises (Some previous) place kept
 
 pub waiting_push :
     -- up to the end of the ring, past it; more samples than slots; none
-    (push (waits none 0 0) four (2 ∷ 4 ∷ []) ≡ left going_on (waits (some 4) 2 2) eight (2 ∷ 4 ∷ 92 ∷ 93 ∷ []))
-    × (push (waits none 0 0) four (2 ∷ 4 ∷ 6 ∷ []) ≡ left going_on (waits (some 6) 0 3) eight (2 ∷ 4 ∷ 6 ∷ 93 ∷ []))
-    × (push (waits (some 4) 2 2) four (6 ∷ 8 ∷ []) ≡ left going_on (waits (some 8) 1 3) eight (8 ∷ 91 ∷ 6 ∷ 93 ∷ []))
-    × (push (waits (some 4) 1 1) four (2 ∷ 4 ∷ 6 ∷ 8 ∷ 10 ∷ []) ≡ left going_on (waits (some 10) 0 3) eight (6 ∷ 8 ∷ 10 ∷ 93 ∷ []))
-    × (push (waits (some 4) 1 1) four [] ≡ left going_on (waits (some 4) 1 1) eight four)
+    (push (waits None 0 0) four (2 ∷ 4 ∷ []) ≡ left going_on (waits (Some 4) 2 2) eight (2 ∷ 4 ∷ 92 ∷ 93 ∷ []))
+    × (push (waits None 0 0) four (2 ∷ 4 ∷ 6 ∷ []) ≡ left going_on (waits (Some 6) 0 3) eight (2 ∷ 4 ∷ 6 ∷ 93 ∷ []))
+    × (push (waits (Some 4) 2 2) four (6 ∷ 8 ∷ []) ≡ left going_on (waits (Some 8) 1 3) eight (8 ∷ 91 ∷ 6 ∷ 93 ∷ []))
+    × (push (waits (Some 4) 1 1) four (2 ∷ 4 ∷ 6 ∷ 8 ∷ 10 ∷ []) ≡ left going_on (waits (Some 10) 0 3) eight (6 ∷ 8 ∷ 10 ∷ 93 ∷ []))
+    × (push (waits (Some 4) 1 1) four [] ≡ left going_on (waits (Some 4) 1 1) eight four)
     -- the sample before decides: none, an odd one
-    × (push (waits none 0 0) four (1 ∷ []) ≡ left going_on (waits (some 1) 1 1) eight (1 ∷ 91 ∷ 92 ∷ 93 ∷ []))
-    × (push (waits (some 5) 2 2) four (1 ∷ []) ≡ left going_on (waits (some 1) 0 3) eight (90 ∷ 91 ∷ 1 ∷ 93 ∷ []))
+    × (push (waits None 0 0) four (1 ∷ []) ≡ left going_on (waits (Some 1) 1 1) eight (1 ∷ 91 ∷ 92 ∷ 93 ∷ []))
+    × (push (waits (Some 5) 2 2) four (1 ∷ []) ≡ left going_on (waits (Some 1) 0 3) eight (90 ∷ 91 ∷ 1 ∷ 93 ∷ []))
     -- one slot, and none
-    × (push (waits_with 1 none 0 0) four (2 ∷ 4 ∷ []) ≡ left going_on (waits_with 1 (some 4) 0 1) eight (4 ∷ 91 ∷ 92 ∷ 93 ∷ []))
-    × (push (waits_with 0 none 0 0) four (2 ∷ 4 ∷ []) ≡ left going_on (waits_with 0 (some 4) 0 0) eight four)
+    × (push (waits_with 1 None 0 0) four (2 ∷ 4 ∷ []) ≡ left going_on (waits_with 1 (Some 4) 0 1) eight (4 ∷ 91 ∷ 92 ∷ 93 ∷ []))
+    × (push (waits_with 0 None 0 0) four (2 ∷ 4 ∷ []) ≡ left going_on (waits_with 0 (Some 4) 0 0) eight four)
     -- unit 2; the leftover byte would be an odd sample
     × (push (waits2 2 1 1) six (4 ∷ 0 ∷ 6 ∷ 1 ∷ 1 ∷ []) ≡ left going_on (waits2 262 1 2) eight (6 ∷ 1 ∷ 4 ∷ 0 ∷ 94 ∷ 95 ∷ []))
     × (push (waits2 2 1 1) six (1 ∷ []) ≡ left going_on (waits2 2 1 1) eight six)
@@ -162,32 +162,32 @@ waiting_push = (refl, refl, refl, refl, refl, refl, refl, refl, refl, refl, refl
 
 -- ---- sample i of it fires. The ring holds 91 92 90 where it has wrapped and place is 1
 abbrev fired_with : ℕ → ℕ → ℕ → ℕ → Recorder
-fired_with pre len mark v = recorder (store 1 8 len (some mark)) 0 pre unarmed (some v) 0 0
+fired_with pre len mark v = recorder (store 1 8 len (Some mark)) 0 pre unarmed (Some v) 0 0
 
 abbrev fired : ℕ → ℕ → ℕ → Recorder
 fired len mark v = fired_with 3 len mark v
 
 pub firing_push :
     -- i is 0, below pre, at pre, above it, and the ring full: "the run starts at T − min(T, pre), the mark is min(T, pre)"
-    (push (waits (some 90) 1 3) four (1 ∷ 2 ∷ 3 ∷ []) ≡ left going_on (fired 6 3 1) (over (91 ∷ 92 ∷ 90 ∷ 1 ∷ 2 ∷ 3 ∷ [])) four)
-    × (push (waits (some 90) 1 3) four (2 ∷ 1 ∷ 4 ∷ []) ≡ left going_on (fired 5 3 1) (over (92 ∷ 90 ∷ 2 ∷ 1 ∷ 4 ∷ [])) four)
-    × (push (waits (some 90) 1 3) four (2 ∷ 4 ∷ 5 ∷ 6 ∷ []) ≡ left going_on (fired 5 3 5) (over (90 ∷ 2 ∷ 4 ∷ 5 ∷ 6 ∷ [])) four)
-    × (push (waits (some 90) 1 3) four (2 ∷ 4 ∷ 6 ∷ 5 ∷ []) ≡ left going_on (fired 4 3 5) (over (2 ∷ 4 ∷ 6 ∷ 5 ∷ [])) four)
-    × (push (waits (some 90) 1 3) four (2 ∷ 4 ∷ 6 ∷ 8 ∷ 5 ∷ 7 ∷ []) ≡ left going_on (fired 5 3 5) (over (4 ∷ 6 ∷ 8 ∷ 5 ∷ 7 ∷ [])) four)
+    (push (waits (Some 90) 1 3) four (1 ∷ 2 ∷ 3 ∷ []) ≡ left going_on (fired 6 3 1) (over (91 ∷ 92 ∷ 90 ∷ 1 ∷ 2 ∷ 3 ∷ [])) four)
+    × (push (waits (Some 90) 1 3) four (2 ∷ 1 ∷ 4 ∷ []) ≡ left going_on (fired 5 3 1) (over (92 ∷ 90 ∷ 2 ∷ 1 ∷ 4 ∷ [])) four)
+    × (push (waits (Some 90) 1 3) four (2 ∷ 4 ∷ 5 ∷ 6 ∷ []) ≡ left going_on (fired 5 3 5) (over (90 ∷ 2 ∷ 4 ∷ 5 ∷ 6 ∷ [])) four)
+    × (push (waits (Some 90) 1 3) four (2 ∷ 4 ∷ 6 ∷ 5 ∷ []) ≡ left going_on (fired 4 3 5) (over (2 ∷ 4 ∷ 6 ∷ 5 ∷ [])) four)
+    × (push (waits (Some 90) 1 3) four (2 ∷ 4 ∷ 6 ∷ 8 ∷ 5 ∷ 7 ∷ []) ≡ left going_on (fired 5 3 5) (over (4 ∷ 6 ∷ 8 ∷ 5 ∷ 7 ∷ [])) four)
     -- one sample kept: kept + i below pre, at pre, above it
-    × (push (waits (some 90) 1 1) four (1 ∷ []) ≡ left going_on (fired 2 1 1) (over (90 ∷ 1 ∷ [])) four)
-    × (push (waits (some 90) 1 1) four (2 ∷ 1 ∷ []) ≡ left going_on (fired 3 2 1) (over (90 ∷ 2 ∷ 1 ∷ [])) four)
-    × (push (waits (some 90) 1 1) four (2 ∷ 4 ∷ 1 ∷ []) ≡ left going_on (fired 4 3 1) (over (90 ∷ 2 ∷ 4 ∷ 1 ∷ [])) four)
-    × (push (waits (some 90) 1 1) four (2 ∷ 4 ∷ 6 ∷ 1 ∷ []) ≡ left going_on (fired 4 3 1) (over (2 ∷ 4 ∷ 6 ∷ 1 ∷ [])) four)
+    × (push (waits (Some 90) 1 1) four (1 ∷ []) ≡ left going_on (fired 2 1 1) (over (90 ∷ 1 ∷ [])) four)
+    × (push (waits (Some 90) 1 1) four (2 ∷ 1 ∷ []) ≡ left going_on (fired 3 2 1) (over (90 ∷ 2 ∷ 1 ∷ [])) four)
+    × (push (waits (Some 90) 1 1) four (2 ∷ 4 ∷ 1 ∷ []) ≡ left going_on (fired 4 3 1) (over (90 ∷ 2 ∷ 4 ∷ 1 ∷ [])) four)
+    × (push (waits (Some 90) 1 1) four (2 ∷ 4 ∷ 6 ∷ 1 ∷ []) ≡ left going_on (fired 4 3 1) (over (2 ∷ 4 ∷ 6 ∷ 1 ∷ [])) four)
     -- two kept, not wrapped; none, and a first sample that does not fire
-    × (push (waits (some 90) 2 2) four (1 ∷ []) ≡ left going_on (fired 3 2 1) (over (90 ∷ 91 ∷ 1 ∷ [])) four)
-    × (push (waits none 0 0) four (1 ∷ 2 ∷ 3 ∷ []) ≡ left going_on (fired 3 2 3) (over (1 ∷ 2 ∷ 3 ∷ [])) four)
-    × (push (waits none 0 0) four (2 ∷ 4 ∷ 6 ∷ 8 ∷ 1 ∷ []) ≡ left going_on (fired 4 3 1) (over (4 ∷ 6 ∷ 8 ∷ 1 ∷ [])) four)
-    × (push (recorder (store 1 8 0 none) 0 3 odd none 0 0) four (1 ∷ 2 ∷ []) ≡ left going_on (fired 2 0 1) (over (1 ∷ 2 ∷ [])) four)
+    × (push (waits (Some 90) 2 2) four (1 ∷ []) ≡ left going_on (fired 3 2 1) (over (90 ∷ 91 ∷ 1 ∷ [])) four)
+    × (push (waits None 0 0) four (1 ∷ 2 ∷ 3 ∷ []) ≡ left going_on (fired 3 2 3) (over (1 ∷ 2 ∷ 3 ∷ [])) four)
+    × (push (waits None 0 0) four (2 ∷ 4 ∷ 6 ∷ 8 ∷ 1 ∷ []) ≡ left going_on (fired 4 3 1) (over (4 ∷ 6 ∷ 8 ∷ 1 ∷ [])) four)
+    × (push (recorder (store 1 8 0 None) 0 3 odd None 0 0) four (1 ∷ 2 ∷ []) ≡ left going_on (fired 2 0 1) (over (1 ∷ 2 ∷ [])) four)
     -- pre is 1, and 0
-    × (push (waits_with 1 (some 90) 0 1) four (1 ∷ []) ≡ left going_on (fired_with 1 2 1 1) (over (90 ∷ 1 ∷ [])) four)
-    × (push (waits_with 1 (some 90) 0 1) four (2 ∷ 4 ∷ 1 ∷ []) ≡ left going_on (fired_with 1 2 1 1) (over (4 ∷ 1 ∷ [])) four)
-    × (push (waits_with 0 (some 90) 0 0) four (2 ∷ 4 ∷ 1 ∷ 6 ∷ []) ≡ left going_on (fired_with 0 2 0 1) (over (1 ∷ 6 ∷ [])) four)
+    × (push (waits_with 1 (Some 90) 0 1) four (1 ∷ []) ≡ left going_on (fired_with 1 2 1 1) (over (90 ∷ 1 ∷ [])) four)
+    × (push (waits_with 1 (Some 90) 0 1) four (2 ∷ 4 ∷ 1 ∷ []) ≡ left going_on (fired_with 1 2 1 1) (over (4 ∷ 1 ∷ [])) four)
+    × (push (waits_with 0 (Some 90) 0 0) four (2 ∷ 4 ∷ 1 ∷ 6 ∷ []) ≡ left going_on (fired_with 0 2 0 1) (over (1 ∷ 6 ∷ [])) four)
 unfolding level_short sample_of list_from matches fires first_fire last_of place_after ring_bytes plan left_of
 firing_push = (refl, refl, refl, refl, refl, refl, refl, refl, refl, refl, refl, refl, refl, refl, refl, refl)
 
@@ -196,7 +196,7 @@ abbrev wrapped2 : Recorder
 wrapped2 = waits2 2 1 2
 
 abbrev fired2 : ℕ → ℕ → Recorder
-fired2 len v = recorder (store 2 4 len (some 2)) 0 2 unarmed (some v) 0 0
+fired2 len v = recorder (store 2 4 len (Some 2)) 0 2 unarmed (Some v) 0 0
 
 pub firing_push_2 :
     (push wrapped2 six (1 ∷ 0 ∷ 2 ∷ 0 ∷ 9 ∷ []) ≡ left going_on (fired2 4 1) (92 ∷ 93 ∷ 90 ∷ 91 ∷ 1 ∷ 0 ∷ 2 ∷ 0 ∷ []) six)
@@ -207,10 +207,10 @@ firing_push_2 = (refl, refl, refl)
 
 -- ---- "Limit above 0 keeps the run's first limit samples"; "complete exactly when the recorder is unarmed, limit is above 0 and len = limit"
 abbrev limits : ℕ → Recorder
-limits limit = recorder (store 1 8 0 none) limit 3 rises (some 90) 1 3
+limits limit = recorder (store 1 8 0 None) limit 3 rises (Some 90) 1 3
 
 abbrev fired_within : ℕ → ℕ → Recorder
-fired_within limit len = recorder (store 1 8 len (some 3)) limit 3 unarmed (some 1) 0 0
+fired_within limit len = recorder (store 1 8 len (Some 3)) limit 3 unarmed (Some 1) 0 0
 
 pub limited :
     (room_for 0 5 9 ≡ 9)
@@ -235,28 +235,28 @@ limited = (refl, refl, refl, refl, refl, refl, refl, refl, refl, refl, refl, ref
 
 -- records that no list makes: pre is above limit; samples are stored, and there is a mark, while it waits; two samples are kept, and the ring place is 0
 abbrev waits_behind : ℕ → Option ℕ → ℕ → Recorder
-waits_behind len mark limit = recorder (store 1 8 len mark) limit 3 rises (some 90) 1 3
+waits_behind len mark limit = recorder (store 1 8 len mark) limit 3 rises (Some 90) 1 3
 
 pub no_list_makes :
     (push (limits 2) four (1 ∷ 2 ∷ 3 ∷ []) ≡ left complete (fired_within 2 2) (over (91 ∷ 92 ∷ [])) four)
-    × (push (waits_behind 1 (some 1) 5) four (1 ∷ 2 ∷ 3 ∷ []) ≡ left complete (fired_within 5 5) (over (80 ∷ 91 ∷ 92 ∷ 90 ∷ 1 ∷ [])) four)
-    × (push (waits_behind 2 none 2) four (1 ∷ 2 ∷ 3 ∷ []) ≡ left complete (fired_within 2 2) eight four)
-    × ((plan (waits_behind 2 none 2) four (1 ∷ 2 ∷ 3 ∷ [])).recorder ≡ fired_within 2 2)
-    × (push (waits (some 92) 0 2) four (1 ∷ []) ≡ left going_on (fired 3 2 1) (over (91 ∷ 92 ∷ 1 ∷ [])) four)
+    × (push (waits_behind 1 (Some 1) 5) four (1 ∷ 2 ∷ 3 ∷ []) ≡ left complete (fired_within 5 5) (over (80 ∷ 91 ∷ 92 ∷ 90 ∷ 1 ∷ [])) four)
+    × (push (waits_behind 2 None 2) four (1 ∷ 2 ∷ 3 ∷ []) ≡ left complete (fired_within 2 2) eight four)
+    × ((plan (waits_behind 2 None 2) four (1 ∷ 2 ∷ 3 ∷ [])).recorder ≡ fired_within 2 2)
+    × (push (waits (Some 92) 0 2) four (1 ∷ []) ≡ left going_on (fired 3 2 1) (over (91 ∷ 92 ∷ 1 ∷ [])) four)
 unfolding level_short sample_of list_from matches fires first_fire last_of place_after ring_bytes plan left_of
 no_list_makes = (refl, refl, refl, refl, refl)
 
 -- ---- "a push on an unarmed recorder goes straight to the store"; "unarmed pushes change none of the three"
 abbrev straight : ℕ → ℕ → Recorder
-straight limit len = recorder (store 1 8 len (some 1)) limit 3 unarmed (some 7) 1 2
+straight limit len = recorder (store 1 8 len (Some 1)) limit 3 unarmed (Some 7) 1 2
 
 abbrev straight2 : ℕ → Recorder
-straight2 len = recorder (store 2 4 len (some 0)) 0 2 unarmed (some 7) 1 2
+straight2 len = recorder (store 2 4 len (Some 0)) 0 2 unarmed (Some 7) 1 2
 
 pub unarmed_push :
     (push (straight 0 2) four (1 ∷ 2 ∷ 3 ∷ []) ≡ left going_on (straight 0 5) (over (80 ∷ 81 ∷ 1 ∷ 2 ∷ 3 ∷ [])) four)
     × (push (straight 0 2) four [] ≡ left going_on (straight 0 2) eight four)
-    × (push (recorder (store 1 8 0 none) 0 0 unarmed none 0 0) [] [] ≡ left going_on (recorder (store 1 8 0 none) 0 0 unarmed none 0 0) eight [])
+    × (push (recorder (store 1 8 0 None) 0 0 unarmed None 0 0) [] [] ≡ left going_on (recorder (store 1 8 0 None) 0 0 unarmed None 0 0) eight [])
     -- up to the limit and past it, and once it is reached
     × (push (straight 5 2) four (1 ∷ 2 ∷ []) ≡ left going_on (straight 5 4) (over (80 ∷ 81 ∷ 1 ∷ 2 ∷ [])) four)
     × (push (straight 5 2) four (1 ∷ 2 ∷ 3 ∷ []) ≡ left complete (straight 5 5) (over (80 ∷ 81 ∷ 1 ∷ 2 ∷ 3 ∷ [])) four)
@@ -273,11 +273,11 @@ unarmed_push = (refl, refl, refl, refl, refl, refl, refl, refl, refl, refl, refl
 -- ---- 1, 2 and 8: "A refusal returns its number, the record as given .., all memory unchanged"
 -- a run of six in a store of this capacity
 abbrev holds : ℕ → ℕ → Recorder
-holds capacity limit = recorder (store 1 capacity 0 none) limit 3 rises (some 90) 1 3
+holds capacity limit = recorder (store 1 capacity 0 None) limit 3 rises (Some 90) 1 3
 
 -- more kept than pre
 abbrev wrong : Armed → Recorder
-wrong armed = recorder (store 1 8 2 none) 0 3 armed (some 90) 1 4
+wrong armed = recorder (store 1 8 2 None) 0 3 armed (Some 90) 1 4
 
 -- refused with n, and nothing changed
 abbrev same : ℕ → Recorder → List ℕ → Left
@@ -303,7 +303,7 @@ pub refused_push :
     × (left_of (straight 0 2) no_memory eight four seven ≡ same 2 (straight 0 2) four)
     × (push (straight 0 2) (90 ∷ 91 ∷ []) seven ≡ same 2 (straight 0 2) (90 ∷ 91 ∷ []))
     × (push (holds 5 0) (90 ∷ 91 ∷ []) (1 ∷ 2 ∷ 3 ∷ []) ≡ same 2 (holds 5 0) (90 ∷ 91 ∷ []))
-    × (push (waits none 0 0) (90 ∷ 91 ∷ []) (2 ∷ []) ≡ same 2 (waits none 0 0) (90 ∷ 91 ∷ []))
+    × (push (waits None 0 0) (90 ∷ 91 ∷ []) (2 ∷ []) ≡ same 2 (waits None 0 0) (90 ∷ 91 ∷ []))
     -- 1 before both
     × (left_of (wrong unarmed) no_memory eight (90 ∷ 91 ∷ []) seven ≡ same 1 (wrong unarmed) (90 ∷ 91 ∷ []))
     × (left_of (wrong rises) no_memory eight (90 ∷ 91 ∷ []) seven ≡ same 1 (wrong rises) (90 ∷ 91 ∷ []))
@@ -334,11 +334,11 @@ abbrev largest : ℕ → ℕ → Settings
 largest channels rate = settings channels 67108864 0 [] (seconds one) rate
 
 pub started :
-    (start_rule (settings 8 8 4 rising0 (fraction half) 0) enough 2 ≡ gives (recorder (store 1 8 0 none) 4 2 rises none 0 0) false)
-    × (start_rule (settings 9 4 0 [] (seconds one) 3) enough 6 ≡ gives (recorder (store 2 4 0 none) 0 3 unarmed none 0 0) false)
-    × (start_rule (largest 9 33554432) plenty 67108864 ≡ gives (recorder (store 2 67108864 0 none) 0 33554432 unarmed none 0 0) false)
-    × (start_rule (largest 9 33554433) plenty 67108864 ≡ gives (recorder (store 2 67108864 0 none) 0 33554432 unarmed none 0 0) true)
-    × (start_rule (largest 8 33554433) plenty 67108864 ≡ gives (recorder (store 1 67108864 0 none) 0 33554433 unarmed none 0 0) false)
+    (start_rule (settings 8 8 4 rising0 (fraction half) 0) enough 2 ≡ gives (recorder (store 1 8 0 None) 4 2 rises None 0 0) false)
+    × (start_rule (settings 9 4 0 [] (seconds one) 3) enough 6 ≡ gives (recorder (store 2 4 0 None) 0 3 unarmed None 0 0) false)
+    × (start_rule (largest 9 33554432) plenty 67108864 ≡ gives (recorder (store 2 67108864 0 None) 0 33554432 unarmed None 0 0) false)
+    × (start_rule (largest 9 33554433) plenty 67108864 ≡ gives (recorder (store 2 67108864 0 None) 0 33554432 unarmed None 0 0) true)
+    × (start_rule (largest 8 33554433) plenty 67108864 ≡ gives (recorder (store 1 67108864 0 None) 0 33554433 unarmed None 0 0) false)
     -- a refusal gives none
     × (start_rule (settings 9 4 0 [] (seconds one) 3) enough 5 ≡ unless 7 (begun (largest 9 0)))
     × (start_rule (settings 9 4 0 [] (seconds one) 3) no_memory 5 ≡ unless 2 (begun (largest 9 0)))
@@ -357,21 +357,21 @@ abbrev after : ℕ → Armed → List ℕ → Beside
 after pre armed xs = beside_of (rule 1 8 0 pre armed) xs
 
 pub besides :
-    (beside_in (recorder (store 1 8 6 (some 5)) 7 4 rises (some 3) 2 1) ≡ beside rises (some 3) 2 1)
+    (beside_in (recorder (store 1 8 6 (Some 5)) 7 4 rises (Some 3) 2 1) ≡ beside rises (Some 3) 2 1)
     -- it waits: k below pre, at pre, above it; pre is 1, and 0
-    × (after 3 rises [] ≡ beside rises none 0 0)
-    × (after 3 rises (2 ∷ 4 ∷ []) ≡ beside rises (some 4) 2 2)
-    × (after 3 rises (2 ∷ 4 ∷ 6 ∷ []) ≡ beside rises (some 6) 0 3)
-    × (after 3 rises (2 ∷ 4 ∷ 6 ∷ 8 ∷ []) ≡ beside rises (some 8) 1 3)
-    × (after 1 rises (2 ∷ 4 ∷ []) ≡ beside rises (some 4) 0 1)
-    × (after 0 rises (2 ∷ 4 ∷ []) ≡ beside rises (some 4) 0 0)
-    × (after 3 rises (1 ∷ []) ≡ beside rises (some 1) 1 1)
+    × (after 3 rises [] ≡ beside rises None 0 0)
+    × (after 3 rises (2 ∷ 4 ∷ []) ≡ beside rises (Some 4) 2 2)
+    × (after 3 rises (2 ∷ 4 ∷ 6 ∷ []) ≡ beside rises (Some 6) 0 3)
+    × (after 3 rises (2 ∷ 4 ∷ 6 ∷ 8 ∷ []) ≡ beside rises (Some 8) 1 3)
+    × (after 1 rises (2 ∷ 4 ∷ []) ≡ beside rises (Some 4) 0 1)
+    × (after 0 rises (2 ∷ 4 ∷ []) ≡ beside rises (Some 4) 0 0)
+    × (after 3 rises (1 ∷ []) ≡ beside rises (Some 1) 1 1)
     -- it has fired: "the firing sample as the previous one", whatever came after it
-    × (after 3 rises (2 ∷ 1 ∷ []) ≡ beside unarmed (some 1) 0 0)
-    × (after 3 rises (2 ∷ 4 ∷ 6 ∷ 8 ∷ 5 ∷ 6 ∷ 7 ∷ []) ≡ beside unarmed (some 5) 0 0)
-    × (after 3 odd (1 ∷ 2 ∷ []) ≡ beside unarmed (some 1) 0 0)
+    × (after 3 rises (2 ∷ 1 ∷ []) ≡ beside unarmed (Some 1) 0 0)
+    × (after 3 rises (2 ∷ 4 ∷ 6 ∷ 8 ∷ 5 ∷ 6 ∷ 7 ∷ []) ≡ beside unarmed (Some 5) 0 0)
+    × (after 3 odd (1 ∷ 2 ∷ []) ≡ beside unarmed (Some 1) 0 0)
     -- it was never armed
-    × (after 3 unarmed (2 ∷ 4 ∷ []) ≡ beside unarmed none 0 0)
+    × (after 3 unarmed (2 ∷ 4 ∷ []) ≡ beside unarmed None 0 0)
     -- what it answers: waiting, fired, never armed
     × (told (rule 1 8 2 1 rises) (2 ∷ 4 ∷ []) ≡ going_on)
     × (told (rule 1 8 3 1 rises) (2 ∷ 4 ∷ 1 ∷ []) ≡ going_on)
@@ -446,13 +446,13 @@ long2 =
     ∷ []
 
 pub in_turn_lem :
-    (in_turn rule13 ((0 ∷ 0 ∷ []) ∷ []) ≡ held (going_on ∷ []) (beside rises (some 0) 0 2) [] none)
-    × (in_turn rule13 ((0 ∷ 0 ∷ []) ∷ (0 ∷ 1 ∷ 1 ∷ []) ∷ []) ≡ held (going_on ∷ complete ∷ []) (beside unarmed (some 1) 0 0) (0 ∷ 0 ∷ 1 ∷ 1 ∷ []) (some 2))
+    (in_turn rule13 ((0 ∷ 0 ∷ []) ∷ []) ≡ held (going_on ∷ []) (beside rises (Some 0) 0 2) [] None)
+    × (in_turn rule13 ((0 ∷ 0 ∷ []) ∷ (0 ∷ 1 ∷ 1 ∷ []) ∷ []) ≡ held (going_on ∷ complete ∷ []) (beside unarmed (Some 1) 0 0) (0 ∷ 0 ∷ 1 ∷ 1 ∷ []) (Some 2))
     × (by_rule rule13 ((0 ∷ 0 ∷ []) ∷ []) ≡ in_turn rule13 ((0 ∷ 0 ∷ []) ∷ []))
     × (by_rule rule13 ((0 ∷ 0 ∷ []) ∷ (0 ∷ 1 ∷ 1 ∷ []) ∷ []) ≡ in_turn rule13 ((0 ∷ 0 ∷ []) ∷ (0 ∷ 1 ∷ 1 ∷ []) ∷ []))
-    × (in_turn rule10 (take 1 pushes10) ≡ held (going_on ∷ []) (beside rises (some 0) 1 2) [] none)
-    × (in_turn rule10 (take 2 pushes10) ≡ held (going_on ∷ refused 8 ∷ []) (beside rises (some 0) 1 2) [] none)
-    × (in_turn rule10 pushes10 ≡ held (going_on ∷ refused 8 ∷ going_on ∷ []) (beside unarmed (some 1) 0 0) (0 ∷ 0 ∷ 1 ∷ []) (some 2))
+    × (in_turn rule10 (take 1 pushes10) ≡ held (going_on ∷ []) (beside rises (Some 0) 1 2) [] None)
+    × (in_turn rule10 (take 2 pushes10) ≡ held (going_on ∷ refused 8 ∷ []) (beside rises (Some 0) 1 2) [] None)
+    × (in_turn rule10 pushes10 ≡ held (going_on ∷ refused 8 ∷ going_on ∷ []) (beside unarmed (Some 1) 0 0) (0 ∷ 0 ∷ 1 ∷ []) (Some 2))
     × (by_rule rule10 (take 1 pushes10) ≡ in_turn rule10 (take 1 pushes10))
     × (by_rule rule10 (take 2 pushes10) ≡ in_turn rule10 (take 2 pushes10))
     × (by_rule rule10 pushes10 ≡ in_turn rule10 pushes10)

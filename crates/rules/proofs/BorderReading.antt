@@ -2,7 +2,7 @@
 use mathlib.Core.Path.{◌≡◌, refl}
 use mathlib.Core.Bool.{true, false, cond, ◌&&◌}
 use mathlib.Core.List.{List, [], ◌∷◌}
-use mathlib.Core.Option.{Option, none, some}
+use Rattle.std.specs.Prelude.{Option, None, Some}
 use Prim.Native.Nat.{ℕ}
 use native.Mathlib.Omega.{arith}
 use lib.Dec.{eqb}
@@ -24,11 +24,11 @@ abbrev s : ℕ → ℕ
 s = sample_of 1 bytes
 
 abbrev five : Store
-five = store 1 8 5 none
+five = store 1 8 5 None
 
 -- len above capacity
 abbrev wrong : Store
-wrong = store 1 8 9 none
+wrong = store 1 8 9 None
 
 pub gets :
     (get_answer five plenty s 0 ≡ given 10)
@@ -95,10 +95,10 @@ pub raw_bytes :
     × (part_of 1 bytes 4 3 ≡ [])
     -- a chunk that is not full, and past the end
     × (raw_answer five plenty bytes 0 ≡ 10 ∷ 11 ∷ 12 ∷ 13 ∷ 14 ∷ [])
-    × (raw_answer (store 2 4 3 none) plenty bytes 0 ≡ 10 ∷ 11 ∷ 12 ∷ 13 ∷ 14 ∷ 15 ∷ [])
+    × (raw_answer (store 2 4 3 None) plenty bytes 0 ≡ 10 ∷ 11 ∷ 12 ∷ 13 ∷ 14 ∷ 15 ∷ [])
     × (raw_answer five plenty bytes 1 ≡ [])
     × (raw_answer five plenty bytes 18446744073709551615 ≡ [])
-    × (raw_answer (store 1 8 0 none) plenty bytes 0 ≡ [])
+    × (raw_answer (store 1 8 0 None) plenty bytes 0 ≡ [])
     × (raw_answer five no_memory bytes 0 ≡ [])
     × (raw_answer wrong plenty bytes 0 ≡ [])
 unfolding level_short part_of
@@ -106,28 +106,28 @@ raw_bytes = (refl, refl, refl, refl, refl, refl, refl, refl, refl, refl, refl)
 
 -- a full chunk, and one sample behind it, of any memory; the parts are those above
 pub raw_chunks : (memory : List ℕ)
-    → (raw_answer (store 1 2097152 1048576 none) plenty memory 0 ≡ part_of 1 memory 0 1048576)
-    × (raw_answer (store 1 2097152 1048577 none) plenty memory 0 ≡ part_of 1 memory 0 1048576)
-    × (raw_answer (store 1 2097152 1048577 none) plenty memory 1 ≡ part_of 1 memory 1048576 1048577)
-    × (raw_answer (store 2 2097152 1048577 none) plenty memory 0 ≡ part_of 2 memory 0 1048576)
-    × (raw_answer (store 2 2097152 1048577 none) plenty memory 1 ≡ part_of 2 memory 1048576 1048577)
+    → (raw_answer (store 1 2097152 1048576 None) plenty memory 0 ≡ part_of 1 memory 0 1048576)
+    × (raw_answer (store 1 2097152 1048577 None) plenty memory 0 ≡ part_of 1 memory 0 1048576)
+    × (raw_answer (store 1 2097152 1048577 None) plenty memory 1 ≡ part_of 1 memory 1048576 1048577)
+    × (raw_answer (store 2 2097152 1048577 None) plenty memory 0 ≡ part_of 2 memory 0 1048576)
+    × (raw_answer (store 2 2097152 1048577 None) plenty memory 1 ≡ part_of 2 memory 1048576 1048577)
 unfolding level_short
 raw_chunks memory = (refl, refl, refl, refl, refl)
 
 -- where the part lies: in either unit, of a full chunk, one sample behind it, past the end, of no samples, and where 1 or 2 applies
 pub raw_places :
-    (raw_from (store 1 2097152 1048577 none) plenty 0 ≡ 0)
-    × (raw_to (store 1 2097152 1048577 none) plenty 0 ≡ 1048576)
-    × (raw_from (store 1 2097152 1048577 none) plenty 1 ≡ 1048576)
-    × (raw_to (store 1 2097152 1048577 none) plenty 1 ≡ 1048577)
-    × (raw_from (store 2 2097152 1048577 none) plenty 1 ≡ 2097152)
-    × (raw_to (store 2 2097152 1048577 none) plenty 1 ≡ 2097154)
-    × (raw_from (store 1 2097152 1048576 none) plenty 1 ≡ 0)
-    × (raw_to (store 1 2097152 1048576 none) plenty 1 ≡ 0)
+    (raw_from (store 1 2097152 1048577 None) plenty 0 ≡ 0)
+    × (raw_to (store 1 2097152 1048577 None) plenty 0 ≡ 1048576)
+    × (raw_from (store 1 2097152 1048577 None) plenty 1 ≡ 1048576)
+    × (raw_to (store 1 2097152 1048577 None) plenty 1 ≡ 1048577)
+    × (raw_from (store 2 2097152 1048577 None) plenty 1 ≡ 2097152)
+    × (raw_to (store 2 2097152 1048577 None) plenty 1 ≡ 2097154)
+    × (raw_from (store 1 2097152 1048576 None) plenty 1 ≡ 0)
+    × (raw_to (store 1 2097152 1048576 None) plenty 1 ≡ 0)
     × (raw_from five plenty 1 ≡ 0)
     × (raw_to five plenty 1 ≡ 0)
-    × (raw_to (store 1 8 0 none) plenty 0 ≡ 0)
-    × (raw_from (store 1 2097152 1048577 none) no_memory 1 ≡ 0)
+    × (raw_to (store 1 8 0 None) plenty 0 ≡ 0)
+    × (raw_from (store 1 2097152 1048577 None) no_memory 1 ≡ 0)
     × (raw_to five no_memory 0 ≡ 0)
     × (raw_to wrong plenty 0 ≡ 0)
 unfolding level_short
@@ -153,7 +153,7 @@ abbrev whole : ℕ → List Node → List Node → List Node → List Node → O
 whole len l1 l2 l3 l4 = whole_answer (λ i. i) len (memory l1 l2 l3 l4)
 
 abbrev at : ℕ → ℕ → Option NodeAt
-at level number = some (record { level = level; number = number })
+at level number = Some (record { level = level; number = number })
 
 -- the nodes of [0, 32), [32, 64), [64, 70) and [0, 70)
 abbrev n0 : Node
@@ -182,7 +182,7 @@ pub wholes :
     × (same_node (node 1 2 0 4) (node 1 2 3 4) ≡ false)
     × (same_node (node 1 2 3 4) (node 1 2 3 0) ≡ false)
     × (same_node (node 1 2 3 0) (node 1 2 3 4) ≡ false)
-    × (whole 70 (n0 ∷ n1 ∷ n2 ∷ []) all all all ≡ none)
+    × (whole 70 (n0 ∷ n1 ∷ n2 ∷ []) all all all ≡ None)
     -- one of its numbers is wrong; a partial last node is no full one
     × (whole 70 (node 1 31 31 31 ∷ n1 ∷ n2 ∷ []) all all all ≡ at 1 0)
     × (whole 70 (node 0 30 31 31 ∷ n1 ∷ n2 ∷ []) all all all ≡ at 1 0)
@@ -199,17 +199,17 @@ pub wholes :
     × (whole 70 (n0 ∷ n1 ∷ n2 ∷ []) all (bad ∷ []) (bad ∷ []) ≡ at 3 0)
     × (whole 70 (n0 ∷ n1 ∷ n2 ∷ []) all all (bad ∷ []) ≡ at 4 0)
     -- "of those that cover stored samples": no sample, two whole nodes, and one sample more
-    × (whole 0 [] [] [] [] ≡ none)
-    × (whole 64 (n0 ∷ n1 ∷ []) (node 0 63 63 63 ∷ []) (node 0 63 63 63 ∷ []) (node 0 63 63 63 ∷ []) ≡ none)
+    × (whole 0 [] [] [] [] ≡ None)
+    × (whole 64 (n0 ∷ n1 ∷ []) (node 0 63 63 63 ∷ []) (node 0 63 63 63 ∷ []) (node 0 63 63 63 ∷ []) ≡ None)
     × (whole 65 (n0 ∷ n1 ∷ []) (node 0 64 127 64 ∷ []) (node 0 64 127 64 ∷ []) (node 0 64 127 64 ∷ []) ≡ at 1 2)
-    × (whole 65 (n0 ∷ n1 ∷ node 64 64 0 0 ∷ []) (node 0 64 127 64 ∷ []) (node 0 64 127 64 ∷ []) (node 0 64 127 64 ∷ []) ≡ none)
+    × (whole 65 (n0 ∷ n1 ∷ node 64 64 0 0 ∷ []) (node 0 64 127 64 ∷ []) (node 0 64 127 64 ∷ []) (node 0 64 127 64 ∷ []) ≡ None)
     -- the second node of level 2
     × (whole_answer (λ i. i) 1025 (λ l j. cond (eqb l 2 && eqb j 1) bad (level_node (λ i. i) 1025 l j)) ≡ at 2 1)
     -- n levels from level l on
     × (first_wrong (λ i. i) 70 (memory (bad ∷ []) (bad ∷ []) all (bad ∷ [])) 2 1 ≡ at 2 0)
-    × (first_wrong (λ i. i) 70 (memory (bad ∷ []) (bad ∷ []) all (bad ∷ [])) 3 1 ≡ none)
+    × (first_wrong (λ i. i) 70 (memory (bad ∷ []) (bad ∷ []) all (bad ∷ [])) 3 1 ≡ None)
     × (first_wrong (λ i. i) 70 (memory (bad ∷ []) (bad ∷ []) all (bad ∷ [])) 3 2 ≡ at 4 0)
-    × (first_wrong (λ i. i) 70 (memory (bad ∷ []) (bad ∷ []) all (bad ∷ [])) 1 0 ≡ none)
+    × (first_wrong (λ i. i) 70 (memory (bad ∷ []) (bad ∷ []) all (bad ∷ [])) 1 0 ≡ None)
 unfolding toggles_of count_of node_of seek first_wrong
 wholes = (refl, refl, refl, refl, refl, refl, refl, refl, refl, refl, refl, refl, refl, refl, refl, refl, refl, refl, refl, refl, refl, refl, refl, refl, refl, refl, refl, refl, refl, refl, refl, refl)
 

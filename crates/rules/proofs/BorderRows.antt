@@ -3,7 +3,7 @@
 use mathlib.Core.Path.{◌≡◌, refl}
 use mathlib.Core.Bool.{false, true}
 use mathlib.Core.List.{List, [], ◌∷◌}
-use mathlib.Core.Option.{Option, none, some}
+use Rattle.std.specs.Prelude.{Option, None, Some}
 use Prim.Native.Nat.{ℕ, suc}
 use lib.IntN.{pos}
 use lib.ListN.{get_or}
@@ -34,30 +34,30 @@ row1 unit capacity len mark = store_refusal (store unit capacity len mark) plent
 
 pub row_1 :
     -- unit
-    (row1 0 8 5 none ≡ 1)
-    × (row1 1 8 5 none ≡ 0)
-    × (row1 2 8 5 none ≡ 0)
-    × (row1 3 8 5 none ≡ 1)
+    (row1 0 8 5 None ≡ 1)
+    × (row1 1 8 5 None ≡ 0)
+    × (row1 2 8 5 None ≡ 0)
+    × (row1 3 8 5 None ≡ 1)
     -- "capacity (1 to 67,108,864 samples)"
-    × (row1 1 0 0 none ≡ 1)
-    × (row1 1 1 0 none ≡ 0)
-    × (row1 2 67108864 5 none ≡ 0)
-    × (row1 1 67108865 5 none ≡ 1)
+    × (row1 1 0 0 None ≡ 1)
+    × (row1 1 1 0 None ≡ 0)
+    × (row1 2 67108864 5 None ≡ 0)
+    × (row1 1 67108865 5 None ≡ 1)
     -- len
-    × (row1 1 8 8 none ≡ 0)
-    × (row1 1 8 9 none ≡ 1)
+    × (row1 1 8 8 None ≡ 0)
+    × (row1 1 8 9 None ≡ 1)
     -- "mark (absent, or a place at most len)"
-    × (row1 1 8 0 none ≡ 0)
-    × (row1 1 8 0 (some 0) ≡ 0)
-    × (row1 1 8 0 (some 1) ≡ 1)
-    × (row1 1 8 5 (some 5) ≡ 0)
-    × (row1 1 8 5 (some 6) ≡ 1)
+    × (row1 1 8 0 None ≡ 0)
+    × (row1 1 8 0 (Some 0) ≡ 0)
+    × (row1 1 8 0 (Some 1) ≡ 1)
+    × (row1 1 8 5 (Some 5) ≡ 0)
+    × (row1 1 8 5 (Some 6) ≡ 1)
 unfolding level_short
 row_1 = (refl, refl, refl, refl, refl, refl, refl, refl, refl, refl, refl, refl, refl, refl, refl)
 
 -- ---- 2: "a lent sample, level or ring slice shorter than needed"
 abbrev row2 : ℕ → ℕ → Lent → ℕ
-row2 unit capacity memory = store_refusal (store unit capacity 0 none) memory
+row2 unit capacity memory = store_refusal (store unit capacity 0 None) memory
 
 pub row_2 :
     -- one sample more than a chunk, which needs a node of its own at every level
@@ -85,7 +85,7 @@ row_2 = (refl, refl, refl, refl, refl, refl, refl, refl, refl, refl, refl, refl,
 
 -- ---- 1 and 2 of a push. Rows 1 and 2 of its store are those above
 abbrev recorder : Store → ℕ → ℕ → ℕ → ℕ → Recorder
-recorder st limit pre place kept = record { store = st; limit = limit; pre = pre; armed = unarmed; previous = none; place = place; kept = kept }
+recorder st limit pre place kept = record { store = st; limit = limit; pre = pre; armed = unarmed; previous = None; place = place; kept = kept }
 
 -- 8 samples of capacity, 5 stored
 -- n zeros
@@ -97,7 +97,7 @@ abbrev push_sized : Recorder → Lent → ℕ → ℕ → ℕ
 push_sized r memory ring n = push_refusal r memory (zeros ring) (zeros n)
 
 abbrev push1 : ℕ → ℕ → ℕ → ℕ → ℕ
-push1 limit pre place kept = push_sized (recorder (store 1 8 5 none) limit pre place kept) plenty 8 0
+push1 limit pre place kept = push_sized (recorder (store 1 8 5 None) limit pre place kept) plenty 8 0
 
 abbrev push_on : Store → ℕ
 push_on st = push_sized (recorder st 0 0 0 0) plenty 0 0
@@ -121,21 +121,21 @@ pub row_1_push :
     -- "len > a nonzero limit"
     × (push1 5 0 0 0 ≡ 0)
     × (push1 4 0 0 0 ≡ 1)
-    × (push_on (store 1 8 8 none) ≡ 0)
+    × (push_on (store 1 8 8 None) ≡ 0)
     -- and what row 1 says of its store
-    × (push_on (store 0 8 5 none) ≡ 1)
-    × (push_on (store 3 8 5 none) ≡ 1)
-    × (push_on (store 1 0 0 none) ≡ 1)
-    × (push_on (store 1 67108865 0 none) ≡ 1)
-    × (push_on (store 1 8 9 none) ≡ 1)
-    × (push_on (store 1 8 5 (some 5)) ≡ 0)
-    × (push_on (store 1 8 5 (some 6)) ≡ 1)
+    × (push_on (store 0 8 5 None) ≡ 1)
+    × (push_on (store 3 8 5 None) ≡ 1)
+    × (push_on (store 1 0 0 None) ≡ 1)
+    × (push_on (store 1 67108865 0 None) ≡ 1)
+    × (push_on (store 1 8 9 None) ≡ 1)
+    × (push_on (store 1 8 5 (Some 5)) ≡ 0)
+    × (push_on (store 1 8 5 (Some 6)) ≡ 1)
 unfolding level_short list_from plan
 row_1_push = (refl, refl, refl, refl, refl, refl, refl, refl, refl, refl, refl, refl, refl, refl, refl, refl, refl, refl, refl, refl, refl)
 
 -- "Ring memory needs pre × unit bytes": 8 samples of capacity, pre is 3
 abbrev push2 : ℕ → Lent → ℕ → ℕ
-push2 unit memory ring = push_sized (recorder (store unit 8 5 none) 0 3 0 0) memory ring 0
+push2 unit memory ring = push_sized (recorder (store unit 8 5 None) 0 3 0 0) memory ring 0
 
 pub row_2_push :
     (push2 1 (lent 8 5 5 5 5) 3 ≡ 0)
@@ -157,16 +157,16 @@ row_2_push = (refl, refl, refl, refl, refl, refl, refl, refl, refl, refl, refl, 
 
 -- ---- 8: "len plus the samples to store > capacity"; 9: "i ≥ len". In each call 1 stands before 2, and 2 before these
 abbrev five : Store
-five = store 1 8 5 none
+five = store 1 8 5 None
 
 -- unit 3, and len above capacity
 abbrev wrong : Store
-wrong = store 3 8 9 none
+wrong = store 3 8 9 None
 
 pub row_8_9 :
     (append_refusal five plenty 3 ≡ 0)
     × (append_refusal five plenty 4 ≡ 8)
-    × (append_refusal (store 1 8 8 none) plenty 0 ≡ 0)
+    × (append_refusal (store 1 8 8 None) plenty 0 ≡ 0)
     × (append_refusal five no_memory 4 ≡ 2)
     × (append_refusal wrong no_memory 4 ≡ 1)
     × (push_sized (recorder five 0 3 0 0) plenty 3 3 ≡ 0)
@@ -177,7 +177,7 @@ pub row_8_9 :
     × (push_sized (recorder wrong 0 3 0 0) no_memory 2 4 ≡ 1)
     × (get_refusal five plenty 4 ≡ 0)
     × (get_refusal five plenty 5 ≡ 9)
-    × (get_refusal (store 1 8 0 none) plenty 0 ≡ 9)
+    × (get_refusal (store 1 8 0 None) plenty 0 ≡ 9)
     × (get_refusal five no_memory 5 ≡ 2)
     × (get_refusal wrong no_memory 9 ≡ 1)
 unfolding level_short list_from plan

@@ -2,7 +2,7 @@
 use mathlib.Core.Path.{◌≡◌, refl}
 use mathlib.Core.Bool.{Bool, true, false}
 use mathlib.Core.List.{List, [], ◌∷◌}
-use mathlib.Core.Option.{Option, none, some}
+use Rattle.std.specs.Prelude.{Option, None, Some}
 use Prim.Native.Nat.{ℕ}
 use lib.IntN.{negsuc}
 use lib.Ieee.{fin, mul, of_int, lt}
@@ -42,14 +42,14 @@ terms = (refl, refl, refl, refl, refl, refl, refl, refl, refl, refl, refl, refl,
 
 -- ---- "A sample v after p fires when .."; the first sample has no p
 abbrev firing : List Term → ℕ → ℕ → Bool
-firing ts p v = fires (masks_of ts) (some p) v
+firing ts p v = fires (masks_of ts) (Some p) v
 
 -- one line: 0 after 0, 1 after 0, 0 after 1, 1 after 1; and the first sample, 0 and 1
 abbrev after : Condition → List Bool
 after c = firing (on 0 c ∷ []) 0 0 ∷ firing (on 0 c ∷ []) 0 1 ∷ firing (on 0 c ∷ []) 1 0 ∷ firing (on 0 c ∷ []) 1 1 ∷ []
 
 abbrev first : List Term → ℕ → Bool
-first ts v = fires (masks_of ts) none v
+first ts v = fires (masks_of ts) None v
 
 pub fired :
     (after high ≡ false ∷ true ∷ false ∷ true ∷ [])
@@ -91,24 +91,24 @@ pub first_sample :
     × (first (on 0 low ∷ []) 0 ≡ true)
     × (first (on 0 low ∷ []) 1 ≡ false)
     × (first (on 0 high ∷ on 1 low ∷ []) 1 ≡ true)
-    × (fires (masks 0 0 0 0 0) none 7 ≡ true)
-    × (fires (masks 0 0 1 0 0) none 1 ≡ false)
-    × (fires (masks 0 0 0 1 0) none 0 ≡ false)
-    × (fires (masks 0 0 0 0 1) none 0 ≡ false)
+    × (fires (masks 0 0 0 0 0) None 7 ≡ true)
+    × (fires (masks 0 0 1 0 0) None 1 ≡ false)
+    × (fires (masks 0 0 0 1 0) None 0 ≡ false)
+    × (fires (masks 0 0 0 0 1) None 0 ≡ false)
 unfolding with_terms both_as_edge matches fires
 first_sample = (refl, refl, refl, refl, refl, refl, refl, refl, refl)
 
 -- "T the first firing place", the count where there is none; "previous sample or none"
 pub first_fire_lem :
-    (first_fire (masks 0 0 1 0 0) none (0 ∷ 0 ∷ 1 ∷ 0 ∷ 1 ∷ []) ≡ 2)
-    × (first_fire (masks 0 0 1 0 0) none (1 ∷ 1 ∷ []) ≡ 2)
-    × (first_fire (masks 0 0 1 0 0) (some 0) (1 ∷ 1 ∷ []) ≡ 0)
-    × (first_fire (masks 0 0 1 0 0) (some 1) (1 ∷ 0 ∷ 1 ∷ []) ≡ 2)
-    × (first_fire (masks 1 0 0 0 0) none [] ≡ 0)
-    × (first_fire (masks 1 0 0 0 0) none (1 ∷ []) ≡ 0)
-    × (last_of none [] ≡ none)
-    × (last_of (some 3) [] ≡ some 3)
-    × (last_of (some 3) (4 ∷ 5 ∷ []) ≡ some 5)
+    (first_fire (masks 0 0 1 0 0) None (0 ∷ 0 ∷ 1 ∷ 0 ∷ 1 ∷ []) ≡ 2)
+    × (first_fire (masks 0 0 1 0 0) None (1 ∷ 1 ∷ []) ≡ 2)
+    × (first_fire (masks 0 0 1 0 0) (Some 0) (1 ∷ 1 ∷ []) ≡ 0)
+    × (first_fire (masks 0 0 1 0 0) (Some 1) (1 ∷ 0 ∷ 1 ∷ []) ≡ 2)
+    × (first_fire (masks 1 0 0 0 0) None [] ≡ 0)
+    × (first_fire (masks 1 0 0 0 0) None (1 ∷ []) ≡ 0)
+    × (last_of None [] ≡ None)
+    × (last_of (Some 3) [] ≡ Some 3)
+    × (last_of (Some 3) (4 ∷ 5 ∷ []) ≡ Some 5)
 unfolding matches fires first_fire last_of
 first_fire_lem = (refl, refl, refl, refl, refl, refl, refl, refl, refl)
 
@@ -124,21 +124,21 @@ is run mark = record { run = run; mark = mark }
 
 pub runs :
     -- "the run starts at T − min(T, pre), the mark is min(T, pre)": T is 0, below pre, at pre and above it; pre is 0; "no T, empty run and no mark"
-    (select odd 0 2 (1 ∷ 2 ∷ 3 ∷ []) ≡ is (1 ∷ 2 ∷ 3 ∷ []) (some 0))
-    × (select odd 0 2 (2 ∷ 3 ∷ 4 ∷ []) ≡ is (2 ∷ 3 ∷ 4 ∷ []) (some 1))
-    × (select odd 0 2 (2 ∷ 4 ∷ 5 ∷ 7 ∷ []) ≡ is (2 ∷ 4 ∷ 5 ∷ 7 ∷ []) (some 2))
-    × (select odd 0 2 (2 ∷ 4 ∷ 6 ∷ 7 ∷ []) ≡ is (4 ∷ 6 ∷ 7 ∷ []) (some 2))
-    × (select odd 0 0 (2 ∷ 4 ∷ 5 ∷ 6 ∷ []) ≡ is (5 ∷ 6 ∷ []) (some 0))
-    × (select odd 0 2 (2 ∷ 4 ∷ 6 ∷ 8 ∷ []) ≡ is [] none)
-    × (select odd 0 2 [] ≡ is [] none)
+    (select odd 0 2 (1 ∷ 2 ∷ 3 ∷ []) ≡ is (1 ∷ 2 ∷ 3 ∷ []) (Some 0))
+    × (select odd 0 2 (2 ∷ 3 ∷ 4 ∷ []) ≡ is (2 ∷ 3 ∷ 4 ∷ []) (Some 1))
+    × (select odd 0 2 (2 ∷ 4 ∷ 5 ∷ 7 ∷ []) ≡ is (2 ∷ 4 ∷ 5 ∷ 7 ∷ []) (Some 2))
+    × (select odd 0 2 (2 ∷ 4 ∷ 6 ∷ 7 ∷ []) ≡ is (4 ∷ 6 ∷ 7 ∷ []) (Some 2))
+    × (select odd 0 0 (2 ∷ 4 ∷ 5 ∷ 6 ∷ []) ≡ is (5 ∷ 6 ∷ []) (Some 0))
+    × (select odd 0 2 (2 ∷ 4 ∷ 6 ∷ 8 ∷ []) ≡ is [] None)
+    × (select odd 0 2 [] ≡ is [] None)
     -- "without terms the run is all of them, with no mark"
-    × (select unarmed 0 2 (2 ∷ 4 ∷ 5 ∷ []) ≡ is (2 ∷ 4 ∷ 5 ∷ []) none)
+    × (select unarmed 0 2 (2 ∷ 4 ∷ 5 ∷ []) ≡ is (2 ∷ 4 ∷ 5 ∷ []) None)
     -- "Limit above 0 keeps the run's first limit samples": fewer, as many, one more; 1; the samples before the mark count
-    × (select unarmed 3 0 (2 ∷ 4 ∷ []) ≡ is (2 ∷ 4 ∷ []) none)
-    × (select unarmed 3 0 (2 ∷ 4 ∷ 5 ∷ []) ≡ is (2 ∷ 4 ∷ 5 ∷ []) none)
-    × (select unarmed 3 0 (2 ∷ 4 ∷ 5 ∷ 6 ∷ []) ≡ is (2 ∷ 4 ∷ 5 ∷ []) none)
-    × (select unarmed 1 0 (2 ∷ 4 ∷ []) ≡ is (2 ∷ []) none)
-    × (select odd 3 2 (2 ∷ 4 ∷ 6 ∷ 7 ∷ 9 ∷ []) ≡ is (4 ∷ 6 ∷ 7 ∷ []) (some 2))
+    × (select unarmed 3 0 (2 ∷ 4 ∷ []) ≡ is (2 ∷ 4 ∷ []) None)
+    × (select unarmed 3 0 (2 ∷ 4 ∷ 5 ∷ []) ≡ is (2 ∷ 4 ∷ 5 ∷ []) None)
+    × (select unarmed 3 0 (2 ∷ 4 ∷ 5 ∷ 6 ∷ []) ≡ is (2 ∷ 4 ∷ 5 ∷ []) None)
+    × (select unarmed 1 0 (2 ∷ 4 ∷ []) ≡ is (2 ∷ []) None)
+    × (select odd 3 2 (2 ∷ 4 ∷ 6 ∷ 7 ∷ 9 ∷ []) ≡ is (4 ∷ 6 ∷ 7 ∷ []) (Some 2))
 unfolding matches fires first_fire chosen selection
 runs = (refl, refl, refl, refl, refl, refl, refl, refl, refl, refl, refl, refl, refl)
 
@@ -167,7 +167,7 @@ pub lists :
     × (replies_of (rule 1 3 0 0 unarmed) over ≡ going_on ∷ refused 8 ∷ going_on ∷ [])
     × (accepted rises waits ≡ 2 ∷ 4 ∷ 6 ∷ 8 ∷ 7 ∷ [])
     × (run_of rises waits ≡ 6 ∷ 8 ∷ 7 ∷ [])
-    × (mark_of rises waits ≡ some 2)
+    × (mark_of rises waits ≡ Some 2)
     × (replies_of rises waits ≡ going_on ∷ refused 8 ∷ going_on ∷ refused 8 ∷ [])
     -- "complete exactly when the recorder is unarmed, limit is above 0 and len = limit", and again after it; what the limit cuts needs no room
     × (replies_of (rule 1 3 3 0 unarmed) full ≡ going_on ∷ complete ∷ complete ∷ complete ∷ [])

@@ -2,7 +2,7 @@
 use mathlib.Core.Path.{◌≡◌, refl}
 use mathlib.Core.Bool.{Bool, true, false, not, ◌||◌}
 use mathlib.Core.List.{List, [], ◌∷◌, ◌++◌}
-use mathlib.Core.Option.{none}
+use Rattle.std.specs.Prelude.{None}
 use Prim.Native.Nat.{ℕ}
 use lib.Dec.{eqb}
 use lib.ListN.{set, take, drop, replicate}
@@ -58,7 +58,7 @@ numbers = (refl, refl)
 
 -- ---- good blocks
 abbrev of : ℕ → ℕ → Heading
-of unit len = record { unit = unit; mark = none; len = len }
+of unit len = record { unit = unit; mark = None; len = len }
 
 -- which block a sample is in, and the counts that block 0 calls for
 pub homes : (block_of_byte 499 ≡ 1)
@@ -72,7 +72,7 @@ homes = (refl, refl, refl, refl, refl, refl, refl)
 
 -- a file of three blocks
 abbrev three : List ℕ
-three = file_of (filed 1 none 501 (replicate 501 7))
+three = file_of (filed 1 None 501 (replicate 501 7))
 
 -- "its number is its place in the file": the last two exchanged; a block twice
 pub places : (good_at three 1 ≡ true)

@@ -2,7 +2,7 @@
 use mathlib.Core.Path.{◌≡◌, refl}
 use mathlib.Core.Bool.{Bool, true, false}
 use mathlib.Core.List.{List, [], ◌∷◌, ◌++◌}
-use mathlib.Core.Option.{Option, none, some}
+use Rattle.std.specs.Prelude.{Option, None, Some}
 use Prim.Native.Nat.{ℕ}
 use lib.ListN.{set, take, drop, replicate}
 use Rattle.rules.specs.SampleBytes.{sample_bytes}
@@ -31,29 +31,29 @@ filed unit mark len bytes = record { heading = record { unit = unit; mark = mark
 pub blocks : (blocks_for 0 ≡ 0) × (blocks_for 1 ≡ 1) × (blocks_for 500 ≡ 1) × (blocks_for 501 ≡ 2) × (blocks_for 1000 ≡ 2) × (blocks_for 1001 ≡ 3)
 blocks = (refl, refl, refl, refl, refl, refl)
 
-pub lengths : (file_len (record { unit = 1; mark = none; len = 0 }) ≡ 512)
-    × (file_len (record { unit = 1; mark = none; len = 500 }) ≡ 1024)
-    × (file_len (record { unit = 1; mark = none; len = 501 }) ≡ 1536)
-    × (file_len (record { unit = 2; mark = none; len = 250 }) ≡ 1024)
-    × (file_len (record { unit = 2; mark = none; len = 251 }) ≡ 1536)
+pub lengths : (file_len (record { unit = 1; mark = None; len = 0 }) ≡ 512)
+    × (file_len (record { unit = 1; mark = None; len = 500 }) ≡ 1024)
+    × (file_len (record { unit = 1; mark = None; len = 501 }) ≡ 1536)
+    × (file_len (record { unit = 2; mark = None; len = 250 }) ≡ 1024)
+    × (file_len (record { unit = 2; mark = None; len = 251 }) ≡ 1536)
 lengths = (refl, refl, refl, refl, refl)
 
 -- "Block 0 holds 18 bytes: unit, 1 if there is a mark else 0, len in 8 bytes, mark in 8 (0 if none)."
-pub headings : (take 30 (file_of (filed 1 none 0 [])) ≡ 48 ∷ 0 ∷ 18 ∷ 0 ∷ 0 ∷ 0 ∷ 0 ∷ 0 ∷ 0 ∷ 0 ∷ 0 ∷ 0 ∷ 1 ∷ zeros 17)
-    × (drop 30 (file_of (filed 1 none 0 [])) ≡ zeros 482)
-    × (take 30 (file_of (filed 2 (some 3) 3 (1 ∷ 0 ∷ 2 ∷ 1 ∷ 255 ∷ 255 ∷ []))) ≡ 181 ∷ 0 ∷ 18 ∷ 0 ∷ 0 ∷ 0 ∷ 0 ∷ 0 ∷ 0 ∷ 0 ∷ 0 ∷ 0 ∷ 2 ∷ 1 ∷ 3 ∷ 0 ∷ 0 ∷ 0 ∷ 0 ∷ 0 ∷ 0 ∷ 0 ∷ 3 ∷ zeros 7)
+pub headings : (take 30 (file_of (filed 1 None 0 [])) ≡ 48 ∷ 0 ∷ 18 ∷ 0 ∷ 0 ∷ 0 ∷ 0 ∷ 0 ∷ 0 ∷ 0 ∷ 0 ∷ 0 ∷ 1 ∷ zeros 17)
+    × (drop 30 (file_of (filed 1 None 0 [])) ≡ zeros 482)
+    × (take 30 (file_of (filed 2 (Some 3) 3 (1 ∷ 0 ∷ 2 ∷ 1 ∷ 255 ∷ 255 ∷ []))) ≡ 181 ∷ 0 ∷ 18 ∷ 0 ∷ 0 ∷ 0 ∷ 0 ∷ 0 ∷ 0 ∷ 0 ∷ 0 ∷ 0 ∷ 2 ∷ 1 ∷ 3 ∷ 0 ∷ 0 ∷ 0 ∷ 0 ∷ 0 ∷ 0 ∷ 0 ∷ 3 ∷ zeros 7)
 unfolding file_of block_of body_of weigh sample_bytes head_bytes blocks_of
 headings = (refl, refl, refl)
 
 -- ---- which files some capture has
 -- a mark at len, and one at 0 where nothing is stored, have files
-pub accepted : (file_test (file_of (filed 1 none 2 (0 ∷ 0 ∷ []))) ≡ true) × (file_test (file_of (filed 2 (some 1) 1 (7 ∷ 9 ∷ []))) ≡ true) × (file_test (file_of (filed 1 (some 0) 0 [])) ≡ true)
+pub accepted : (file_test (file_of (filed 1 None 2 (0 ∷ 0 ∷ []))) ≡ true) × (file_test (file_of (filed 2 (Some 1) 1 (7 ∷ 9 ∷ []))) ≡ true) × (file_test (file_of (filed 1 (Some 0) 0 [])) ≡ true)
 unfolding file_test head_test heading_in good_blocks good_block same_bytes file_of block_of body_of weigh sample_bytes head_bytes blocks_of
 accepted = (refl, refl, refl)
 
 -- the file of two samples, a byte of it changed and the checks made right again
 abbrev pub two : List ℕ
-two = file_of (filed 1 none 2 (0 ∷ 0 ∷ []))
+two = file_of (filed 1 None 2 (0 ∷ 0 ∷ []))
 
 abbrev pub sealed : List ℕ → List ℕ
 sealed b = sample_bytes 2 (check_of (drop 2 b)) ++ drop 2 b
@@ -98,7 +98,7 @@ unfolding head_test heading_in good_block same_bytes file_of block_of body_of we
 says = (refl, refl, refl, refl)
 
 abbrev small : ℕ → Store
-small capacity = record { unit = 1; capacity = capacity; len = 2; mark = none }
+small capacity = record { unit = 1; capacity = capacity; len = 2; mark = None }
 
 abbrev pub enough : ℕ → Lent
 enough samples = record { samples = samples; level = λ l. 5 }

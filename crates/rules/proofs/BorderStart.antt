@@ -3,7 +3,7 @@
 use mathlib.Core.Path.{◌≡◌, refl}
 use mathlib.Core.Bool.{Bool, false, true}
 use mathlib.Core.List.{List, [], ◌∷◌}
-use mathlib.Core.Option.{none}
+use Rattle.std.specs.Prelude.{None}
 use Prim.Native.Nat.{ℕ}
 use lib.IntN.{pos, negsuc}
 use lib.Ieee.{Float, nan, inf, fin, binary64, round, of_bits, mul, of_int, lt, is_nan}
@@ -28,8 +28,8 @@ abbrev start_store : ℕ → ℕ → Lent → ℕ
 start_store channels capacity memory = start_refusal (settings channels capacity 0 [] (seconds nought) 0) memory 0
 
 pub row_1_2 :
-    (fresh 8 33 ≡ store 1 33 0 none)
-    × (fresh 9 34 ≡ store 2 34 0 none)
+    (fresh 8 33 ≡ store 1 33 0 None)
+    × (fresh 9 34 ≡ store 2 34 0 None)
     × (start_store 8 0 plenty ≡ 1)
     × (start_store 8 1 plenty ≡ 0)
     × (start_store 9 67108864 plenty ≡ 0)

@@ -2,7 +2,7 @@
 use mathlib.Core.Path.{◌≡◌, refl}
 use mathlib.Core.Bool.{Bool, true, false}
 use mathlib.Core.List.{[], ◌∷◌}
-use mathlib.Core.Option.{Option, none, some}
+use Rattle.std.specs.Prelude.{Option, None, Some}
 use Prim.Native.Nat.{ℕ}
 use lib.ListN.{get_or}
 use Rattle.rules.specs.Search.{seek}
@@ -20,31 +20,31 @@ abbrev asked : Sureness → Bool → ℕ → Option ℕ
 asked sure back from = unknown_search sure back 1 run 8 (stretch 2 2 ∷ []) 1 from
 
 -- no stored zero is taken for a sample, in the stretch or at the place right after it
-pub certains : (asked certain false 0 ≡ some 1)
-    × (asked certain false 1 ≡ some 5)
-    × (asked certain false 7 ≡ none)
-    × (asked certain true 100 ≡ some 7)
-    × (asked certain true 4 ≡ some 1)
-    × (asked certain true 0 ≡ none)
+pub certains : (asked certain false 0 ≡ Some 1)
+    × (asked certain false 1 ≡ Some 5)
+    × (asked certain false 7 ≡ None)
+    × (asked certain true 100 ≡ Some 7)
+    × (asked certain true 4 ≡ Some 1)
+    × (asked certain true 0 ≡ None)
 unfolding seek covers
 certains = (refl, refl, refl, refl, refl, refl)
 
 -- its first place is a possible change, and the place right after it; the next one is not
-pub possibles : (asked possible false 0 ≡ some 1)
-    × (asked possible false 1 ≡ some 2)
-    × (asked possible false 3 ≡ some 4)
-    × (asked possible false 4 ≡ some 5)
-    × (asked possible true 4 ≡ some 4)
-    × (asked possible true 2 ≡ some 2)
-    × (asked possible true 1 ≡ some 1)
+pub possibles : (asked possible false 0 ≡ Some 1)
+    × (asked possible false 1 ≡ Some 2)
+    × (asked possible false 3 ≡ Some 4)
+    × (asked possible false 4 ≡ Some 5)
+    × (asked possible true 4 ≡ Some 4)
+    × (asked possible true 2 ≡ Some 2)
+    × (asked possible true 1 ≡ Some 1)
 unfolding seek covers
 possibles = (refl, refl, refl, refl, refl, refl, refl)
 
 -- place 0 is no change, and a stretch up to the end has its last place
-pub ends : (unknown_search possible true 1 run 8 (stretch 0 2 ∷ []) 2 0 ≡ none)
-    × (unknown_search possible false 1 run 8 (stretch 0 2 ∷ []) 2 0 ≡ some 1)
-    × (unknown_search possible false 1 run 8 (stretch 6 2 ∷ []) 2 6 ≡ some 7)
-    × (unknown_search possible false 1 run 8 (stretch 6 2 ∷ []) 2 7 ≡ none)
+pub ends : (unknown_search possible true 1 run 8 (stretch 0 2 ∷ []) 2 0 ≡ None)
+    × (unknown_search possible false 1 run 8 (stretch 0 2 ∷ []) 2 0 ≡ Some 1)
+    × (unknown_search possible false 1 run 8 (stretch 6 2 ∷ []) 2 6 ≡ Some 7)
+    × (unknown_search possible false 1 run 8 (stretch 6 2 ∷ []) 2 7 ≡ None)
 unfolding seek covers
 ends = (refl, refl, refl, refl)
 
@@ -52,7 +52,7 @@ ends = (refl, refl, refl, refl)
 pub lines : (has_line 1 128 ≡ true) × (has_line 1 256 ≡ false) × (has_line 1 384 ≡ true) × (has_line 2 32768 ≡ true) × (has_line 2 0 ≡ false)
 lines = (refl, refl, refl, refl, refl)
 
-pub lacked : (unknown_search possible false 1 run 8 (stretch 2 2 ∷ []) 256 0 ≡ none) × (unknown_search possible false 2 run 8 (stretch 2 2 ∷ []) 256 0 ≡ some 2)
+pub lacked : (unknown_search possible false 1 run 8 (stretch 2 2 ∷ []) 256 0 ≡ None) × (unknown_search possible false 2 run 8 (stretch 2 2 ∷ []) 256 0 ≡ Some 2)
 unfolding seek covers
 lacked = (refl, refl)
 
@@ -73,7 +73,7 @@ second_of = refl
 
 -- after 1 and 2
 abbrev one : ℕ → Store
-one len = record { unit = 1; capacity = 1; len = len; mark = none }
+one len = record { unit = 1; capacity = 1; len = len; mark = None }
 
 pub rows : (unknown_refusal (one 2) (enough 0) (0 ∷ []) ≡ 1)
     × (unknown_refusal (one 1) (enough 0) (0 ∷ []) ≡ 2)

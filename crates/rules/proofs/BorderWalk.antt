@@ -1,7 +1,7 @@
 -- The borders of the walk, computed: the level that it takes, its steps, and the chunks that it enters. 01: Search; 02: CR 3. Assumes nothing.
 use mathlib.Core.Path.{◌≡◌, refl}
 use mathlib.Core.Bool.{cond, ◌&&◌}
-use mathlib.Core.Option.{Option, none, some}
+use Rattle.std.specs.Prelude.{Option, None, Some}
 use Prim.Native.Nat.{ℕ, ◌+◌}
 use lib.Dec.{ltb, eqb}
 use Rattle.rules.specs.Node.{Node, toggles_of, count_of, node_of, leaf, span}
@@ -80,54 +80,54 @@ previous c len from = previous_walk all_levels (lone c) len 1 from
 
 pub steps_ahead :
     -- samples up to a border of 32, nodes, and samples again; the sample that the walk starts from is not counted
-    (next never 32 30 ≡ steps none 1)
-    × (next never 63 0 ≡ steps none 62)
-    × (next never 64 0 ≡ steps none 32)
-    × (next never 65 0 ≡ steps none 33)
-    × (next never 64 31 ≡ steps none 1)
+    (next never 32 30 ≡ steps None 1)
+    × (next never 63 0 ≡ steps None 62)
+    × (next never 64 0 ≡ steps None 32)
+    × (next never 65 0 ≡ steps None 33)
+    × (next never 64 31 ≡ steps None 1)
     -- a node that is not quiet: inside, or at its first sample; the sample after it
-    × (next 40 64 31 ≡ steps (some 40) 10)
-    × (next 63 64 31 ≡ steps (some 63) 33)
-    × (next 32 64 31 ≡ steps (some 32) 2)
-    × (next 64 65 31 ≡ steps (some 64) 2)
-    × (next 1064 2048 1023 ≡ steps (some 1064) 12)
+    × (next 40 64 31 ≡ steps (Some 40) 10)
+    × (next 63 64 31 ≡ steps (Some 63) 33)
+    × (next 32 64 31 ≡ steps (Some 32) 2)
+    × (next 64 65 31 ≡ steps (Some 64) 2)
+    × (next 1064 2048 1023 ≡ steps (Some 1064) 12)
     -- no place to look at
-    × (next never 32 31 ≡ steps none 0)
-    × (next never 32 32 ≡ steps none 0)
-    × (next never 0 0 ≡ steps none 0)
-    × (next never 32 18446744073709551615 ≡ steps none 0)
+    × (next never 32 31 ≡ steps None 0)
+    × (next never 32 32 ≡ steps None 0)
+    × (next never 0 0 ≡ steps None 0)
+    × (next never 32 18446744073709551615 ≡ steps None 0)
     -- over chunks; a change between two
-    × (next never 1048576 0 ≡ steps none 124)
-    × (next never 3145728 0 ≡ steps none 126)
-    × (next never 2097157 0 ≡ steps none 130)
-    × (next never 2097152 1048575 ≡ steps none 1)
-    × (next never 2097152 1048574 ≡ steps none 2)
-    × (next 1048576 2097152 1048574 ≡ steps (some 1048576) 6)
-    × (next 1048581 1048676 0 ≡ steps (some 1048581) 131)
+    × (next never 1048576 0 ≡ steps None 124)
+    × (next never 3145728 0 ≡ steps None 126)
+    × (next never 2097157 0 ≡ steps None 130)
+    × (next never 2097152 1048575 ≡ steps None 1)
+    × (next never 2097152 1048574 ≡ steps None 2)
+    × (next 1048576 2097152 1048574 ≡ steps (Some 1048576) 6)
+    × (next 1048581 1048676 0 ≡ steps (Some 1048581) 131)
 unfolding best walk chunks
 steps_ahead = (refl, refl, refl, refl, refl, refl, refl, refl, refl, refl, refl, refl, refl, refl, refl, refl, refl, refl, refl, refl, refl)
 
 pub steps_back :
-    (previous never 33 32 ≡ steps none 1)
-    × (previous never 34 33 ≡ steps none 2)
-    × (previous never 32 31 ≡ steps none 31)
-    × (previous never 32 99 ≡ steps none 31)
-    × (previous 20 33 32 ≡ steps (some 20) 14)
-    × (previous 1 33 32 ≡ steps (some 1) 33)
-    × (previous 32 33 32 ≡ steps (some 32) 2)
-    × (previous 984 2048 1024 ≡ steps (some 984) 12)
-    × (previous never 33 1 ≡ steps none 1)
+    (previous never 33 32 ≡ steps None 1)
+    × (previous never 34 33 ≡ steps None 2)
+    × (previous never 32 31 ≡ steps None 31)
+    × (previous never 32 99 ≡ steps None 31)
+    × (previous 20 33 32 ≡ steps (Some 20) 14)
+    × (previous 1 33 32 ≡ steps (Some 1) 33)
+    × (previous 32 33 32 ≡ steps (Some 32) 2)
+    × (previous 984 2048 1024 ≡ steps (Some 984) 12)
+    × (previous never 33 1 ≡ steps None 1)
     -- no place to look at
-    × (previous never 33 0 ≡ steps none 0)
-    × (previous never 0 99 ≡ steps none 0)
+    × (previous never 33 0 ≡ steps None 0)
+    × (previous never 0 99 ≡ steps None 0)
     -- over chunks: "an earlier chunk is entered at its length"
-    × (previous never 3145728 2097153 ≡ steps none 3)
-    × (previous never 1048582 18446744073709551615 ≡ steps none 6)
-    × (previous never 2097152 1048608 ≡ steps none 2)
-    × (previous never 2097152 1048576 ≡ steps none 1)
-    × (previous 1048576 2097152 1048581 ≡ steps (some 1048576) 10)
-    × (previous 1048575 2097152 1048576 ≡ steps (some 1048575) 6)
-    × (previous 3 2097152 1048581 ≡ steps (some 3) 132)
+    × (previous never 3145728 2097153 ≡ steps None 3)
+    × (previous never 1048582 18446744073709551615 ≡ steps None 6)
+    × (previous never 2097152 1048608 ≡ steps None 2)
+    × (previous never 2097152 1048576 ≡ steps None 1)
+    × (previous 1048576 2097152 1048581 ≡ steps (Some 1048576) 10)
+    × (previous 1048575 2097152 1048576 ≡ steps (Some 1048575) 6)
+    × (previous 3 2097152 1048581 ≡ steps (Some 3) 132)
 unfolding best walk chunks
 steps_back = (refl, refl, refl, refl, refl, refl, refl, refl, refl, refl, refl, refl, refl, refl, refl, refl, refl, refl)
 
@@ -137,11 +137,11 @@ false_at m l p = record { first = 0; last = 0; toggles = cond (eqb l m) 1 0; cou
 
 -- "a higher level lowers the cap to l − 1", for the rest of the chunk; "4 at each chunk"; level 0 and samples of the run alone
 pub cap_lowered :
-    (next_walk all_levels (false_at 1) 96 1 31 ≡ steps none 65)
-    × (next_walk all_levels (false_at 4) 3145728 1 1048575 ≡ steps none 66)
-    × (previous_walk all_levels (false_at 1) 96 1 64 ≡ steps none 65)
-    × (previous_walk all_levels (false_at 4) 3145728 1 2097152 ≡ steps none 66)
-    × (next_walk all_levels (false_at 1) 96 2 31 ≡ steps none 2)
+    (next_walk all_levels (false_at 1) 96 1 31 ≡ steps None 65)
+    × (next_walk all_levels (false_at 4) 3145728 1 1048575 ≡ steps None 66)
+    × (previous_walk all_levels (false_at 1) 96 1 64 ≡ steps None 65)
+    × (previous_walk all_levels (false_at 4) 3145728 1 2097152 ≡ steps None 66)
+    × (next_walk all_levels (false_at 1) 96 2 31 ≡ steps None 2)
 unfolding best walk chunks
 cap_lowered = (refl, refl, refl, refl, refl)
 
@@ -150,10 +150,10 @@ abbrev torn : ℕ → ℕ → ℕ → ℕ → Node
 torn first last l p = record { first = cond (eqb l 0) 0 first; last = cond (eqb l 0) 0 last; toggles = 0; count = 0 }
 
 pub ends_of_nodes :
-    (next_walk all_levels (torn 0 1) 65 1 31 ≡ steps (some 64) 2)
-    × (next_walk all_levels (torn 1 0) 65 1 31 ≡ steps none 34)
-    × (previous_walk all_levels (torn 1 0) 66 1 64 ≡ steps (some 32) 3)
-    × (previous_walk all_levels (torn 0 1) 66 1 64 ≡ steps none 65)
+    (next_walk all_levels (torn 0 1) 65 1 31 ≡ steps (Some 64) 2)
+    × (next_walk all_levels (torn 1 0) 65 1 31 ≡ steps None 34)
+    × (previous_walk all_levels (torn 1 0) 66 1 64 ≡ steps (Some 32) 3)
+    × (previous_walk all_levels (torn 0 1) 66 1 64 ≡ steps None 65)
 unfolding best walk chunks
 ends_of_nodes = (refl, refl, refl, refl)
 
@@ -194,13 +194,13 @@ abbrev since : ℕ → ℕ → ℕ
 since c i = cond (ltb i c) 0 1
 
 pub steps_run :
-    (next_search (since 40) 64 1 31 ≡ steps (some 40) 10)
-    × (next_search (since 40) 64 2 31 ≡ steps none 1)
-    × (next_search (since 40) 64 1 63 ≡ steps none 0)
-    × (previous_search (since 20) 33 1 32 ≡ steps (some 20) 14)
-    × (previous_search (since 20) 33 2 99 ≡ steps none 1)
-    × (previous_search (since 20) 33 1 0 ≡ steps none 0)
-    × (previous_search (since 20) 0 1 9 ≡ steps none 0)
-    × (through (λ found. some 7) (steps (some 3) 5) ≡ steps (some 7) 5)
+    (next_search (since 40) 64 1 31 ≡ steps (Some 40) 10)
+    × (next_search (since 40) 64 2 31 ≡ steps None 1)
+    × (next_search (since 40) 64 1 63 ≡ steps None 0)
+    × (previous_search (since 20) 33 1 32 ≡ steps (Some 20) 14)
+    × (previous_search (since 20) 33 2 99 ≡ steps None 1)
+    × (previous_search (since 20) 33 1 0 ≡ steps None 0)
+    × (previous_search (since 20) 0 1 9 ≡ steps None 0)
+    × (through (λ found. Some 7) (steps (Some 3) 5) ≡ steps (Some 7) 5)
 unfolding toggles_of count_of node_of seek best walk chunks
 steps_run = (refl, refl, refl, refl, refl, refl, refl, refl)

@@ -2,7 +2,7 @@
 use mathlib.Core.Path.{◌≡◌}
 use mathlib.Core.Bool.{false}
 use mathlib.Core.Logic.{◌⊎◌, inl, inr}
-use mathlib.Core.Option.{Option, none, some}
+use Rattle.std.specs.Prelude.{Option, None, Some}
 use Prim.Native.Nat.{ℕ, ◌+◌, ◌-◌, ◌≤◌, ◌<◌}
 use native.Mathlib.Decide.{dec_lt}
 use native.Mathlib.Omega.{arith}
@@ -35,17 +35,17 @@ module _ {Q : Type 0} (s : ℕ → ℕ) (len : ℕ) (place : Q → ℕ) (Says : 
       go (no l) = omega (arith, l)
 
   -- none has a change at which there is none
-  passed_by : (q : Q) → IsChange s len mask (place q) → (budget : ℕ) → Says mask q gap 0 budget none → (c : Burst) → Found c → c.first ≤ place q → place q < c.last → ⊥
+  passed_by : (q : Q) → IsChange s len mask (place q) → (budget : ℕ) → Says mask q gap 0 budget None → (c : Burst) → Found c → c.first ≤ place q → place q < c.last → ⊥
   passed_by q cq budget said c g k l =
       let y = is_burst c g in
       let n = there s len mask false (place q) c.last y.last_is (l, y.last_is.most) in
       let r = neighbour s len mask false (place q) n.0 n.1 in
       let near : n.0 - place q < gap = y.gaps (place q) n.0 cq r.is k r.asked.0 (omega (arith, n.2)) (λ i a b ci. r.first i ci (a, ci.most) b) in
-      let b = h.there mask q gap 0 budget none said cq n.0 r.is (λ e. omega (arith, e, r.asked.0)) (omega (arith, near, r.asked.0)) in
+      let b = h.there mask q gap 0 budget None said cq n.0 r.is (λ e. omega (arith, e, r.asked.0)) (omega (arith, near, r.asked.0)) in
       none_some {x = b.0} b.1
 
   module _ (from : ℕ) (done : Done s len place Says mask gap from) (q : Q) (next : IsNext s len place Says mask gap from (place q)) (budget : ℕ) where
-    listed : len ≤ budget → (b : Burst) → Says mask q gap 0 budget (some b)
+    listed : len ≤ budget → (b : Burst) → Says mask q gap 0 budget (Some b)
         → (b.first ≡ place q) × Done s len place Says mask gap b.last × ((c : Burst) → Found c → from < c.first → c.first ≤ b.last → SameEnds c b)
     listed enough b said = (first_is, done_behind b f, λ c g k l. sharing c b g f c.first (is_burst c g).first_is (omega arith) (omega (arith, (is_burst c g).order)) (omega (arith, first_is, next.soonest c.first (is_burst c g).first_is k)) l)
       where
@@ -63,7 +63,7 @@ module _ {Q : Type 0} (s : ℕ → ℕ) (len : ℕ) (place : Q → ℕ) (Says : 
         first_is : b.first ≡ place q
         first_is = begins (dec_lt from b.first)
 
-    passed : Says mask q gap 0 budget none → Done s len place Says mask gap (place q) × ((c : Burst) → Found c → from < c.first → c.first ≤ place q → ⊥)
+    passed : Says mask q gap 0 budget None → Done s len place Says mask gap (place q) × ((c : Burst) → Found c → from < c.first → c.first ≤ place q → ⊥)
     passed said = (λ c g k. up c g k (dec_lt (place q) c.last), λ c g k l. passed_by q next.change budget said c g l (omega (arith, next.soonest c.first (is_burst c g).first_is k, (is_burst c g).order)))
       where
         up : (c : Burst) → Found c → c.first ≤ place q → Dec (place q < c.last) → c.last ≤ place q

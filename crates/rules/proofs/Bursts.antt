@@ -2,7 +2,7 @@
 use mathlib.Core.Path.{◌≡◌, refl, sym, ap, ap₂, ◌∙◌, subst}
 use mathlib.Core.Bool.{Bool, true, false, not, cond, ◌||◌}
 use mathlib.Core.Logic.{◌⊎◌, inl, inr}
-use mathlib.Core.Option.{Option, none, some}
+use Rattle.std.specs.Prelude.{Option, None, Some}
 use Prim.Native.Nat.{ℕ, ◌+◌, ◌-◌, ◌≤◌, ◌<◌, min}
 use native.Mathlib.Decide.{dec_lt, ℕ_discrete}
 use native.Mathlib.Omega.{arith}
@@ -63,8 +63,8 @@ module _ (s : ℕ → ℕ) (len mask gap : ℕ) (some-gap : 1 ≤ gap) (few : le
     from_last : sample ≤ x.last + tolerance
 
   abbrev Pairs : ℕ → ℕ → Option Side → Type 0
-  Pairs sample tolerance none = Unit {0}
-  Pairs sample tolerance (some x) = IsPair sample tolerance x
+  Pairs sample tolerance None = Unit {0}
+  Pairs sample tolerance (Some x) = IsPair sample tolerance x
 
   module _ (sample tolerance : ℕ) where
     -- two neighbours, if they are near
@@ -76,32 +76,32 @@ module _ (s : ℕ → ℕ) (len mask gap : ℕ) (some-gap : 1 ≤ gap) (few : le
         go true e = record { first_is = f; last_is = l; order_is = o; gap_is = ltb-true (x.last - x.first) gap e; nothing = n; to_first = a; from_last = z }
         go false e = tt
 
-    within : (b : Bool) (o : Option Side) → (b ≡ true → Pairs sample tolerance o) → Pairs sample tolerance (cond b o none)
+    within : (b : Bool) (o : Option Side) → (b ≡ true → Pairs sample tolerance o) → Pairs sample tolerance (cond b o None)
     within true o h = h refl
     within false o h = tt
 
     left_pair : (p : ℕ) → Neighbour s len mask true sample p → (o : Option ℕ) → back (p - 1) ≡ o → Pairs sample tolerance (left_with gap tolerance sample p o)
-    left_pair p l none e = tt
-    left_pair p l (some q) e =
+    left_pair p l None e = tt
+    left_pair p l (Some q) e =
         let h = neighbour s len mask true (p - 1) q e in
         within (leb (sample - p) tolerance) (side_if (ltb (p - q) gap) (record { distance = sample - p; first = q; last = p })) (λ t.
         close_pair (record { distance = sample - p; first = q; last = p }) h.is l.is (omega (arith, h.asked.1, l.is.least)) (λ i c a b. h.first i c (c.least, omega (arith, b), c.most) a)
         (omega (arith, h.asked.1, l.asked.1)) (omega (arith, leb-true (sample - p) tolerance t)))
 
     right_pair : (n : ℕ) → Neighbour s len mask false sample n → (o : Option ℕ) → fore n ≡ o → Pairs sample tolerance (right_with gap tolerance sample n o)
-    right_pair n l none e = tt
-    right_pair n l (some r) e =
+    right_pair n l None e = tt
+    right_pair n l (Some r) e =
         let h = neighbour s len mask false n r e in
         within (leb (n - sample) tolerance) (side_if (ltb (r - n) gap) (record { distance = n - sample; first = n; last = r })) (λ t.
         close_pair (record { distance = n - sample; first = n; last = r }) l.is h.is h.asked.0 (λ i c a b. h.first i c (a, c.most) b)
         (omega (arith, leb-true (n - sample) tolerance t)) (omega (arith, l.asked.0, h.asked.0)))
 
     nearer_pair : (l r : Option Side) → Pairs sample tolerance l → Pairs sample tolerance r → Pairs sample tolerance (nearer l r)
-    nearer_pair none r x y = y
-    nearer_pair (some l) none x y = x
-    nearer_pair (some l) (some r) x y = go (leb l.distance r.distance)
+    nearer_pair None r x y = y
+    nearer_pair (Some l) None x y = x
+    nearer_pair (Some l) (Some r) x y = go (leb l.distance r.distance)
       where
-        go : (b : Bool) → Pairs sample tolerance (cond b (some l) (some r))
+        go : (b : Bool) → Pairs sample tolerance (cond b (Some l) (Some r))
         go true = x
         go false = y
 
@@ -109,17 +109,17 @@ module _ (s : ℕ → ℕ) (len mask gap : ℕ) (some-gap : 1 ≤ gap) (few : le
     sides_pair p n e f = nearer_pair (left_of back fore gap tolerance sample p) (right_of back fore gap tolerance sample n) (left p e) (right n f)
       where
         left : (o : Option ℕ) → back sample ≡ o → Pairs sample tolerance (left_of back fore gap tolerance sample o)
-        left none z = tt
-        left (some q) z = left_pair q (neighbour s len mask true sample q z) (back (q - 1)) refl
+        left None z = tt
+        left (Some q) z = left_pair q (neighbour s len mask true sample q z) (back (q - 1)) refl
 
         right : (o : Option ℕ) → fore sample ≡ o → Pairs sample tolerance (right_of back fore gap tolerance sample o)
-        right none z = tt
-        right (some q) z = right_pair q (neighbour s len mask false sample q z) (fore q) refl
+        right None z = tt
+        right (Some q) z = right_pair q (neighbour s len mask false sample q z) (fore q) refl
 
     pair : (p n : Option ℕ) → back sample ≡ p → fore sample ≡ n → Pairs sample tolerance (pair_of back fore gap tolerance sample p n)
-    pair none n e f = sides_pair none n e f
-    pair (some p) none e f = sides_pair (some p) none e f
-    pair (some p) (some n) e f = go (ltb (n - p) gap) refl
+    pair None n e f = sides_pair None n e f
+    pair (Some p) None e f = sides_pair (Some p) None e f
+    pair (Some p) (Some n) e f = go (ltb (n - p) gap) refl
       where
         l : Neighbour s len mask true sample p
         l = neighbour s len mask true sample p e
@@ -131,7 +131,7 @@ module _ (s : ℕ → ℕ) (len mask gap : ℕ) (some-gap : 1 ≤ gap) (few : le
         between i c a b (yes h) = r.first i c (h, c.most) b
         between i c a b (no h) = l.first i c (c.least, omega (arith, h), c.most) a
 
-        go : (b : Bool) → ltb (n - p) gap ≡ b → Pairs sample tolerance (cond b (some (record { distance = 0; first = p; last = n })) (sides back fore gap tolerance sample (some p) (some n)))
+        go : (b : Bool) → ltb (n - p) gap ≡ b → Pairs sample tolerance (cond b (Some (record { distance = 0; first = p; last = n })) (sides back fore gap tolerance sample (Some p) (Some n)))
         go true z = record {
           first_is = l.is;
           last_is = r.is;
@@ -141,54 +141,54 @@ module _ (s : ℕ → ℕ) (len mask gap : ℕ) (some-gap : 1 ≤ gap) (few : le
           to_first = omega (arith, l.asked.1);
           from_last = omega (arith, r.asked.0);
         }
-        go false z = sides_pair (some p) (some n) e f
+        go false z = sides_pair (Some p) (Some n) e f
 
     -- ---- at a change that has another less than the gap away there is one, and it has the change
     abbrev Has : Option Side → Type 0
-    Has o = (x : Side) × (o ≡ some x) × (x.first ≤ sample) × (sample ≤ x.last)
+    Has o = (x : Side) × (o ≡ Some x) × (x.first ≤ sample) × (sample ≤ x.last)
 
     module _ (c : Ch sample) where
-      here : back sample ≡ some sample
-      here = let l = there s len mask true sample sample c (c.least, omega arith, c.most) in l.1 ∙ ap (λ (x : ℕ). some x) (omega (arith, l.2, (neighbour s len mask true sample l.0 l.1).asked.1))
+      here : back sample ≡ Some sample
+      here = let l = there s len mask true sample sample c (c.least, omega arith, c.most) in l.1 ∙ ap (λ (x : ℕ). Some x) (omega (arith, l.2, (neighbour s len mask true sample l.0 l.1).asked.1))
 
       -- with the next one
-      onward : (n : ℕ) → fore sample ≡ some n → n - sample < gap → Has (pair_of back fore gap tolerance sample (some sample) (some n))
-      onward n e h = (record { distance = 0; first = sample; last = n }, ap (λ (b : Bool). cond b (some (record { distance = 0; first = sample; last = n })) (sides back fore gap tolerance sample (some sample) (some n))) (lt-ltb (n - sample) gap h), omega arith, omega (arith, (neighbour s len mask false sample n e).asked.0))
+      onward : (n : ℕ) → fore sample ≡ Some n → n - sample < gap → Has (pair_of back fore gap tolerance sample (Some sample) (Some n))
+      onward n e h = (record { distance = 0; first = sample; last = n }, ap (λ (b : Bool). cond b (Some (record { distance = 0; first = sample; last = n })) (sides back fore gap tolerance sample (Some sample) (Some n))) (lt-ltb (n - sample) gap h), omega arith, omega (arith, (neighbour s len mask false sample n e).asked.0))
 
-      nearest_left : (l : Side) (r : Option Side) → l.distance ≡ 0 → nearer (some l) r ≡ some l
-      nearest_left l none e = refl
-      nearest_left l (some r) e = ap (λ (b : Bool). cond b (some l) (some r)) (le-leb l.distance r.distance (omega (arith, e)))
+      nearest_left : (l : Side) (r : Option Side) → l.distance ≡ 0 → nearer (Some l) r ≡ Some l
+      nearest_left l None e = refl
+      nearest_left l (Some r) e = ap (λ (b : Bool). cond b (Some l) (Some r)) (le-leb l.distance r.distance (omega (arith, e)))
 
       -- or with the one before, if that is near: none is nearer
       module _ (i : ℕ) (ci : Ch i) (h : i < sample) (near : sample - i < gap) where
-        backward : (n : Option ℕ) → Has (sides back fore gap tolerance sample (some sample) n)
+        backward : (n : Option ℕ) → Has (sides back fore gap tolerance sample (Some sample) n)
         backward n =
             let l = there s len mask true (sample - 1) i ci (ci.least, omega (arith, h), ci.most) in
             let x : Side = record { distance = sample - sample; first = l.0; last = sample } in
             let q = neighbour s len mask true (sample - 1) l.0 l.1 in
             (x, ap (λ (o : Option Side). nearer o (right_of back fore gap tolerance sample n)) (left l.0 l.1 (omega (arith, l.2, near))) ∙ nearest_left x (right_of back fore gap tolerance sample n) (omega arith), omega (arith, q.asked.1, ci.least, h), omega arith)
           where
-            left : (q : ℕ) → back (sample - 1) ≡ some q → sample - q < gap → left_of back fore gap tolerance sample (some sample) ≡ some (record { distance = sample - sample; first = q; last = sample })
+            left : (q : ℕ) → back (sample - 1) ≡ Some q → sample - q < gap → left_of back fore gap tolerance sample (Some sample) ≡ Some (record { distance = sample - sample; first = q; last = sample })
             left q e k =
                 ap (left_with gap tolerance sample sample) e
-                ∙ ap (λ (b : Bool). cond b (side_if (ltb (sample - q) gap) (record { distance = sample - sample; first = q; last = sample })) none) (le-leb (sample - sample) tolerance (omega arith))
+                ∙ ap (λ (b : Bool). cond b (side_if (ltb (sample - q) gap) (record { distance = sample - sample; first = q; last = sample })) None) (le-leb (sample - sample) tolerance (omega arith))
                 ∙ ap (λ (b : Bool). side_if b (record { distance = sample - sample; first = q; last = sample })) (lt-ltb (sample - q) gap k)
 
-        around_left : (n : Option ℕ) → fore sample ≡ n → Has (pair_of back fore gap tolerance sample (some sample) n)
-        around_left none e = backward none
-        around_left (some n) e = go (dec_lt (n - sample) gap)
+        around_left : (n : Option ℕ) → fore sample ≡ n → Has (pair_of back fore gap tolerance sample (Some sample) n)
+        around_left None e = backward None
+        around_left (Some n) e = go (dec_lt (n - sample) gap)
           where
-            go : Dec (n - sample < gap) → Has (pair_of back fore gap tolerance sample (some sample) (some n))
+            go : Dec (n - sample < gap) → Has (pair_of back fore gap tolerance sample (Some sample) (Some n))
             go (yes k) = onward n e k
-            go (no k) = subst Has (ap (λ (b : Bool). cond b (some (record { distance = 0; first = sample; last = n })) (sides back fore gap tolerance sample (some sample) (some n))) (sym (le-ltb (n - sample) gap (omega (arith, k))))) (backward (some n))
+            go (no k) = subst Has (ap (λ (b : Bool). cond b (Some (record { distance = 0; first = sample; last = n })) (sides back fore gap tolerance sample (Some sample) (Some n))) (sym (le-ltb (n - sample) gap (omega (arith, k))))) (backward (Some n))
 
       pair_there : (i : ℕ) → Ch i → (i ≡ sample → ⊥) → (i - sample) + (sample - i) < gap → Has (pair_of back fore gap tolerance sample (back sample) (fore sample))
       pair_there i ci other near = subst (λ (p : Option ℕ). Has (pair_of back fore gap tolerance sample p (fore sample))) (sym here) (go (dec_lt sample i))
         where
-          go : Dec (sample < i) → Has (pair_of back fore gap tolerance sample (some sample) (fore sample))
+          go : Dec (sample < i) → Has (pair_of back fore gap tolerance sample (Some sample) (fore sample))
           go (yes h) =
               let n = there s len mask false sample i ci (h, ci.most) in
-              subst (λ (o : Option ℕ). Has (pair_of back fore gap tolerance sample (some sample) o)) (sym n.1) (onward n.0 n.1 (omega (arith, n.2, near)))
+              subst (λ (o : Option ℕ). Has (pair_of back fore gap tolerance sample (Some sample) o)) (sym n.1) (onward n.0 n.1 (omega (arith, n.2, near)))
           go (no h) = around_left i ci (omega (arith, h, other)) (omega (arith, near)) (fore sample) refl
 
   -- ---- a burst: statements 1 and 2
@@ -269,12 +269,12 @@ module _ (s : ℕ → ℕ) (len mask gap : ℕ) (some-gap : 1 ≤ gap) (few : le
     }
 
   abbrev All : ℕ → ℕ → ℕ → Option Burst → Type 0
-  All sample tolerance budget none = Unit {0}
-  All sample tolerance budget (some b) = Grown sample tolerance budget b
+  All sample tolerance budget None = Unit {0}
+  All sample tolerance budget (Some b) = Grown sample tolerance budget b
 
   grown_all : (sample tolerance budget : ℕ) (o : Option Side) → Pairs sample tolerance o → All sample tolerance budget (grown back fore gap budget o)
-  grown_all sample tolerance budget none h = tt
-  grown_all sample tolerance budget (some x) h = grown_is sample tolerance budget x h
+  grown_all sample tolerance budget None h = tt
+  grown_all sample tolerance budget (Some x) h = grown_is sample tolerance budget x h
 
   abbrev pair_at : ℕ → ℕ → Option Side
   pair_at sample tolerance = pair_of back fore gap (min tolerance (gap - 1)) sample (back sample) (fore sample)
@@ -283,14 +283,14 @@ module _ (s : ℕ → ℕ) (len mask gap : ℕ) (some-gap : 1 ≤ gap) (few : le
   unfolding burst_by
   burst_all sample tolerance budget = go (eqb len 0 || ltb gap 2)
     where
-      go : (b : Bool) → All sample (min tolerance (gap - 1)) budget (cond b none (grown back fore gap budget (pair_at sample tolerance)))
+      go : (b : Bool) → All sample (min tolerance (gap - 1)) budget (cond b None (grown back fore gap budget (pair_at sample tolerance)))
       go true = tt
       go false = grown_all sample (min tolerance (gap - 1)) budget (pair_at sample tolerance) (pair sample (min tolerance (gap - 1)) (back sample) (fore sample) refl refl)
 
   -- ---- statement 4: a larger budget, all else equal
   larger : (budget more : ℕ) → budget ≤ more → (sample tolerance : ℕ) (o : Option Side) → Pairs sample tolerance o → NoSmaller (grown back fore gap budget o) (grown back fore gap more o)
-  larger budget more h sample tolerance none p = tt
-  larger budget more h sample tolerance (some x) p =
+  larger budget more h sample tolerance None p = tt
+  larger budget more h sample tolerance (Some x) p =
       let a = no_less Ch true gap (λ q. fore (q - gap)) (λ q e. ltb e q) (λ q e z. ltb-true e q z) (λ q e z k. further_up e q z k) downward budget more x.first 0 h p.first_is in
       let b = no_less Ch false gap (λ q. back (sum q (gap - 1))) ltb (λ q e z. ltb-true q e z) further_up upward budget more x.last 0 h p.last_is in
       let no : (first_end back fore gap budget x.first).place < (first_end back fore gap more x.first).place → ⊥ = back_again true (first_end back fore gap budget x.first).place (first_end back fore gap more x.first).place a in
@@ -301,7 +301,7 @@ module _ (s : ℕ → ℕ) (len mask gap : ℕ) (some-gap : 1 ≤ gap) (few : le
   unfolding burst_by
   larger_burst sample tolerance budget more h = go (eqb len 0 || ltb gap 2)
     where
-      go : (b : Bool) → NoSmaller (cond b none (grown back fore gap budget (pair_at sample tolerance))) (cond b none (grown back fore gap more (pair_at sample tolerance)))
+      go : (b : Bool) → NoSmaller (cond b None (grown back fore gap budget (pair_at sample tolerance))) (cond b None (grown back fore gap more (pair_at sample tolerance)))
       go true = tt
       go false = larger budget more h sample (min tolerance (gap - 1)) (pair_at sample tolerance) (pair sample (min tolerance (gap - 1)) (back sample) (fore sample) refl refl)
 
@@ -345,14 +345,14 @@ module _ (s : ℕ → ℕ) (len mask gap : ℕ) (some-gap : 1 ≤ gap) (few : le
 
   -- ---- at a change that has another less than the gap away
   there_burst : (sample tolerance budget : ℕ) → Ch sample → (i : ℕ) → Ch i → (i ≡ sample → ⊥) → (i - sample) + (sample - i) < gap
-      → (b : Burst) × (burst s len mask sample gap tolerance budget ≡ some b) × (b.first ≤ sample) × (sample ≤ b.last)
+      → (b : Burst) × (burst s len mask sample gap tolerance budget ≡ Some b) × (b.first ≤ sample) × (sample ≤ b.last)
   unfolding burst_by
   there_burst sample tolerance budget c i ci other near =
       let f = pair_there sample (min tolerance (gap - 1)) c i ci other near in
       let x = f.0 in
       let h : IsPair sample (min tolerance (gap - 1)) x = subst (Pairs sample (min tolerance (gap - 1))) f.1 (pair sample (min tolerance (gap - 1)) (back sample) (fore sample) refl refl) in (
         ends back fore (last_end back fore gap budget x.last) (first_end back fore gap budget x.first),
-        ap₂ (λ (p q : Bool). cond (p || q) none (grown back fore gap budget (pair_at sample tolerance))) (ne_eqb len 0 (λ e. omega (arith, e, c.most))) (le-ltb gap 2 (omega (arith, other, near)))
+        ap₂ (λ (p q : Bool). cond (p || q) None (grown back fore gap budget (pair_at sample tolerance))) (ne_eqb len 0 (λ e. omega (arith, e, c.most))) (le-ltb gap 2 (omega (arith, other, near)))
             ∙ ap (grown back fore gap budget) f.1,
         omega (arith, low sample (min tolerance (gap - 1)) budget x h, f.2),
         omega (arith, high sample (min tolerance (gap - 1)) budget x h, f.3),
@@ -361,29 +361,29 @@ module _ (s : ℕ → ℕ) (len mask gap : ℕ) (some-gap : 1 ≤ gap) (few : le
 -- ---- whatever says what the rule says
 module _ (s : ℕ → ℕ) (len : ℕ) (few : len ≤ most_place) where
   -- without a gap there is no burst
-  no_burst : (mask gap : ℕ) → gap < 1 → (sample tolerance budget : ℕ) → burst s len mask sample gap tolerance budget ≡ none
+  no_burst : (mask gap : ℕ) → gap < 1 → (sample tolerance budget : ℕ) → burst s len mask sample gap tolerance budget ≡ None
   unfolding burst_by
   no_burst mask gap h sample tolerance budget = go (eqb len 0) (lt-ltb gap 2 (omega (arith, h)))
     where
       around : Option Burst
       around = grown (previous s len mask) (next s len mask) gap budget (pair_of (previous s len mask) (next s len mask) gap (min tolerance (gap - 1)) sample (previous s len mask sample) (next s len mask sample))
 
-      go : (b : Bool) → ltb gap 2 ≡ true → cond (b || ltb gap 2) none around ≡ none
+      go : (b : Bool) → ltb gap 2 ≡ true → cond (b || ltb gap 2) None around ≡ None
       go true e = refl
-      go false e = ap (λ (c : Bool). cond c none around) e
+      go false e = ap (λ (c : Bool). cond c None around) e
 
-  some_gap_of : (mask sample gap tolerance budget : ℕ) (b : Burst) → burst s len mask sample gap tolerance budget ≡ some b → 1 ≤ gap
+  some_gap_of : (mask sample gap tolerance budget : ℕ) (b : Burst) → burst s len mask sample gap tolerance budget ≡ Some b → 1 ≤ gap
   some_gap_of mask sample gap tolerance budget b e = go (dec_lt gap 1)
     where
       go : Dec (gap < 1) → 1 ≤ gap
       go (yes h) = absurd (none_some (sym (no_burst mask gap h sample tolerance budget) ∙ e))
       go (no h) = omega (arith, h)
 
-  known : (mask gap : ℕ) (some-gap : 1 ≤ gap) (sample tolerance budget : ℕ) (b : Burst) → burst s len mask sample gap tolerance budget ≡ some b → Grown s len mask gap some-gap few sample (min tolerance (gap - 1)) budget b
+  known : (mask gap : ℕ) (some-gap : 1 ≤ gap) (sample tolerance budget : ℕ) (b : Burst) → burst s len mask sample gap tolerance budget ≡ Some b → Grown s len mask gap some-gap few sample (min tolerance (gap - 1)) budget b
   known mask gap some-gap sample tolerance budget b e = subst (All s len mask gap some-gap few sample (min tolerance (gap - 1)) budget) e (burst_all s len mask gap some-gap few sample tolerance budget)
 
   -- what is known of a burst, with a gap that it has
-  burst_known : (mask sample gap tolerance budget : ℕ) (b : Burst) (e : burst s len mask sample gap tolerance budget ≡ some b)
+  burst_known : (mask sample gap tolerance budget : ℕ) (b : Burst) (e : burst s len mask sample gap tolerance budget ≡ Some b)
       → Grown s len mask gap (some_gap_of mask sample gap tolerance budget b e) few sample (min tolerance (gap - 1)) budget b
   burst_known mask sample gap tolerance budget b e = known mask gap (some_gap_of mask sample gap tolerance budget b e) sample tolerance budget b e
 
@@ -391,28 +391,28 @@ module _ (s : ℕ → ℕ) (len : ℕ) (few : len ≤ most_place) where
   larger_rule mask sample gap tolerance budget more l = go (dec_lt gap 1)
     where
       go : Dec (gap < 1) → NoSmaller (burst s len mask sample gap tolerance budget) (burst s len mask sample gap tolerance more)
-      go (yes h) = subst (λ (o : Option Burst). NoSmaller o (burst s len mask sample gap tolerance more)) (sym (no_burst mask gap h sample tolerance budget)) (subst (NoSmaller none) (sym (no_burst mask gap h sample tolerance more)) tt)
+      go (yes h) = subst (λ (o : Option Burst). NoSmaller o (burst s len mask sample gap tolerance more)) (sym (no_burst mask gap h sample tolerance budget)) (subst (NoSmaller None) (sym (no_burst mask gap h sample tolerance more)) tt)
       go (no h) = larger_burst s len mask gap (omega (arith, h)) few sample tolerance budget more l
 
   pub says_meet : {Q : Type 0} (place : Q → ℕ) (Says : ℕ → Q → ℕ → ℕ → ℕ → Option Burst → Type 0)
       → ((mask : ℕ) (q : Q) (gap tolerance budget : ℕ) (o : Option Burst) → Says mask q gap tolerance budget o → burst s len mask (place q) gap tolerance budget ≡ o)
       → BurstsMeet s len place Says
   says_meet {Q} place Says is = record {
-    any = λ mask q gap tolerance budget b h. (burst_known mask (place q) gap tolerance budget b (is mask q gap tolerance budget (some b) h)).is_burst;
-    behind = λ mask q gap tolerance budget b h. (burst_known mask (place q) gap tolerance budget b (is mask q gap tolerance budget (some b) h)).behind;
-    before = λ mask q gap tolerance budget b h. (burst_known mask (place q) gap tolerance budget b (is mask q gap tolerance budget (some b) h)).before;
+    any = λ mask q gap tolerance budget b h. (burst_known mask (place q) gap tolerance budget b (is mask q gap tolerance budget (Some b) h)).is_burst;
+    behind = λ mask q gap tolerance budget b h. (burst_known mask (place q) gap tolerance budget b (is mask q gap tolerance budget (Some b) h)).behind;
+    before = λ mask q gap tolerance budget b h. (burst_known mask (place q) gap tolerance budget b (is mask q gap tolerance budget (Some b) h)).before;
     meet = λ mask gap q₁ tolerance₁ budget₁ b q₂ tolerance₂ budget₂ c h m k n.
-        let e = is mask q₁ gap tolerance₁ budget₁ (some b) h in
+        let e = is mask q₁ gap tolerance₁ budget₁ (Some b) h in
         let g = some_gap_of mask (place q₁) gap tolerance₁ budget₁ b e in
         meet s len mask gap g few (place q₁) (min tolerance₁ (gap - 1)) budget₁ (place q₂) (min tolerance₂ (gap - 1)) budget₂ b c
-        (known mask gap g (place q₁) tolerance₁ budget₁ b e) m (known mask gap g (place q₂) tolerance₂ budget₂ c (is mask q₂ gap tolerance₂ budget₂ (some c) k)) n;
+        (known mask gap g (place q₁) tolerance₁ budget₁ b e) m (known mask gap g (place q₂) tolerance₂ budget₂ c (is mask q₂ gap tolerance₂ budget₂ (Some c) k)) n;
     larger = λ mask q gap tolerance budget more l o p h k.
         subst (NoSmaller o) (is mask q gap tolerance more p k)
         (subst (λ (x : Option Burst). NoSmaller x (burst s len mask (place q) gap tolerance more)) (is mask q gap tolerance budget o h) (larger_rule mask (place q) gap tolerance budget more l));
     unreached = λ mask q gap tolerance budget b h l.
-        let f = (burst_known mask (place q) gap tolerance budget b (is mask q gap tolerance budget (some b) h)).fewer in record { end = omega (arith, f.0, l); start = omega (arith, f.1, l) };
+        let f = (burst_known mask (place q) gap tolerance budget b (is mask q gap tolerance budget (Some b) h)).fewer in record { end = omega (arith, f.0, l); start = omega (arith, f.1, l) };
     around = λ mask q gap tolerance budget b h.
-        let a = (burst_known mask (place q) gap tolerance budget b (is mask q gap tolerance budget (some b) h)).around in (omega (arith, a.0), omega (arith, a.1));
+        let a = (burst_known mask (place q) gap tolerance budget b (is mask q gap tolerance budget (Some b) h)).around in (omega (arith, a.0), omega (arith, a.1));
     there = λ mask q gap tolerance budget o h c i ci other near.
         let x = there_burst s len mask gap (omega (arith, near)) few (place q) tolerance budget c i ci other near in
         (x.0, sym (is mask q gap tolerance budget o h) ∙ x.1, x.2, x.3);

@@ -2,7 +2,7 @@
 use mathlib.Core.Path.{◌≡◌, refl}
 use mathlib.Core.Bool.{false, cond}
 use mathlib.Core.List.{List, [], ◌∷◌, ◌++◌}
-use mathlib.Core.Option.{none, some}
+use Rattle.std.specs.Prelude.{None, Some}
 use Prim.Native.Nat.{ℕ}
 use lib.IntN.{pos, negsuc}
 use lib.Dec.{ltb}
@@ -46,22 +46,22 @@ abbrev settings : Condition → Settings
 settings c = record { channels = 8; capacity = 16; limit = 4; terms = on0 c ∷ []; wish = fraction half; rate = 0 }
 
 pub shelf :
-    (next A 8 1 0 ≡ some 2)
-    × (next A 8 1 7 ≡ none)
-    × (previous A 8 1 6 ≡ some 4)
-    × (previous A 8 1 100 ≡ some 7)
-    × (summary A 8 0 8 ≡ some (record { first = 0; last = 3; toggles = 3; count = 4 }))
+    (next A 8 1 0 ≡ Some 2)
+    × (next A 8 1 7 ≡ None)
+    × (previous A 8 1 6 ≡ Some 4)
+    × (previous A 8 1 100 ≡ Some 7)
+    × (summary A 8 0 8 ≡ Some (record { first = 0; last = 3; toggles = 3; count = 4 }))
     × (density A 8 0 8 ≡ 4)
-    × (burst A 8 1 3 4 0 1 ≡ some (record { first = 2; last = 7; jumps_end = 1; jumps_start = 0 }))
-    × (burst A 8 1 3 3 0 1 ≡ some (record { first = 2; last = 4; jumps_end = 0; jumps_start = 0 }))
-    × (burst B 10 1 5 4 3 9 ≡ some (record { first = 1; last = 2; jumps_end = 0; jumps_start = 0 }))
+    × (burst A 8 1 3 4 0 1 ≡ Some (record { first = 2; last = 7; jumps_end = 1; jumps_start = 0 }))
+    × (burst A 8 1 3 3 0 1 ≡ Some (record { first = 2; last = 4; jumps_end = 0; jumps_start = 0 }))
+    × (burst B 10 1 5 4 3 9 ≡ Some (record { first = 1; last = 2; jumps_end = 0; jumps_start = 0 }))
     × (render A 8 (view (fin false 0 (pos 0)) (fin false 1 (pos 2))) 2 ≡ 0 ∷ 1 ∷ 0 ∷ 3 ∷ [])
     × (render A 8 (view (fin false 3 (negsuc 0)) half) 1 ≡ 0 ∷ 1 ∷ [])
     × (run_of (rule_of (settings rising)) ((0 ∷ 0 ∷ []) ∷ (0 ∷ 1 ∷ 1 ∷ []) ∷ []) ≡ 0 ∷ 0 ∷ 1 ∷ 1 ∷ [])
-    × (mark_of (rule_of (settings rising)) ((0 ∷ 0 ∷ []) ∷ (0 ∷ 1 ∷ 1 ∷ []) ∷ []) ≡ some 2)
+    × (mark_of (rule_of (settings rising)) ((0 ∷ 0 ∷ []) ∷ (0 ∷ 1 ∷ 1 ∷ []) ∷ []) ≡ Some 2)
     × (replies_of (rule_of (settings rising)) ((0 ∷ 0 ∷ []) ∷ (0 ∷ 1 ∷ 1 ∷ []) ∷ []) ≡ going_on ∷ complete ∷ [])
-    × (selection (rule_of (settings rising)) (1 ∷ []) ≡ record { run = []; mark = none })
-    × (selection (rule_of (settings high)) (1 ∷ []) ≡ record { run = 1 ∷ []; mark = some 0 })
+    × (selection (rule_of (settings rising)) (1 ∷ []) ≡ record { run = []; mark = None })
+    × (selection (rule_of (settings high)) (1 ∷ []) ≡ record { run = 1 ∷ []; mark = Some 0 })
 unfolding sample_of list_from toggles_of count_of node_of seek jump burst_by floor_of nearest_of pixel_edge row_by most_fraction times with_terms both_as_edge matches fires first_fire chosen selection accepted_from replies_from add mul of_int lt
 shelf = (refl, refl, refl, refl, refl, refl, refl, refl, refl, refl, refl, refl, refl, refl, refl, refl)
 
@@ -81,13 +81,13 @@ abbrev late : ℕ → ℕ
 late i = cond (ltb i 100) 0 1
 
 pub read :
-    (next_search A 8 1 0 ≡ record { found = some 2; steps = 2 })
-    × (next_search A 8 1 7 ≡ record { found = none; steps = 0 })
-    × (previous_search A 8 1 6 ≡ record { found = some 4; steps = 3 })
+    (next_search A 8 1 0 ≡ record { found = Some 2; steps = 2 })
+    × (next_search A 8 1 7 ≡ record { found = None; steps = 0 })
+    × (previous_search A 8 1 6 ≡ record { found = Some 4; steps = 3 })
     × ((burst_search A 8 1 3 4 0 1).steps ≡ 6)
-    × (burst_search A 8 1 3 2 0 9 ≡ record { found = none; steps = 3 })
-    × (burst_search A 8 1 3 2 1 9 ≡ record { found = none; steps = 7 })
-    × (next_search late 200 1 0 ≡ record { found = some 100; steps = 39 })
+    × (burst_search A 8 1 3 2 0 9 ≡ record { found = None; steps = 3 })
+    × (burst_search A 8 1 3 2 1 9 ≡ record { found = None; steps = 7 })
+    × (next_search late 200 1 0 ≡ record { found = Some 100; steps = 39 })
     × (next_entered all_levels (run_reader late) 200 1 0 ≡ 1)
 unfolding sample_of toggles_of count_of node_of seek jump burst_by jump_steps steps_by best walk chunks entered
 read = (refl, refl, refl, refl, refl, refl, refl, refl)
@@ -97,9 +97,9 @@ abbrev turner : List Term → Settings
 turner more = record { channels = 8; capacity = 16; limit = 4; terms = on0 rising ∷ more ++ (on0 falling ∷ []); wish = fraction half; rate = 0 }
 
 pub both_on_one :
-    (selection (rule_of (turner [])) (1 ∷ 1 ∷ 0 ∷ 1 ∷ []) ≡ record { run = 1 ∷ 1 ∷ 0 ∷ 1 ∷ []; mark = some 2 })
-    × (selection (rule_of (turner [])) (0 ∷ 1 ∷ []) ≡ record { run = 0 ∷ 1 ∷ []; mark = some 1 })
-    × (selection (rule_of (turner (on0 high ∷ []))) (1 ∷ 0 ∷ 1 ∷ []) ≡ record { run = 1 ∷ 0 ∷ 1 ∷ []; mark = some 2 })
-    × (selection (rule_of (turner (record { line = 1; condition = high } ∷ []))) (1 ∷ 0 ∷ 2 ∷ 3 ∷ []) ≡ record { run = 0 ∷ 2 ∷ 3 ∷ []; mark = some 2 })
+    (selection (rule_of (turner [])) (1 ∷ 1 ∷ 0 ∷ 1 ∷ []) ≡ record { run = 1 ∷ 1 ∷ 0 ∷ 1 ∷ []; mark = Some 2 })
+    × (selection (rule_of (turner [])) (0 ∷ 1 ∷ []) ≡ record { run = 0 ∷ 1 ∷ []; mark = Some 1 })
+    × (selection (rule_of (turner (on0 high ∷ []))) (1 ∷ 0 ∷ 1 ∷ []) ≡ record { run = 1 ∷ 0 ∷ 1 ∷ []; mark = Some 2 })
+    × (selection (rule_of (turner (record { line = 1; condition = high } ∷ []))) (1 ∷ 0 ∷ 2 ∷ 3 ∷ []) ≡ record { run = 0 ∷ 2 ∷ 3 ∷ []; mark = Some 2 })
 unfolding floor_of most_fraction times with_terms both_as_edge matches fires first_fire chosen selection mul of_int lt
 both_on_one = (refl, refl, refl, refl)

@@ -2,7 +2,8 @@
 use mathlib.Core.Path.{◌≡◌, refl, sym, ◌∙◌, subst}
 use mathlib.Core.Bool.{Bool, true, false, cond}
 use mathlib.Core.Logic.{◌⊎◌, inl, inr}
-use mathlib.Core.Option.{Option, none, some, none-ne-some}
+use Rattle.std.specs.Prelude.{Option, None, Some}
+use Rattle.rules.proofs.Options.{none-ne-some}
 use Prim.Native.Nat.{ℕ, zero, suc, ◌+◌, ◌≤◌, ◌<◌}
 use native.Mathlib.Omega.{arith}
 use Rattle.rules.specs.Burst.{End, jumped, jump}
@@ -53,7 +54,7 @@ stay false p = omega arith
 -- where a jump from a change leads: the furthest change less than the gap away, which may be the change itself
 pub record Reach (Ch : ℕ → Type 0) (down : Bool) (gap p : ℕ) (found : Option ℕ) : Type 0 where
   pub place : ℕ
-  pub is : found ≡ some place
+  pub is : found ≡ Some place
   pub change : Ch place
   pub onto : Onto down p place
   pub near : Near down gap p place
@@ -85,17 +86,17 @@ onto_of down p e h = go (order down p e)
     go (same k) = inl k
     go (second k) = absurd (h k)
 
-pub none_some : {A : Type 0} {x : A} → none ≡ some x → ⊥
+pub none_some : {A : Type 0} {x : A} → None ≡ Some x → ⊥
 none_some {A} {x} z = none-ne-some x z
 
-some_same : {x y : ℕ} → some x ≡ some y → x ≡ y
+some_same : {x y : ℕ} → Some x ≡ Some y → x ≡ y
 some_same z = cc
 
 module _ (Ch : ℕ → Type 0) (down : Bool) (gap : ℕ) (reach : ℕ → Option ℕ) (further : ℕ → ℕ → Bool)
     (yes-further : (p e : ℕ) → further p e ≡ true → Sooner down p e) (not-further : (p e : ℕ) → further p e ≡ false → Sooner down p e → ⊥)
     (reaches : (p : ℕ) → Ch p → Reach Ch down gap p (reach p)) where
   -- it was further, or it was not
-  ended_on : (p n budget e : ℕ) (f : End) → Reach Ch down gap p (reach p) → reach p ≡ some e → Sooner down p e → Ended Ch down gap e (suc n) budget f → Ended Ch down gap p n (suc budget) f
+  ended_on : (p n budget e : ℕ) (f : End) → Reach Ch down gap p (reach p) → reach p ≡ Some e → Sooner down p e → Ended Ch down gap e (suc n) budget f → Ended Ch down gap p n (suc budget) f
   ended_on p n budget e f r q h x = record {
     change = x.change;
     onto = inr (onto_next down p e f.place h x.onto);
@@ -114,7 +115,7 @@ module _ (Ch : ℕ → Type 0) (down : Bool) (gap : ℕ) (reach : ℕ → Option
       go i ci a b (same k) = x.linked i ci (inl (sym k)) b
       go i ci a b (second k) = x.linked i ci (inr k) b
 
-  ended_here : (p n budget e : ℕ) → Ch p → Reach Ch down gap p (reach p) → reach p ≡ some e → (Sooner down p e → ⊥) → Ended Ch down gap p n (suc budget) (record { place = p; jumps = n })
+  ended_here : (p n budget e : ℕ) → Ch p → Reach Ch down gap p (reach p) → reach p ≡ Some e → (Sooner down p e → ⊥) → Ended Ch down gap p n (suc budget) (record { place = p; jumps = n })
   ended_here p n budget e c r q h = record {
     change = c;
     onto = inl refl;
@@ -137,15 +138,15 @@ module _ (Ch : ℕ → Type 0) (down : Bool) (gap : ℕ) (reach : ℕ → Option
       r : Reach Ch down gap p (reach p)
       r = reaches p c
 
-      step : (e : ℕ) → reach p ≡ some e → Ended Ch down gap e (suc n) budget (jump reach further budget e (suc n)) → (t : Bool) → further p e ≡ t
+      step : (e : ℕ) → reach p ≡ Some e → Ended Ch down gap e (suc n) budget (jump reach further budget e (suc n)) → (t : Bool) → further p e ≡ t
           → Ended Ch down gap p n (suc budget) (cond t (jump reach further budget e (suc n)) (record { place = p; jumps = n }))
       step e q ih true t = ended_on p n budget e (jump reach further budget e (suc n)) r q (yes-further p e t) ih
       step e q ih false t = ended_here p n budget e c r q (not-further p e t)
 
       go : (f : Option ℕ) → reach p ≡ f → ((e : ℕ) → Ch e → Ended Ch down gap e (suc n) budget (jump reach further budget e (suc n)))
           → Ended Ch down gap p n (suc budget) (jumped further p n f (λ e. jump reach further budget e (suc n)))
-      go none q ih = absurd (none_some (sym q ∙ r.is))
-      go (some e) q ih = step e q (ih e (subst Ch (some_same (sym r.is ∙ q)) r.change)) (further p e) refl
+      go None q ih = absurd (none_some (sym q ∙ r.is))
+      go (Some e) q ih = step e q (ih e (subst Ch (some_same (sym r.is ∙ q)) r.change)) (further p e) refl
 
   -- a larger budget leads as far, or further
   pub no_less : (budget more p n : ℕ) → budget ≤ more → Ch p → Onto down (jump reach further budget p n).place (jump reach further more p n).place
@@ -164,8 +165,8 @@ module _ (Ch : ℕ → Type 0) (down : Bool) (gap : ℕ) (reach : ℕ → Option
 
       go : (f : Option ℕ) → reach p ≡ f → ((e : ℕ) → Ch e → Onto down (jump reach further budget e (suc n)).place (jump reach further more e (suc n)).place)
           → Onto down (jumped further p n f (λ e. jump reach further budget e (suc n))).place (jumped further p n f (λ e. jump reach further more e (suc n))).place
-      go none q ih = inl refl
-      go (some e) q ih = step e (ih e (subst Ch (some_same (sym r.is ∙ q)) r.change)) (further p e)
+      go None q ih = inl refl
+      go (Some e) q ih = step e (ih e (subst Ch (some_same (sym r.is ∙ q)) r.change)) (further p e)
 
 -- on the way to an end, what is next is near
 pub next_near : (Ch : ℕ → Type 0) (down : Bool) (gap p n budget : ℕ) (e : End) → Ended Ch down gap p n budget e

@@ -1,3 +1,4 @@
+pub mod Options
 pub mod Bits
 pub mod Sample
 pub mod SampleBytes

@@ -1,7 +1,7 @@
 -- The first place on a search's way, in either direction: there is one answer, it is the computed one, and it depends on nothing but the places asked. 02: CR 9.
 use mathlib.Core.Path.{◌≡◌, refl, sym, ap, ◌∙◌}
 use mathlib.Core.Bool.{Bool, true, false, false≢true}
-use mathlib.Core.Option.{Option, none, some}
+use Rattle.std.specs.Prelude.{Option, None, Some}
 use Prim.Native.Nat.{ℕ, ◌≤◌, ◌<◌}
 use native.Mathlib.Decide.{dec_lt}
 use native.Mathlib.Omega.{arith}
@@ -42,22 +42,22 @@ order back i j = go back (dec_lt i j) (dec_lt j i)
 -- ---- there is one answer
 pub nearest_one : (back : Bool) (P : ℕ → Type 0) (len from : ℕ) (a b : Option ℕ) → Nearest back P len from a → Nearest back P len from b → a ≡ b
 unfolding Nearest
-nearest_one back P len from none none h k = refl
-nearest_one back P len from none (some j) h k = absurd (h j k.0 k.1)
-nearest_one back P len from (some i) none h k = absurd (k i h.0 h.1)
-nearest_one back P len from (some i) (some j) h k = go (order back i j)
+nearest_one back P len from None None h k = refl
+nearest_one back P len from None (Some j) h k = absurd (h j k.0 k.1)
+nearest_one back P len from (Some i) None h k = absurd (k i h.0 h.1)
+nearest_one back P len from (Some i) (Some j) h k = go (order back i j)
   where
-    go : Order back i j → some i ≡ some j
+    go : Order back i j → Some i ≡ Some j
     go (first x) = absurd (k.2 i h.0 x h.1)
-    go (same e) = ap (λ (x : ℕ). some x) e
+    go (same e) = ap (λ (x : ℕ). Some x) e
     go (second x) = absurd (h.2 j k.0 x k.1)
 
 -- where two properties agree at the places asked, an answer for one is an answer for the other
 pub nearest_as : (back : Bool) (P Q : ℕ → Type 0) (len from : ℕ) → ((i : ℕ) → Asked back len from i → P i → Q i) → ((i : ℕ) → Asked back len from i → Q i → P i)
     → (a : Option ℕ) → Nearest back P len from a → Nearest back Q len from a
 unfolding Nearest
-nearest_as back P Q len from to of none h = λ i a q. h i a (of i a q)
-nearest_as back P Q len from to of (some i) h = (h.0, to i h.0 h.1, λ j a x q. h.2 j a x (of j a q))
+nearest_as back P Q len from to of None h = λ i a q. h i a (of i a q)
+nearest_as back P Q len from to of (Some i) h = (h.0, to i h.0 h.1, λ j a x q. h.2 j a x (of j a q))
 
 -- ---- and it is the computed one
 abbrev pub Holds : (ℕ → Bool) → ℕ → Type 0
@@ -71,13 +71,13 @@ unfolding Nearest
 search_nearest true test len from = go (previous_at test len from) refl
   where
     go : (a : Option ℕ) → previous_at test len from ≡ a → Nearest true (Holds test) len from a
-    go none e = λ i a h. not_held ((previous_none test len from).0 e i a.0 a.1 a.2) h
-    go (some i) e = let f = previous_some test len from i e in ((f.above, f.upto, f.below), f.holds, λ j a x h. not_held (f.most j x a.1 a.2) h)
+    go None e = λ i a h. not_held ((previous_none test len from).0 e i a.0 a.1 a.2) h
+    go (Some i) e = let f = previous_some test len from i e in ((f.above, f.upto, f.below), f.holds, λ j a x h. not_held (f.most j x a.1 a.2) h)
 search_nearest false test len from = go (next_at test len from) refl
   where
     go : (a : Option ℕ) → next_at test len from ≡ a → Nearest false (Holds test) len from a
-    go none e = λ i a h. not_held ((next_none test len from).0 e i a.0 a.1) h
-    go (some i) e = let f = next_some test len from i e in ((f.after, f.below), f.holds, λ j a x h. not_held (f.least j a.0 x) h)
+    go None e = λ i a h. not_held ((next_none test len from).0 e i a.0 a.1) h
+    go (Some i) e = let f = next_some test len from i e in ((f.after, f.below), f.holds, λ j a x h. not_held (f.least j a.0 x) h)
 
 -- an answer that is right is the computed one
 pub is_search : (back : Bool) (test : ℕ → Bool) (len from : ℕ) (a : Option ℕ) → Nearest back (Holds test) len from a → a ≡ search_at back test len from

@@ -1,7 +1,7 @@
 -- The change that a search finds from a place, in either direction. 01: Search; 02: CR 13.
 use mathlib.Core.Path.{◌≡◌, refl, subst}
 use mathlib.Core.Bool.{Bool}
-use mathlib.Core.Option.{Option, none, some}
+use Rattle.std.specs.Prelude.{Option, None, Some}
 use Prim.Native.Nat.{ℕ}
 use Rattle.rules.specs.Search.{changed}
 use Rattle.rules.specs.Bursts.{IsChange}
@@ -18,17 +18,17 @@ module _ (s : ℕ → ℕ) (len mask : ℕ) (back : Bool) (from : ℕ) where
     pub asked : Asked back len from n
     pub first : (i : ℕ) → Ch i → Asked back len from i → Sooner back i n → ⊥
 
-  pub neighbour : (n : ℕ) → search_at back (changed s mask) len from ≡ some n → Neighbour n
+  pub neighbour : (n : ℕ) → search_at back (changed s mask) len from ≡ Some n → Neighbour n
   unfolding Nearest
   neighbour n e =
       let h = subst (Nearest back (Holds (changed s mask)) len from) e (search_nearest back (changed s mask) len from) in
       record { is = record { least = asked_least back len from n h.0; most = asked_most back len from n h.0; changes = h.1 }; asked = h.0; first = λ i c a b. h.2 i a b c.changes }
 
   -- where one is on the way, there is a first one
-  pub there : (c : ℕ) → Ch c → Asked back len from c → (n : ℕ) × (search_at back (changed s mask) len from ≡ some n) × (Sooner back c n → ⊥)
+  pub there : (c : ℕ) → Ch c → Asked back len from c → (n : ℕ) × (search_at back (changed s mask) len from ≡ Some n) × (Sooner back c n → ⊥)
   unfolding Nearest
   there c is a = go (search_at back (changed s mask) len from) refl
     where
-      go : (o : Option ℕ) → search_at back (changed s mask) len from ≡ o → (n : ℕ) × (search_at back (changed s mask) len from ≡ some n) × (Sooner back c n → ⊥)
-      go none e = absurd (subst (Nearest back (Holds (changed s mask)) len from) e (search_nearest back (changed s mask) len from) c a is.changes)
-      go (some n) e = (n, e, λ h. (neighbour n e).first c is a h)
+      go : (o : Option ℕ) → search_at back (changed s mask) len from ≡ o → (n : ℕ) × (search_at back (changed s mask) len from ≡ Some n) × (Sooner back c n → ⊥)
+      go None e = absurd (subst (Nearest back (Holds (changed s mask)) len from) e (search_nearest back (changed s mask) len from) c a is.changes)
+      go (Some n) e = (n, e, λ h. (neighbour n e).first c is a h)

@@ -2,7 +2,7 @@
 -- Counted from the first place it covers what 01 says; counted from origin, 01's rule with lo = −origin for 0 and hi = len − origin for len.
 use mathlib.Core.Path.{◌≡◌, refl, sym, ap, ap₂, ◌∙◌}
 use mathlib.Core.Bool.{Bool, true, false, cond, ◌||◌}
-use mathlib.Core.Option.{Option, none, some}
+use Rattle.std.specs.Prelude.{Option, None, Some}
 use Prim.Native.Nat.{ℕ, zero, suc, ◌+◌, ◌-◌, ◌≤◌, min, max}
 use native.Mathlib.Decide.{dec_le}
 use native.Mathlib.Omega.{arith}
@@ -56,12 +56,12 @@ pub record RangeZ : Type 0 where
 
 -- 01's rule of a pixel's range, with lo for 0 and hi for len
 abbrev pub range_in : ℤ → ℤ → Bool → Whole → Whole → Option RangeZ
-range_in lo hi empty a b = cond (below_z b lo || reaches_z a hi || empty) none (some (record { from = start_z a lo; to = end_z b (start_z a lo) hi }))
+range_in lo hi empty a b = cond (below_z b lo || reaches_z a hi || empty) None (Some (record { from = start_z a lo; to = end_z b (start_z a lo) hi }))
 
 -- places of the run, as a mill counts them
 abbrev pub counted_range : ℕ → Option Range → Option RangeZ
-counted_range origin none = none
-counted_range origin (some r) = some (record { from = mill_place origin r.from; to = mill_place origin r.to })
+counted_range origin None = None
+counted_range origin (Some r) = Some (record { from = mill_place origin r.from; to = mill_place origin r.to })
 
 -- ---- from the first place it is 01's
 still : (w : Whole) → moved (pos 0) w ≡ w
@@ -75,12 +75,12 @@ from_first v len px = ap₂ (λ (a b : Whole). range_of a b len) (still (pixel_e
 
 -- ---- with 0 and len for lo and hi it is 01's
 abbrev mapped : (ℤ → ℤ) → Option RangeZ → Option RangeZ
-mapped f none = none
-mapped f (some r) = some (record { from = f r.from; to = f r.to })
+mapped f None = None
+mapped f (Some r) = Some (record { from = f r.from; to = f r.to })
 
 abbrev places : Option Range → Option RangeZ
-places none = none
-places (some r) = some (record { from = pos r.from; to = pos r.to })
+places None = None
+places (Some r) = Some (record { from = pos r.from; to = pos r.to })
 
 max_pos : (a b : ℕ) → max_z (pos a) (pos b) ≡ pos (max a b)
 max_pos a b = go (dec_le a b)
@@ -126,12 +126,12 @@ end_is (at (negsuc k)) a len = min_pos (a + 1 + 1) len
 
 in_is : (a b : Whole) (len : ℕ) → range_in (pos 0) (pos len) (eqb len 0) a b ≡ places (range_of a b len)
 in_is a b len =
-    ap₂ (λ (t : Bool) (r : RangeZ). cond t none (some r))
+    ap₂ (λ (t : Bool) (r : RangeZ). cond t None (Some r))
     (ap₂ (λ (x y : Bool). x || y || eqb len 0) (below_is b) (reaches_is a len))
     (ap₂ (λ (x y : ℤ). record { from = x; to = y }) (start_is a) (ap (λ (z : ℤ). end_z b z (pos len)) (start_is a) ∙ end_is b (natural a) len))
     ∙ go (below0 b || reaches a len || eqb len 0)
   where
-    go : (t : Bool) → cond t none (some (record { from = pos (natural a); to = pos (end_of b (natural a) len) })) ≡ places (cond t none (some (record { from = natural a; to = end_of b (natural a) len })))
+    go : (t : Bool) → cond t None (Some (record { from = pos (natural a); to = pos (end_of b (natural a) len) })) ≡ places (cond t None (Some (record { from = natural a; to = end_of b (natural a) len })))
     go true = refl
     go false = refl
 
@@ -213,12 +213,12 @@ module _ (d : ℕ) where
 
   up_in : (lo hi : ℤ) (empty : Bool) (a b : Whole) → range_in (up lo) (up hi) empty (moved (pos d) a) (moved (pos d) b) ≡ mapped up (range_in lo hi empty a b)
   up_in lo hi empty a b =
-      ap₂ (λ (t : Bool) (r : RangeZ). cond t none (some r))
+      ap₂ (λ (t : Bool) (r : RangeZ). cond t None (Some r))
       (ap₂ (λ (x y : Bool). x || y || empty) (up_below b lo) (up_reaches a hi))
       (ap₂ (λ (x y : ℤ). record { from = x; to = y }) (up_start a lo) (ap (λ (z : ℤ). end_z (moved (pos d) b) z (up hi)) (up_start a lo) ∙ up_end b (start_z a lo) hi))
       ∙ go (below_z b lo || reaches_z a hi || empty)
     where
-      go : (t : Bool) → cond t none (some (record { from = up (start_z a lo); to = up (end_z b (start_z a lo) hi) })) ≡ mapped up (cond t none (some (record { from = start_z a lo; to = end_z b (start_z a lo) hi })))
+      go : (t : Bool) → cond t None (Some (record { from = up (start_z a lo); to = up (end_z b (start_z a lo) hi) })) ≡ mapped up (cond t None (Some (record { from = start_z a lo; to = end_z b (start_z a lo) hi })))
       go true = refl
       go false = refl
 
@@ -235,12 +235,12 @@ module _ (origin : ℕ) (v : View) (len px : ℕ) where
   hi = pos len -ℤ pos origin
 
   down_up : (r : Option RangeZ) → mapped (λ z. z -ℤ pos origin) (mapped (up origin) r) ≡ r
-  down_up none = refl
-  down_up (some r) = ap₂ (λ (x y : ℤ). some (record { from = x; to = y })) (+ℤ-neg_ℤ_cancel r.from (pos origin)) (+ℤ-neg_ℤ_cancel r.to (pos origin))
+  down_up None = refl
+  down_up (Some r) = ap₂ (λ (x y : ℤ). Some (record { from = x; to = y })) (+ℤ-neg_ℤ_cancel r.from (pos origin)) (+ℤ-neg_ℤ_cancel r.to (pos origin))
 
   counted_is : (r : Option Range) → counted_range origin r ≡ mapped (λ z. z -ℤ pos origin) (places r)
-  counted_is none = refl
-  counted_is (some r) = ap₂ (λ (x y : ℤ). some (record { from = x; to = y })) (difference r.from origin) (difference r.to origin)
+  counted_is None = refl
+  counted_is (Some r) = ap₂ (λ (x y : ℤ). Some (record { from = x; to = y })) (difference r.from origin) (difference r.to origin)
 
   pub from_origin : counted_range origin (range_from origin v len px) ≡ range_in (neg_ℤ (pos origin)) (pos len -ℤ pos origin) (eqb len 0) (pixel_edge v px) (pixel_edge v (px + 1))
   from_origin =

@@ -4,7 +4,8 @@ use mathlib.Core.Bool.{Bool, true, false, cond, not, ◌&&◌, ◌||◌, and-fal
 use mathlib.Core.List.Memᴰ
 use mathlib.Core.List.{List, [], ◌∷◌, Memᴰ}
 use mathlib.Core.Logic.{◌↔◌, ◌⊎◌, inl, inr}
-use mathlib.Core.Option.{Option, none, some, none-ne-some}
+use Rattle.std.specs.Prelude.{Option, None, Some}
+use Rattle.rules.proofs.Options.{none-ne-some}
 use Prim.Native.Nat.{ℕ, zero, suc, ◌+◌, ◌≤◌, ◌<◌, max}
 use native.Mathlib.Decide.{dec_lt}
 use native.Mathlib.Omega.{arith}
@@ -59,9 +60,9 @@ unit_right u = (λ e. go (eqb u 1) refl (not-false _ e), λ h. by (unit_cases h)
     by (inl e) = rw (eq-eqb u 1 e)
     by (inr e) = rw (ne_eqb u 1 (λ z. omega arith), eq-eqb u 2 e)
 
-pub mark_right : (mark : Option ℕ) (len : ℕ) → (mark_wrong mark len ≡ false) ↔ ((k : ℕ) → mark ≡ some k → k ≤ len)
-mark_right none len = (λ e k q. absurd (none-ne-some k q), λ f. refl)
-mark_right (some j) len = (λ e k q. let same : j ≡ k = cc in omega (arith, ltb-false len j e), λ f. le-ltb len j (f j refl))
+pub mark_right : (mark : Option ℕ) (len : ℕ) → (mark_wrong mark len ≡ false) ↔ ((k : ℕ) → mark ≡ Some k → k ≤ len)
+mark_right None len = (λ e k q. absurd (none-ne-some k q), λ f. refl)
+mark_right (Some j) len = (λ e k q. let same : j ≡ k = cc in omega (arith, ltb-false len j e), λ f. le-ltb len j (f j refl))
 
 levels_right : (st : Store) (level : ℕ → ℕ) (n : ℕ) → (level_short st level n ≡ false) ↔ ((l : ℕ) → 1 ≤ l → l ≤ n → level_need st l ≤ level l)
 unfolding level_short
@@ -91,7 +92,7 @@ pub record Sound (st : Store) (lent : Lent) : Type 0 where
 
 -- "mark (absent, or a place at most len)"
 abbrev pub MarkInside : Store → Type 0
-MarkInside st = (k : ℕ) → st.mark ≡ some k → k ≤ st.len
+MarkInside st = (k : ℕ) → st.mark ≡ Some k → k ≤ st.len
 
 -- row 1 alone
 pub record Ranged (st : Store) : Type 0 where

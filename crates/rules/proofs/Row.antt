@@ -2,7 +2,8 @@
 use mathlib.Core.Path.{◌≡◌, refl, ap, ap₂, ◌∙◌}
 use mathlib.Core.Bool.{Bool, true, false, cond, ◌||◌}
 use mathlib.Core.List.{List, ◌∷◌}
-use mathlib.Core.Option.{Option, none, some, none-ne-some}
+use Rattle.std.specs.Prelude.{Option, None, Some}
+use Rattle.rules.proofs.Options.{none-ne-some}
 use Prim.Native.Nat.{ℕ, zero, suc, ◌+◌, ◌*◌, ◌≤◌, ◌<◌}
 use native.Mathlib.Omega.{arith}
 use lib.Dec.{eqb}
@@ -32,10 +33,10 @@ ends (at (pos n)) a len h = (omega arith, omega arith)
 ends (at (negsuc n)) a len h = (omega arith, omega arith)
 
 -- at least one place, and none past the last
-pub range_inside : (a b : Whole) (len : ℕ) (r : Range) → range_of a b len ≡ some r → (r.from < r.to) × (r.to ≤ len)
+pub range_inside : (a b : Whole) (len : ℕ) (r : Range) → range_of a b len ≡ Some r → (r.from < r.to) × (r.to ≤ len)
 range_inside a b len r e = go (below0 b || reaches a len || eqb len 0) refl e
   where
-    go : (t : Bool) → (below0 b || reaches a len || eqb len 0) ≡ t → cond t none (some (record { from = natural a; to = end_of b (natural a) len })) ≡ some r → (r.from < r.to) × (r.to ≤ len)
+    go : (t : Bool) → (below0 b || reaches a len || eqb len 0) ≡ t → cond t None (Some (record { from = natural a; to = end_of b (natural a) len })) ≡ Some r → (r.from < r.to) × (r.to ≤ len)
     go true q e = absurd (none-ne-some r e)
     go false q e =
         let p = (neither (below0 b || reaches a len) (eqb len 0)).0 q in
@@ -45,8 +46,8 @@ range_inside a b len r e = go (below0 b || reaches a len || eqb len 0) refl e
 
 -- ---- a row
 shown_length : (node : ℕ → ℕ → Node) (r : Option Range) (rest : List ℕ) → length (shown node r rest) ≡ suc (suc (length rest))
-shown_length node none rest = refl
-shown_length node (some r) rest = refl
+shown_length node None rest = refl
+shown_length node (Some r) rest = refl
 
 module _ (node : ℕ → ℕ → Node) (range : ℕ → Option Range) where
   pub row_length : (px n : ℕ) → length (row_by node range px n) ≡ 2 * n
@@ -56,7 +57,7 @@ module _ (node : ℕ → ℕ → Node) (range : ℕ → Option Range) where
 
 -- ranges of stored places alone, none of them empty
 abbrev pub Stored : (ℕ → Option Range) → ℕ → Type 0
-Stored range len = (px : ℕ) (r : Range) → range px ≡ some r → (r.from < r.to) × (r.to ≤ len)
+Stored range len = (px : ℕ) (r : Range) → range px ≡ Some r → (r.from < r.to) × (r.to ≤ len)
 
 pub pixels_stored : (v : View) (len : ℕ) → Stored (pixel_range v len) len
 pixels_stored v len px r e = range_inside (pixel_edge v px) (pixel_edge v (px + 1)) len r e
@@ -65,9 +66,9 @@ pub from_stored : (origin : ℕ) (v : View) (len : ℕ) → Stored (range_from o
 from_stored origin v len px r e = range_inside (moved (pos origin) (pixel_edge v px)) (moved (pos origin) (pixel_edge v (px + 1))) len r e
 
 module _ (node₁ node₂ : ℕ → ℕ → Node) (range : ℕ → Option Range) (len : ℕ) (stored : Stored range len) (same : (a b : ℕ) → a < b → b ≤ len → node₁ a b ≡ node₂ a b) where
-  shown_same : (r : Option Range) → ((x : Range) → r ≡ some x → (x.from < x.to) × (x.to ≤ len)) → (rest₁ rest₂ : List ℕ) → rest₁ ≡ rest₂ → shown node₁ r rest₁ ≡ shown node₂ r rest₂
-  shown_same none inside rest₁ rest₂ e = ap (λ (rest : List ℕ). 0 ∷ 0 ∷ rest) e
-  shown_same (some x) inside rest₁ rest₂ e =
+  shown_same : (r : Option Range) → ((x : Range) → r ≡ Some x → (x.from < x.to) × (x.to ≤ len)) → (rest₁ rest₂ : List ℕ) → rest₁ ≡ rest₂ → shown node₁ r rest₁ ≡ shown node₂ r rest₂
+  shown_same None inside rest₁ rest₂ e = ap (λ (rest : List ℕ). 0 ∷ 0 ∷ rest) e
+  shown_same (Some x) inside rest₁ rest₂ e =
       let h = inside x refl in
       ap₂ (λ (n : Node) (rest : List ℕ). n.first ∷ n.toggles ∷ rest) (same x.from x.to h.0 h.1) e
 

@@ -3,7 +3,7 @@ use mathlib.Core.Path.{◌≡◌, refl, sym, ap, ap₂, ◌∙◌, subst, subst�
 use mathlib.Core.Bool.{Bool, true, false, cond, not, ◌&&◌}
 use mathlib.Core.List.{List, [], ◌∷◌, ◌++◌}
 use mathlib.Core.Logic.{◌⊎◌, inl, inr}
-use mathlib.Core.Option.{none, some}
+use Rattle.std.specs.Prelude.{None, Some}
 use Prim.Native.Nat.{ℕ, zero, suc, ◌+◌, ◌-◌, ◌*◌, ◌/◌, ◌%◌, ◌≤◌, ◌<◌}
 use native.Mathlib.Nat.{div-add-mod', mod-lt, add-zero, mul-le-mul_right}
 use native.Mathlib.Decide.{dec_lt}
@@ -33,10 +33,10 @@ pub in_one : {u : ℕ} → UnitSize u → (i j : ℕ) → j < u → block_of_byt
 in_one {u} r i j = go (unit_cases r)
   where
     go : (u ≡ 1) ⊎ (u ≡ 2) → j < u → block_of_byte (i * u + j) ≡ block_of_byte (i * u)
-    go (inl e) h = ap block_of_byte none
+    go (inl e) h = ap block_of_byte None
       where
-        none : i * u + j ≡ i * u
-        none = omega (arith, e, h)
+        None : i * u + j ≡ i * u
+        None = omega (arith, e, h)
     go (inr e) h =
         ap (λ (v : ℕ). block_of_byte (i * v + j)) e
         ∙ ap (λ (q : ℕ). q + 1) (two_bytes i j (subst (λ (v : ℕ). j < v) e h))
@@ -245,7 +245,7 @@ module _ (f : List ℕ) where
   unfolding heading_in
   heading_front = λ i. record {
     unit = front_at 12 (omega arith) i;
-    mark = cond (eqb (front_at 13 (omega arith) i) 0) none (some (front_little 22 (omega arith) i));
+    mark = cond (eqb (front_at 13 (omega arith) i) 0) None (Some (front_little 22 (omega arith) i));
     len = front_little 14 (omega arith) i;
   }
 

@@ -4,7 +4,8 @@ use mathlib.Core.Bool.{Bool, true, false, cond}
 use mathlib.Core.List.Memᴰ
 use mathlib.Core.List.{List, [], ◌∷◌, ◌++◌, map, Memᴰ}
 use mathlib.Core.Logic.{◌↔◌, ◌⊎◌, inl, inr}
-use mathlib.Core.Option.{none, some, some_inj, none-ne-some}
+use Rattle.std.specs.Prelude.{None, Some}
+use Rattle.rules.proofs.Options.{some_inj, none-ne-some}
 use Prim.Native.Nat.{ℕ, ◌+◌, ◌-◌, ◌≤◌, ◌<◌, min}
 use native.Mathlib.Decide.{dec_lt}
 use native.Mathlib.Omega.{arith}
@@ -20,15 +21,15 @@ use Rattle.rules.proofs.Trigger.{fire_le, fire_stays}
 
 -- ---- the mark
 -- where the recorder fires at t, the mark is the place of sample t in the run
-pub fired_at_mark : (pre t : ℕ) (xs : List ℕ) (k : ℕ) → (fired_at pre t xs).mark ≡ some k → get_or (fired_at pre t xs).run k 0 ≡ get_or xs t 0
-fired_at_mark pre t xs k e = get_or-drop _ xs k 0 ∙ ap (λ (i : ℕ). get_or xs i 0) (before (some_inj.0 e))
+pub fired_at_mark : (pre t : ℕ) (xs : List ℕ) (k : ℕ) → (fired_at pre t xs).mark ≡ Some k → get_or (fired_at pre t xs).run k 0 ≡ get_or xs t 0
+fired_at_mark pre t xs k e = get_or-drop _ xs k 0 ∙ ap (λ (i : ℕ). get_or xs i 0) (before (some_inj e))
   where
     before : min t pre ≡ k → t - min t pre + k ≡ t
     before q = omega arith
 
 -- at most pre samples come before it
-pub mark_most : (pre t : ℕ) (xs : List ℕ) (k : ℕ) → (fired_at pre t xs).mark ≡ some k → k ≤ pre
-mark_most pre t xs k e = omega (arith, some_inj.0 e)
+pub mark_most : (pre t : ℕ) (xs : List ℕ) (k : ℕ) → (fired_at pre t xs).mark ≡ Some k → k ≤ pre
+mark_most pre t xs k e = omega (arith, some_inj e)
 
 -- ---- the run before the limit
 abbrev pub chosen_by : Rule → List ℕ → Selected
@@ -37,51 +38,51 @@ chosen_by r xs = chosen r.armed r.pre xs
 abbrev pub longer : Selected → List ℕ → Selected
 longer c ys = record { run = c.run ++ ys; mark = c.mark }
 
-pub chosen_all : (a : Armed) (pre : ℕ) (xs : List ℕ) → a ≡ unarmed → chosen a pre xs ≡ record { run = xs; mark = none }
+pub chosen_all : (a : Armed) (pre : ℕ) (xs : List ℕ) → a ≡ unarmed → chosen a pre xs ≡ record { run = xs; mark = None }
 unfolding chosen
 chosen_all a pre xs e = rw e
 
-pub chosen_fired : (a : Armed) (m : Masks) (pre t : ℕ) (xs : List ℕ) → a ≡ waiting m → first_fire m none xs ≡ t → t < length xs → chosen a pre xs ≡ fired_at pre t xs
+pub chosen_fired : (a : Armed) (m : Masks) (pre t : ℕ) (xs : List ℕ) → a ≡ waiting m → first_fire m None xs ≡ t → t < length xs → chosen a pre xs ≡ fired_at pre t xs
 unfolding chosen
 chosen_fired a m pre t xs w e h = rw (w, e, lt-ltb t (length xs) h)
 
-pub chosen_none : (a : Armed) (m : Masks) (pre : ℕ) (xs : List ℕ) → a ≡ waiting m → first_fire m none xs ≡ length xs → chosen a pre xs ≡ not_fired
+pub chosen_none : (a : Armed) (m : Masks) (pre : ℕ) (xs : List ℕ) → a ≡ waiting m → first_fire m None xs ≡ length xs → chosen a pre xs ≡ not_fired
 unfolding chosen
 chosen_none a m pre xs w e = rw (w, e, le-ltb (length xs) (length xs) (omega arith))
 
 -- ---- unarmed: never armed, or fired
 pub data Steady (r : Rule) (xs : List ℕ) : Type 0 where
   without_terms : r.armed ≡ unarmed → Steady r xs
-  has_fired : (m : Masks) → r.armed ≡ waiting m → first_fire m none xs < length xs → Steady r xs
+  has_fired : (m : Masks) → r.armed ≡ waiting m → first_fire m None xs < length xs → Steady r xs
 
 -- armed, and none of xs fires
 pub record Quiet (r : Rule) (xs : List ℕ) : Type 0 where
   pub masks : Masks
   pub armed : r.armed ≡ waiting masks
-  pub none_fires : first_fire masks none xs ≡ length xs
+  pub none_fires : first_fire masks None xs ≡ length xs
 
 pub steady_or_quiet : (r : Rule) (xs : List ℕ) → Steady r xs ⊎ Quiet r xs
 steady_or_quiet r xs = go r.armed refl
   where
     go : (a : Armed) → r.armed ≡ a → Steady r xs ⊎ Quiet r xs
     go unarmed e = inl (without_terms e)
-    go (waiting m) e = by (dec_lt (first_fire m none xs) (length xs))
+    go (waiting m) e = by (dec_lt (first_fire m None xs) (length xs))
       where
-        by : Dec (first_fire m none xs < length xs) → Steady r xs ⊎ Quiet r xs
+        by : Dec (first_fire m None xs < length xs) → Steady r xs ⊎ Quiet r xs
         by (yes h) = inl (has_fired m e h)
-        by (no h) = inr (record { masks = m; armed = e; none_fires = omega (arith, fire_le m none xs) })
+        by (no h) = inr (record { masks = m; armed = e; none_fires = omega (arith, fire_le m None xs) })
 
 -- ---- what is held beside the store
 -- still armed as long as none fires, and unarmed else
 pub beside_waits : (r : Rule) (xs : List ℕ) (q : Quiet r xs) → beside_of r xs ≡ still_armed q.masks r.pre xs
 beside_waits r xs q =
     ap (λ (a : Armed). beside_for a r.pre xs) q.armed
-    ∙ ap (λ (b : Bool). cond b (fired_on (get_or xs (first_fire q.masks none xs) 0)) (still_armed q.masks r.pre xs)) (le-ltb (first_fire q.masks none xs) (length xs) (omega (arith, q.none_fires)))
+    ∙ ap (λ (b : Bool). cond b (fired_on (get_or xs (first_fire q.masks None xs) 0)) (still_armed q.masks r.pre xs)) (le-ltb (first_fire q.masks None xs) (length xs) (omega (arith, q.none_fires)))
 
-pub beside_fired : (r : Rule) (xs : List ℕ) (m : Masks) → r.armed ≡ waiting m → first_fire m none xs < length xs → beside_of r xs ≡ fired_on (get_or xs (first_fire m none xs) 0)
+pub beside_fired : (r : Rule) (xs : List ℕ) (m : Masks) → r.armed ≡ waiting m → first_fire m None xs < length xs → beside_of r xs ≡ fired_on (get_or xs (first_fire m None xs) 0)
 beside_fired r xs m e h =
     ap (λ (a : Armed). beside_for a r.pre xs) e
-    ∙ ap (λ (b : Bool). cond b (fired_on (get_or xs (first_fire m none xs) 0)) (still_armed m r.pre xs)) (lt-ltb (first_fire m none xs) (length xs) h)
+    ∙ ap (λ (b : Bool). cond b (fired_on (get_or xs (first_fire m None xs) 0)) (still_armed m r.pre xs)) (lt-ltb (first_fire m None xs) (length xs) h)
 
 pub beside_unarmed : (r : Rule) (xs : List ℕ) → Steady r xs → (beside_of r xs).armed ≡ unarmed
 beside_unarmed r xs (without_terms e) = ap (λ (a : Armed). (beside_for a r.pre xs).armed) e
@@ -91,9 +92,9 @@ beside_unarmed r xs (has_fired m e h) = ap (λ (b : Beside). b.armed) (beside_fi
 pub beside_stays : (r : Rule) (xs ys : List ℕ) → Steady r xs → beside_of r (xs ++ ys) ≡ beside_of r xs
 beside_stays r xs ys (without_terms e) = ap (λ (a : Armed). beside_for a r.pre (xs ++ ys)) e ∙ sym (ap (λ (a : Armed). beside_for a r.pre xs) e)
 beside_stays r xs ys (has_fired m e h) =
-    beside_fired r (xs ++ ys) m e (omega (arith, fire_stays m none xs ys h, length-append xs ys))
-    ∙ ap (λ (t : ℕ). fired_on (get_or (xs ++ ys) t 0)) (fire_stays m none xs ys h)
-    ∙ ap fired_on (get_or-append xs ys 0 (first_fire m none xs) h)
+    beside_fired r (xs ++ ys) m e (omega (arith, fire_stays m None xs ys h, length-append xs ys))
+    ∙ ap (λ (t : ℕ). fired_on (get_or (xs ++ ys) t 0)) (fire_stays m None xs ys h)
+    ∙ ap fired_on (get_or-append xs ys 0 (first_fire m None xs) h)
     ∙ sym (beside_fired r xs m e h)
 
 pub quiet_chosen : (r : Rule) (xs : List ℕ) → Quiet r xs → chosen_by r xs ≡ not_fired
@@ -101,14 +102,14 @@ quiet_chosen r xs q = chosen_none r.armed q.masks r.pre xs q.armed q.none_fires
 
 -- once it is unarmed, more samples only make the run longer
 module _ (r : Rule) (xs ys : List ℕ) where
-  fired_longer : (m : Masks) → r.armed ≡ waiting m → first_fire m none xs < length xs → chosen_by r (xs ++ ys) ≡ longer (chosen_by r xs) ys
+  fired_longer : (m : Masks) → r.armed ≡ waiting m → first_fire m None xs < length xs → chosen_by r (xs ++ ys) ≡ longer (chosen_by r xs) ys
   fired_longer m w h =
-      chosen_fired r.armed m r.pre t (xs ++ ys) w (fire_stays m none xs ys h) (simp length-append (omega arith))
-      ∙ ap (λ (x : List ℕ). record { run = x; mark = some (min t r.pre) }) (drop-append-le (t - min t r.pre) xs ys (omega arith))
+      chosen_fired r.armed m r.pre t (xs ++ ys) w (fire_stays m None xs ys h) (simp length-append (omega arith))
+      ∙ ap (λ (x : List ℕ). record { run = x; mark = Some (min t r.pre) }) (drop-append-le (t - min t r.pre) xs ys (omega arith))
       ∙ ap (λ (c : Selected). longer c ys) (sym (chosen_fired r.armed m r.pre t xs w refl h))
     where
       t : ℕ
-      t = first_fire m none xs
+      t = first_fire m None xs
 
   pub steady_longer : Steady r xs → chosen_by r (xs ++ ys) ≡ longer (chosen_by r xs) ys
   steady_longer (without_terms e) = chosen_all r.armed r.pre (xs ++ ys) e ∙ ap (λ (c : Selected). longer c ys) (sym (chosen_all r.armed r.pre xs e))
@@ -116,7 +117,7 @@ module _ (r : Rule) (xs ys : List ℕ) where
 
   pub steady_stays : Steady r xs → Steady r (xs ++ ys)
   steady_stays (without_terms e) = without_terms e
-  steady_stays (has_fired m w h) = has_fired m w (rw (fire_stays m none xs ys h) (simp length-append (omega arith)))
+  steady_stays (has_fired m w h) = has_fired m w (rw (fire_stays m None xs ys h) (simp length-append (omega arith)))
 
 -- ---- the limit
 pub limited_none : (limit : ℕ) → limited limit [] ≡ []
@@ -139,11 +140,11 @@ unfolding selection
 run_limit r xs h = limited_le r.limit (chosen_by r xs).run h
 
 -- the mark is a place of the run, unless the limit cuts the firing sample off
-pub mark_in_run : (r : Rule) (xs : List ℕ) → (0 < r.limit → r.pre < r.limit) → (k : ℕ) → (selection r xs).mark ≡ some k → k < length (selection r xs).run
+pub mark_in_run : (r : Rule) (xs : List ℕ) → (0 < r.limit → r.pre < r.limit) → (k : ℕ) → (selection r xs).mark ≡ Some k → k < length (selection r xs).run
 unfolding selection
 mark_in_run r xs l k e = go (steady_or_quiet r xs)
   where
-    no_mark : (chosen_by r xs).mark ≡ none → k < length (limited r.limit (chosen_by r xs).run)
+    no_mark : (chosen_by r xs).mark ≡ None → k < length (limited r.limit (chosen_by r xs).run)
     no_mark z = absurd (none-ne-some k (sym z ∙ e))
 
     inside : (run : List ℕ) → k < length run → k ≤ r.pre → k < length (limited r.limit run)
@@ -159,13 +160,13 @@ mark_in_run r xs l k e = go (steady_or_quiet r xs)
     go (inl (has_fired m w h)) = rw fired (inside (drop (t - min t r.pre) xs) (simp length-drop (omega (arith, at))) (omega (arith, at)))
       where
         t : ℕ
-        t = first_fire m none xs
+        t = first_fire m None xs
 
         fired : chosen_by r xs ≡ fired_at r.pre t xs
         fired = chosen_fired r.armed m r.pre t xs w refl h
 
         at : min t r.pre ≡ k
-        at = some_inj.0 (sym (ap (λ (c : Selected). c.mark) fired) ∙ e)
+        at = some_inj (sym (ap (λ (c : Selected). c.mark) fired) ∙ e)
 
 -- ---- acceptance
 abbrev pub Room : Rule → List ℕ → Type 0

@@ -2,7 +2,7 @@
 use mathlib.Core.Path.{◌≡◌, refl, sym, ap, ap₂, ◌∙◌}
 use mathlib.Core.Bool.{Bool, true, false, cond, not, ◌||◌}
 use mathlib.Core.List.{List, ◌∷◌, ◌++◌, append_assoc}
-use mathlib.Core.Option.{Option, none, some}
+use Rattle.std.specs.Prelude.{Option, None, Some}
 use Prim.Native.Nat.{ℕ, suc, ◌+◌, ◌-◌, ◌^◌, ◌≤◌, ◌<◌}
 use native.Mathlib.Omega.{arith}
 use lib.Dec.{ltb, leb, eqb}
@@ -38,16 +38,16 @@ not_wrong h r =
     ((unit_right h.unit).1 r.unit_size, (neither (ltb most_samples h.len) (mark_wrong h.mark h.len)).1 (le-ltb most_samples h.len r.len_most, r.mark_inside))
 
 mark_small : (m : Option ℕ) (len : ℕ) → mark_wrong m len ≡ false → len ≤ most_samples → mark_place m < 256 ^ 8
-mark_small none len e h = omega arith
-mark_small (some k) len e h = omega (arith, ltb-false len k e)
+mark_small None len e h = omega arith
+mark_small (Some k) len e h = omega (arith, ltb-false len k e)
 
 pub head_length : (h : Heading) → length (head_bytes h) ≡ head_size
 unfolding head_bytes
 head_length h = ap (λ (n : ℕ). suc (suc n)) (length-append (sample_bytes 8 h.len) (sample_bytes 8 (mark_place h.mark)) ∙ ap₂ ◌+◌ (sample_bytes_length 8 h.len) (sample_bytes_length 8 (mark_place h.mark)))
 
 pub flag_small : (m : Option ℕ) → mark_flag m < 256
-flag_small none = omega arith
-flag_small (some k) = omega arith
+flag_small None = omega arith
+flag_small (Some k) = omega arith
 
 pub head_bytes_lem : (h : Heading) → Headed h → Bytes (head_bytes h)
 unfolding head_bytes
@@ -99,9 +99,9 @@ little_drop u l k = little_same u l (drop k l) k 0 (λ i h. ap (λ (j : ℕ). ge
     zero_plus i = omega arith
 
 -- a mark by its flag and its place
-mark_told : (m : Option ℕ) (flag v : ℕ) → flag ≡ mark_flag m → v ≡ mark_place m → cond (eqb flag 0) none (some v) ≡ m
-mark_told none flag v f e = ap (λ (b : Bool). cond b none (some v)) (eq-eqb flag 0 f)
-mark_told (some k) flag v f e = ap (λ (b : Bool). cond b none (some v)) (ne_eqb flag 0 (λ z. omega (arith, f, z))) ∙ ap some e
+mark_told : (m : Option ℕ) (flag v : ℕ) → flag ≡ mark_flag m → v ≡ mark_place m → cond (eqb flag 0) None (Some v) ≡ m
+mark_told None flag v f e = ap (λ (b : Bool). cond b None (Some v)) (eq-eqb flag 0 f)
+mark_told (Some k) flag v f e = ap (λ (b : Bool). cond b None (Some v)) (ne_eqb flag 0 (λ z. omega (arith, f, z))) ∙ ap Some e
 
 pub heading_back : (h : Heading) (rest : List ℕ) → Headed h → heading_in (block_of 0 (head_bytes h) ++ rest) ≡ h
 unfolding heading_in
@@ -121,8 +121,8 @@ heading_back h rest r = λ i. record { unit = unit_at_lem h rest i; mark = mark_
 
 -- ---- a made block 0 passes
 mark_passes : (m : Option ℕ) (flag : ℕ) (l : List ℕ) → flag ≡ mark_flag m → l ≡ sample_bytes 8 (mark_place m) → cond (eqb flag 0) (same_bytes l (zeros 8)) (eqb flag 1) ≡ true
-mark_passes none flag l f e = ap (λ (b : Bool). cond b (same_bytes l (zeros 8)) (eqb flag 1)) (eq-eqb flag 0 f) ∙ is_same l (zeros 8) (e ∙ zeros_are 8)
-mark_passes (some k) flag l f e = ap (λ (b : Bool). cond b (same_bytes l (zeros 8)) (eqb flag 1)) (ne_eqb flag 0 (λ z. omega (arith, f, z))) ∙ eq-eqb flag 1 f
+mark_passes None flag l f e = ap (λ (b : Bool). cond b (same_bytes l (zeros 8)) (eqb flag 1)) (eq-eqb flag 0 f) ∙ is_same l (zeros 8) (e ∙ zeros_are 8)
+mark_passes (Some k) flag l f e = ap (λ (b : Bool). cond b (same_bytes l (zeros 8)) (eqb flag 1)) (ne_eqb flag 0 (λ z. omega (arith, f, z))) ∙ eq-eqb flag 1 f
 
 pub head_made : (h : Heading) (rest : List ℕ) → Headed h → head_test (block_of 0 (head_bytes h) ++ rest) ≡ true
 unfolding head_test
@@ -151,11 +151,11 @@ head_made h rest r =
 
 -- ---- and one that passes is made of what it says
 mark_said : (flag v : ℕ) (l : List ℕ) → l ≡ sample_bytes 8 v → cond (eqb flag 0) (same_bytes l (zeros 8)) (eqb flag 1) ≡ true
-    → (flag ≡ mark_flag (cond (eqb flag 0) none (some v))) × (l ≡ sample_bytes 8 (mark_place (cond (eqb flag 0) none (some v))))
+    → (flag ≡ mark_flag (cond (eqb flag 0) None (Some v))) × (l ≡ sample_bytes 8 (mark_place (cond (eqb flag 0) None (Some v))))
 mark_said flag v l e = go (eqb flag 0) refl
   where
     go : (b : Bool) → eqb flag 0 ≡ b → cond b (same_bytes l (zeros 8)) (eqb flag 1) ≡ true
-        → (flag ≡ mark_flag (cond b none (some v))) × (l ≡ sample_bytes 8 (mark_place (cond b none (some v))))
+        → (flag ≡ mark_flag (cond b None (Some v))) × (l ≡ sample_bytes 8 (mark_place (cond b None (Some v))))
     go true f t = (eqb-true flag 0 f, same_is l (zeros 8) t ∙ sym (zeros_are 8))
     go false f t = (eqb-true flag 1 t, e)
 

@@ -4,7 +4,7 @@ use Prim.Native.Nat.{ℕ, zero, suc, ◌+◌, ◌-◌, ◌*◌, ◌/◌, ◌%◌
 use mathlib.Core.Path.{◌≡◌, refl, sym, ap, ap₂, ◌∙◌}
 use mathlib.Core.Bool.{Bool, true, false}
 use mathlib.Core.Logic.{◌⊎◌, inl}
-use mathlib.Core.Option.{Option, none, some}
+use Rattle.std.specs.Prelude.{Option, None, Some}
 use native.Mathlib.Nat.{le_refl, le_trans, zero-lt-suc, mod-one, mul-add, mul-one}
 use native.Mathlib.Decide.{dec_lt, ℕ_discrete}
 use native.Mathlib.Omega.{arith}
@@ -190,8 +190,8 @@ module _ (k : Course) (m most : ℕ) (Kept : ℕ → ℕ → ℕ → ℕ → Typ
       here (suc x) e = omega (arith, walks n c p v o, mul-one most)
 
       go : (x : ℕ) (f : Option ℕ) (e : ℕ) {a b : ℕ} → a ≤ most * enters x → b ≤ most * e → or_steps f a b ≤ most * or_entered x f e
-      go x (some i) e h ih = h
-      go x none e h ih = omega (arith, mul-add most (enters x) e)
+      go x (Some i) e h ih = h
+      go x None e h ih = omega (arith, mul-add most (enters x) e)
 
 pub entered_le : (k : Course) (m n c p v : ℕ) → entered k m n c p v ≤ n
 unfolding entered
@@ -199,10 +199,10 @@ entered_le k m zero c p v = zero-le
 entered_le k m (suc n) c p v = go ((k.way c).left p) (walk_from (k.way c) m p v).found (entered_le k m n (k.next_chunk c) (k.entry c) (k.value c))
   where
     go : (x : ℕ) (f : Option ℕ) {e : ℕ} → e ≤ n → or_entered x f e ≤ suc n
-    go zero (some i) h = zero-le
-    go (suc x) (some i) h = omega arith
-    go zero none h = omega arith
-    go (suc x) none h = omega arith
+    go zero (Some i) h = zero-le
+    go (suc x) (Some i) h = omega arith
+    go zero None h = omega arith
+    go (suc x) None h = omega arith
 
 -- a chunk's walk has fuel for its places and five more steps
 few_steps : (k : Course) (len m : ℕ) (Kept : ℕ → ℕ → ℕ → ℕ → Type 0) → ((n c p v : ℕ) → Kept (suc n) c p v → (k.way c).left p ≤ chunk)

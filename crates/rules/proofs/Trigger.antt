@@ -4,7 +4,7 @@ use mathlib.Core.Bool.{Bool, true, false, cond, ◌&&◌, and-eq-true_iff}
 use mathlib.Core.List.Memᴰ
 use mathlib.Core.List.{List, [], ◌∷◌, ◌++◌, Memᴰ}
 use mathlib.Core.Logic.{◌≢◌, ◌↔◌, ◌⊎◌, inl, inr}
-use mathlib.Core.Option.{Option, none, some}
+use Rattle.std.specs.Prelude.{Option, None, Some}
 use Prim.Native.Nat.{ℕ, zero, suc, ◌+◌, ◌^◌, ◌≤◌, ◌<◌, min, max}
 use native.Mathlib.Nat.{zero-add, add-zero, add-suc, suc-add}
 use native.Mathlib.Numerals.{add-one}
@@ -308,7 +308,7 @@ masks_line ts c k = go c
 
 -- ---- firing
 -- "A sample v after p fires when every High line is 1 in v, every Low line 0, ..", lines with both counting as with Edge
-pub fires_terms : (ts : List Term) (p v : ℕ) → (fires (masks_of ts) (some p) v ≡ true) ↔ ((c : Condition) (k : ℕ) → Asked ts c k → LineHolds c k p v)
+pub fires_terms : (ts : List Term) (p v : ℕ) → (fires (masks_of ts) (Some p) v ≡ true) ↔ ((c : Condition) (k : ℕ) → Asked ts c k → LineHolds c k p v)
 unfolding fires
 fires_terms ts p v = (
   λ e c k a. (matches_lines (masks_of ts) p v).0 e k c ((masks_line ts c k).1 a),
@@ -341,7 +341,7 @@ abbrev pub holds : Term → ℕ → ℕ → Type 0
 holds t p v = LineHolds t.condition t.line p v
 
 -- "The first sample .. fires only if there is no Rising, Falling or Edge term, tested with p = v."
-pub fires_first : (ts : List Term) (v : ℕ) → (fires (masks_of ts) none v ≡ true) ↔ ((t : Term) → Memᴰ t ts → AtFirst t.condition × holds t v v)
+pub fires_first : (ts : List Term) (v : ℕ) → (fires (masks_of ts) None v ≡ true) ↔ ((t : Term) → Memᴰ t ts → AtFirst t.condition × holds t v v)
 unfolding fires
 fires_first ts v = (
   λ e t h. down ((still m).0 (eqb-true _ _ ((and-eq-true_iff quiet (matches m v v)).0 e).0)) ((fires_terms ts v v).0 ((and-eq-true_iff quiet (matches m v v)).0 e).1) t.condition t.line h,
@@ -377,17 +377,17 @@ fires_first ts v = (
 -- the sample at place k fires, with the one before it, or q at the start
 abbrev pub fires_at : Masks → Option ℕ → List ℕ → ℕ → Bool
 fires_at m q xs zero = fires m q (get_or xs 0 0)
-fires_at m q xs (suc k) = fires m (some (get_or xs k 0)) (get_or xs (suc k) 0)
+fires_at m q xs (suc k) = fires m (Some (get_or xs k 0)) (get_or xs (suc k) 0)
 
 pub record First (m : Masks) (q : Option ℕ) (xs : List ℕ) (t : ℕ) : Type 0 where
   pub at_most : t ≤ length xs
   pub here : t < length xs → fires_at m q xs t ≡ true
   pub before : (k : ℕ) → k < t → fires_at m q xs k ≡ false
 
-first_later : (m : Masks) (q : Option ℕ) (v : ℕ) (vs : List ℕ) (t : ℕ) → fires m q v ≡ false → First m (some v) vs t → First m q (v ∷ vs) (suc t)
+first_later : (m : Masks) (q : Option ℕ) (v : ℕ) (vs : List ℕ) (t : ℕ) → fires m q v ≡ false → First m (Some v) vs t → First m q (v ∷ vs) (suc t)
 first_later m q v vs t e f = record { at_most = omega (arith, f.at_most); here = λ h. moved t ∙ f.here (omega arith); before = earlier }
   where
-    moved : (k : ℕ) → fires_at m q (v ∷ vs) (suc k) ≡ fires_at m (some v) vs k
+    moved : (k : ℕ) → fires_at m q (v ∷ vs) (suc k) ≡ fires_at m (Some v) vs k
     moved zero = refl
     moved (suc k) = refl
 
@@ -399,11 +399,11 @@ first_later m q v vs t e f = record { at_most = omega (arith, f.at_most); here =
 pub first_is : (m : Masks) (q : Option ℕ) (xs : List ℕ) → First m q xs (first_fire m q xs)
 unfolding first_fire
 first_is m q [] = record { at_most = omega arith; here = λ h. absurd (omega arith); before = λ k h. absurd (omega arith) }
-first_is m q (v ∷ vs) = go (fires m q v) refl (first_is m (some v) vs)
+first_is m q (v ∷ vs) = go (fires m q v) refl (first_is m (Some v) vs)
   where
-    go : (b : Bool) → fires m q v ≡ b → First m (some v) vs (first_fire m (some v) vs) → First m q (v ∷ vs) (cond b 0 (suc (first_fire m (some v) vs)))
+    go : (b : Bool) → fires m q v ≡ b → First m (Some v) vs (first_fire m (Some v) vs) → First m q (v ∷ vs) (cond b 0 (suc (first_fire m (Some v) vs)))
     go true e f = record { at_most = omega arith; here = λ h. e; before = λ k h. absurd (omega arith) }
-    go false e f = first_later m q v vs (first_fire m (some v) vs) e f
+    go false e f = first_later m q v vs (first_fire m (Some v) vs) e f
 
 pub fire_le : (m : Masks) (q : Option ℕ) (xs : List ℕ) → first_fire m q xs ≤ length xs
 fire_le m q xs = (first_is m q xs).at_most
@@ -417,11 +417,11 @@ module _ (m : Masks) (q now : Option ℕ) (xs : List ℕ) (i : ℕ) (so_far : i 
       found : first_fire m now (drop i xs) ≡ 0
       found = rw (drop-cons xs i 0 l, e)
 
-  pub scan_miss : i < length xs → fires m now (get_or xs i 0) ≡ false → i + 1 + first_fire m (some (get_or xs i 0)) (drop (i + 1) xs) ≡ first_fire m q xs
+  pub scan_miss : i < length xs → fires m now (get_or xs i 0) ≡ false → i + 1 + first_fire m (Some (get_or xs i 0)) (drop (i + 1) xs) ≡ first_fire m q xs
   unfolding first_fire
   scan_miss l e = rw (add-one i) (suc-add i _ ∙ sym (add-suc i _) ∙ ap (λ (k : ℕ). i + k) (sym missed) ∙ so_far)
     where
-      missed : first_fire m now (drop i xs) ≡ suc (first_fire m (some (get_or xs i 0)) (drop (suc i) xs))
+      missed : first_fire m now (drop i xs) ≡ suc (first_fire m (Some (get_or xs i 0)) (drop (suc i) xs))
       missed = rw (drop-cons xs i 0 l, e)
 
   pub scan_end : length xs ≤ i → i ≡ first_fire m q xs
@@ -435,9 +435,9 @@ module _ (m : Masks) (q now : Option ℕ) (xs : List ℕ) (i : ℕ) (so_far : i 
 pub last_append : (q : Option ℕ) (xs ys : List ℕ) → last_of q (xs ++ ys) ≡ last_of (last_of q xs) ys
 unfolding last_of
 last_append q [] ys = refl
-last_append q (v ∷ vs) ys = last_append (some v) vs ys
+last_append q (v ∷ vs) ys = last_append (Some v) vs ys
 
-pub last_turn : (now : Option ℕ) (xs : List ℕ) (i : ℕ) → i < length xs → last_of (some (get_or xs i 0)) (drop (i + 1) xs) ≡ last_of now (drop i xs)
+pub last_turn : (now : Option ℕ) (xs : List ℕ) (i : ℕ) → i < length xs → last_of (Some (get_or xs i 0)) (drop (i + 1) xs) ≡ last_of now (drop i xs)
 unfolding last_of
 last_turn now xs i l = rw (add-one i) (sym (rw (drop-cons xs i 0 l)))
 
@@ -449,10 +449,10 @@ last_end now xs i l = rw (drop_of_length-le xs l)
 pub fire_stays : (m : Masks) (q : Option ℕ) (xs ys : List ℕ) → first_fire m q xs < length xs → first_fire m q (xs ++ ys) ≡ first_fire m q xs
 unfolding first_fire
 fire_stays m q [] ys h = absurd (omega arith)
-fire_stays m q (v ∷ vs) ys h = go (fires m q v) (fire_stays m (some v) vs ys) h
+fire_stays m q (v ∷ vs) ys h = go (fires m q v) (fire_stays m (Some v) vs ys) h
   where
-    go : (b : Bool) → (first_fire m (some v) vs < length vs → first_fire m (some v) (vs ++ ys) ≡ first_fire m (some v) vs) → cond b 0 (suc (first_fire m (some v) vs)) < suc (length vs)
-        → cond b 0 (suc (first_fire m (some v) (vs ++ ys))) ≡ cond b 0 (suc (first_fire m (some v) vs))
+    go : (b : Bool) → (first_fire m (Some v) vs < length vs → first_fire m (Some v) (vs ++ ys) ≡ first_fire m (Some v) vs) → cond b 0 (suc (first_fire m (Some v) vs)) < suc (length vs)
+        → cond b 0 (suc (first_fire m (Some v) (vs ++ ys))) ≡ cond b 0 (suc (first_fire m (Some v) vs))
     go true ih h = refl
     go false ih h = ap suc (ih (omega arith))
 
@@ -460,9 +460,9 @@ fire_stays m q (v ∷ vs) ys h = go (fires m q v) (fire_stays m (some v) vs ys) 
 pub fire_later : (m : Masks) (q : Option ℕ) (xs ys : List ℕ) → first_fire m q xs ≡ length xs → first_fire m q (xs ++ ys) ≡ length xs + first_fire m (last_of q xs) ys
 unfolding first_fire last_of
 fire_later m q [] ys h = sym (zero-add _)
-fire_later m q (v ∷ vs) ys h = go (fires m q v) (fire_later m (some v) vs ys) h
+fire_later m q (v ∷ vs) ys h = go (fires m q v) (fire_later m (Some v) vs ys) h
   where
-    go : (b : Bool) → (first_fire m (some v) vs ≡ length vs → first_fire m (some v) (vs ++ ys) ≡ length vs + first_fire m (last_of (some v) vs) ys) → cond b 0 (suc (first_fire m (some v) vs)) ≡ suc (length vs)
-        → cond b 0 (suc (first_fire m (some v) (vs ++ ys))) ≡ suc (length vs) + first_fire m (last_of (some v) vs) ys
+    go : (b : Bool) → (first_fire m (Some v) vs ≡ length vs → first_fire m (Some v) (vs ++ ys) ≡ length vs + first_fire m (last_of (Some v) vs) ys) → cond b 0 (suc (first_fire m (Some v) vs)) ≡ suc (length vs)
+        → cond b 0 (suc (first_fire m (Some v) (vs ++ ys))) ≡ suc (length vs) + first_fire m (last_of (Some v) vs) ys
     go true ih h = absurd (omega arith)
     go false ih h = omega (arith, ih (omega arith))

@@ -4,7 +4,7 @@ use Prim.Native.Nat.{ℕ, zero, suc, ◌+◌, ◌-◌, ◌≤◌, ◌<◌, zero-
 use mathlib.Core.Path.{◌≡◌, refl, sym, ap, ap₂, ◌∙◌, subst}
 use mathlib.Core.Bool.{Bool, true, false, cond}
 use mathlib.Core.Logic.{◌⊎◌, inl, inr}
-use mathlib.Core.Option.{some}
+use Rattle.std.specs.Prelude.{Some}
 use native.Mathlib.Nat.{le_refl, le_of_suc-le-suc, not-suc-le-zero, zero-lt-suc, one-le-pow, eq-or-lt_of_le}
 use native.Mathlib.Decide.{dec_lt, ℕ_discrete}
 use native.Mathlib.Omega.{arith}
@@ -93,7 +93,7 @@ module _ (w : Way) (m : ℕ) where
     walk_loud : quiet n v m ≡ false → walk w m (suc f) p cap v ≡ ends (cond (eqb l 0) (found_at p) (on p (l - 1) v))
     walk_loud q = walk_is ∙ ap (λ (b : Bool). ends (cond b (on (w.past l p) cap n.last) (cond (eqb l 0) (found_at p) (on p (l - 1) v)))) q
 
-    pub walk_found : quiet n v m ≡ false → l ≡ 0 → walk w m (suc f) p cap v ≡ record { found = some p; steps = 1 }
+    pub walk_found : quiet n v m ≡ false → l ≡ 0 → walk w m (suc f) p cap v ≡ record { found = Some p; steps = 1 }
     walk_found q z = walk_loud q ∙ ap (λ (b : Bool). ends (cond b (found_at p) (on p (l - 1) v))) (eq-eqb l 0 z)
 
     pub walk_lower : quiet n v m ≡ false → (l ≡ 0 → ⊥) → walk w m (suc f) p cap v ≡ counted (walk w m f p (l - 1) v)

@@ -1,6 +1,6 @@
 -- Bursts, over any two searches: `back` gives the previous change of a place and `fore` the next. 01: Burst and render.
 use Rattle.std.specs.Prelude.{Bool, cond, ◌||◌, ℕ, zero, suc, ◌+◌, ◌-◌, min, ltb, leb, eqb}
-use Rattle.std.proofs.Math.Option.{Option, none, some}
+use Rattle.std.specs.Prelude.{Option, None, Some}
 use Rattle.rules.specs.Search.{next, previous}
 use Rattle.rules.specs.Walk.{Counted, Walked, next_search, previous_search}
 
@@ -25,25 +25,25 @@ pub record Side : Type 0 where
   pub last : ℕ
 
 abbrev pub side_if : Bool → Side → Option Side
-side_if near side = cond near (some side) none
+side_if near side = cond near (Some side) None
 
 -- "left is p and the change before it, if sample − p ≤ tolerance and their gap is below max_gap"
 abbrev pub left_with : ℕ → ℕ → ℕ → ℕ → Option ℕ → Option Side
-left_with gap tolerance sample p none = none
-left_with gap tolerance sample p (some q) =
-    cond (leb (sample - p) tolerance) (side_if (ltb (p - q) gap) (record { distance = sample - p; first = q; last = p })) none
+left_with gap tolerance sample p None = None
+left_with gap tolerance sample p (Some q) =
+    cond (leb (sample - p) tolerance) (side_if (ltb (p - q) gap) (record { distance = sample - p; first = q; last = p })) None
 
 -- "right likewise from n"
 abbrev pub right_with : ℕ → ℕ → ℕ → ℕ → Option ℕ → Option Side
-right_with gap tolerance sample n none = none
-right_with gap tolerance sample n (some r) =
-    cond (leb (n - sample) tolerance) (side_if (ltb (r - n) gap) (record { distance = n - sample; first = n; last = r })) none
+right_with gap tolerance sample n None = None
+right_with gap tolerance sample n (Some r) =
+    cond (leb (n - sample) tolerance) (side_if (ltb (r - n) gap) (record { distance = n - sample; first = n; last = r })) None
 
 -- "The nearer side wins, left at equal distance; with neither side the answer is none."
 abbrev pub nearer : Option Side → Option Side → Option Side
-nearer none r = r
-nearer (some l) none = some l
-nearer (some l) (some r) = cond (leb l.distance r.distance) (some l) (some r)
+nearer None r = r
+nearer (Some l) None = Some l
+nearer (Some l) (Some r) = cond (leb l.distance r.distance) (Some l) (Some r)
 
 -- an end of a burst, and the jumps that led there
 pub record End : Type 0 where
@@ -52,8 +52,8 @@ pub record End : Type 0 where
 
 -- "up to budget times": to what `reach` finds, as long as that lies further; a failed try is no jump
 abbrev pub jumped : (ℕ → ℕ → Bool) → ℕ → ℕ → Option ℕ → (ℕ → End) → End
-jumped further p n none rest = record { place = p; jumps = n }
-jumped further p n (some e) rest = cond (further p e) (rest e) (record { place = p; jumps = n })
+jumped further p n None rest = record { place = p; jumps = n }
+jumped further p n (Some e) rest = cond (further p e) (rest e) (record { place = p; jumps = n })
 
 unfoldable pub jump : (ℕ → Option ℕ) → (ℕ → ℕ → Bool) → ℕ → ℕ → ℕ → End
 jump reach further zero p n = record { place = p; jumps = n }
@@ -61,22 +61,22 @@ jump reach further (suc budget) p n = jumped further p n (reach p) (λ e. jump r
 
 module _ (back fore : ℕ → Option ℕ) where
   abbrev pub left_of : ℕ → ℕ → ℕ → Option ℕ → Option Side
-  left_of gap tolerance sample none = none
-  left_of gap tolerance sample (some p) = left_with gap tolerance sample p (back (p - 1))
+  left_of gap tolerance sample None = None
+  left_of gap tolerance sample (Some p) = left_with gap tolerance sample p (back (p - 1))
 
   abbrev pub right_of : ℕ → ℕ → ℕ → Option ℕ → Option Side
-  right_of gap tolerance sample none = none
-  right_of gap tolerance sample (some n) = right_with gap tolerance sample n (fore n)
+  right_of gap tolerance sample None = None
+  right_of gap tolerance sample (Some n) = right_with gap tolerance sample n (fore n)
 
   abbrev pub sides : ℕ → ℕ → ℕ → Option ℕ → Option ℕ → Option Side
   sides gap tolerance sample p n = nearer (left_of gap tolerance sample p) (right_of gap tolerance sample n)
 
   -- "if both exist and n − p < max_gap, the pair is (p,n). Otherwise .."
   abbrev pub pair_of : ℕ → ℕ → ℕ → Option ℕ → Option ℕ → Option Side
-  pair_of gap tolerance sample none n = sides gap tolerance sample none n
-  pair_of gap tolerance sample (some p) none = sides gap tolerance sample (some p) none
-  pair_of gap tolerance sample (some p) (some n) =
-      cond (ltb (n - p) gap) (some (record { distance = 0; first = p; last = n })) (sides gap tolerance sample (some p) (some n))
+  pair_of gap tolerance sample None n = sides gap tolerance sample None n
+  pair_of gap tolerance sample (Some p) None = sides gap tolerance sample (Some p) None
+  pair_of gap tolerance sample (Some p) (Some n) =
+      cond (ltb (n - p) gap) (Some (record { distance = 0; first = p; last = n })) (sides gap tolerance sample (Some p) (Some n))
 
   -- "last jumps to the furthest change at most last + max_gap − 1"
   abbrev pub last_end : ℕ → ℕ → ℕ → End
@@ -90,21 +90,21 @@ module _ (back fore : ℕ → Option ℕ) where
   ends l f = record { first = f.place; last = l.place; jumps_end = l.jumps; jumps_start = f.jumps }
 
   abbrev pub grown : ℕ → ℕ → Option Side → Option Burst
-  grown gap budget none = none
-  grown gap budget (some side) = some (ends (last_end gap budget side.last) (first_end gap budget side.first))
+  grown gap budget None = None
+  grown gap budget (Some side) = Some (ends (last_end gap budget side.last) (first_end gap budget side.first))
 
   -- "none if len = 0 or max_gap < 2; tolerance becomes min(tolerance, max_gap − 1)"
   unfoldable pub burst_by : ℕ → ℕ → ℕ → ℕ → ℕ → Option Burst
   burst_by len sample gap tolerance budget =
-      cond (eqb len 0 || ltb gap 2) none (grown gap budget (pair_of gap (min tolerance (gap - 1)) sample (back sample) (fore sample)))
+      cond (eqb len 0 || ltb gap 2) None (grown gap budget (pair_of gap (min tolerance (gap - 1)) sample (back sample) (fore sample)))
 
 -- ---- the nodes that its searches read
 -- "Burst, also when it finds none, returns the sum over the searches that `burst_at` makes." (02, CR 3)
 
 -- of the searches that an end makes, the failed last try among them
 abbrev pub onward : (ℕ → ℕ → Bool) → ℕ → Option ℕ → (ℕ → ℕ) → ℕ
-onward further p none rest = 0
-onward further p (some e) rest = cond (further p e) (rest e) 0
+onward further p None rest = 0
+onward further p (Some e) rest = cond (further p e) (rest e) 0
 
 unfoldable pub jump_steps : (ℕ → Walked) → (ℕ → ℕ → Bool) → ℕ → ℕ → ℕ
 jump_steps reach further zero p = 0
@@ -117,25 +117,25 @@ places search from = (search from).found
 module _ (back fore : ℕ → Walked) where
   -- a side's second change is searched for only within the tolerance
   abbrev pub left_steps : ℕ → ℕ → Option ℕ → ℕ
-  left_steps tolerance sample none = 0
-  left_steps tolerance sample (some p) = cond (leb (sample - p) tolerance) (back (p - 1)).steps 0
+  left_steps tolerance sample None = 0
+  left_steps tolerance sample (Some p) = cond (leb (sample - p) tolerance) (back (p - 1)).steps 0
 
   abbrev pub right_steps : ℕ → ℕ → Option ℕ → ℕ
-  right_steps tolerance sample none = 0
-  right_steps tolerance sample (some n) = cond (leb (n - sample) tolerance) (fore n).steps 0
+  right_steps tolerance sample None = 0
+  right_steps tolerance sample (Some n) = cond (leb (n - sample) tolerance) (fore n).steps 0
 
   abbrev pub sides_steps : ℕ → ℕ → Option ℕ → Option ℕ → ℕ
   sides_steps tolerance sample p n = left_steps tolerance sample p + right_steps tolerance sample n
 
   -- none for a pair around the place
   abbrev pub pair_steps : ℕ → ℕ → ℕ → Option ℕ → Option ℕ → ℕ
-  pair_steps gap tolerance sample none n = sides_steps tolerance sample none n
-  pair_steps gap tolerance sample (some p) none = sides_steps tolerance sample (some p) none
-  pair_steps gap tolerance sample (some p) (some n) = cond (ltb (n - p) gap) 0 (sides_steps tolerance sample (some p) (some n))
+  pair_steps gap tolerance sample None n = sides_steps tolerance sample None n
+  pair_steps gap tolerance sample (Some p) None = sides_steps tolerance sample (Some p) None
+  pair_steps gap tolerance sample (Some p) (Some n) = cond (ltb (n - p) gap) 0 (sides_steps tolerance sample (Some p) (Some n))
 
   abbrev pub grown_steps : ℕ → ℕ → Option Side → ℕ
-  grown_steps gap budget none = 0
-  grown_steps gap budget (some side) =
+  grown_steps gap budget None = 0
+  grown_steps gap budget (Some side) =
       jump_steps (λ p. back (sum p (gap - 1))) ltb budget side.last + jump_steps (λ p. fore (p - gap)) (λ p e. ltb e p) budget side.first
 
   abbrev pub pair_for : ℕ → ℕ → ℕ → Option Side

@@ -1,6 +1,6 @@
 -- A mill's reader: a grant, a mask of lines, and places that count from the mark. 02: CR 1.
 use Rattle.std.specs.Prelude.{Bool, not, false, List, [], ◌∷◌, ℕ, suc, ◌+◌, ◌-◌, ltb, eqb, ℤ, pos, negsuc}
-use Rattle.std.proofs.Math.Option.{Option, none, some}
+use Rattle.std.specs.Prelude.{Option, None, Some}
 use Rattle.std.specs.Int.Bits.{bit_and}
 use Rattle.std.proofs.Math.IntN.{sub_ℕ}
 use Rattle.rules.specs.Burst.{Burst}
@@ -10,8 +10,8 @@ use Rattle.rules.specs.Encoder.{pair_mask, pair_row}
 -- ---- places
 -- "places count from the mark, negative before it (from the first sample if there is no mark)": the place that counts as 0
 abbrev pub origin_of : Option ℕ → ℕ
-origin_of none = 0
-origin_of (some mark) = mark
+origin_of None = 0
+origin_of (Some mark) = mark
 
 -- the place i of the run, as a mill counts it
 abbrev pub mill_place : ℕ → ℕ → ℤ
@@ -24,8 +24,8 @@ place_at origin (negsuc n) = origin - suc n
 
 -- a place that is found, as a mill counts it
 abbrev pub shown_place : ℕ → Option ℕ → Option ℤ
-shown_place origin none = none
-shown_place origin (some i) = some (mill_place origin i)
+shown_place origin None = None
+shown_place origin (Some i) = Some (mill_place origin i)
 
 -- a burst, as a mill counts its places
 pub record MillBurst : Type 0 where
@@ -35,8 +35,8 @@ pub record MillBurst : Type 0 where
   pub jumps_start : ℕ
 
 abbrev pub shown_burst : ℕ → Option Burst → Option MillBurst
-shown_burst origin none = none
-shown_burst origin (some b) = some (record { first = mill_place origin b.first; last = mill_place origin b.last; jumps_end = b.jumps_end; jumps_start = b.jumps_start })
+shown_burst origin None = None
+shown_burst origin (Some b) = Some (record { first = mill_place origin b.first; last = mill_place origin b.last; jumps_end = b.jumps_end; jumps_start = b.jumps_start })
 
 -- ---- 12: "a search or burst mask beyond the grant"
 abbrev pub beyond : ℕ → ℕ → Bool

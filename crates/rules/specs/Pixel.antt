@@ -1,6 +1,6 @@
 -- Pixels of a view. 01: Burst and render.
 use Rattle.std.specs.Prelude.{Bool, true, false, cond, ◌||◌, List, [], ◌∷◌, map, ℕ, zero, suc, ◌+◌, min, max, leb, eqb, ℤ, pos, negsuc, ◌+ℤ◌, Float}
-use Rattle.std.proofs.Math.Option.{Option, none, some}
+use Rattle.std.specs.Prelude.{Option, None, Some}
 use Rattle.std.specs.Float.{binary64}
 use Rattle.std.specs.Float.Ieee.{add, mul, of_int}
 use Rattle.rules.specs.Sample.{cut_to}
@@ -48,7 +48,7 @@ pub record Range : Type 0 where
 
 -- "b < 0, a ≥ len or len = 0: pixel 0, 0. Otherwise a = max(a,0), b = .."
 abbrev pub range_of : Whole → Whole → ℕ → Option Range
-range_of a b len = cond (below0 b || reaches a len || eqb len 0) none (some (record { from = natural a; to = end_of b (natural a) len }))
+range_of a b len = cond (below0 b || reaches a len || eqb len 0) None (Some (record { from = natural a; to = end_of b (natural a) len }))
 
 -- "Pixel px, from 0, has a = .. and b the same with px + 1"
 abbrev pub pixel_range : View → ℕ → ℕ → Option Range
@@ -56,8 +56,8 @@ pixel_range v len px = range_of (pixel_edge v px) (pixel_edge v (px + 1)) len
 
 -- "the pixel is first and toggles of [a,b)"; where there is no range, 0 and 0
 abbrev pub shown : (ℕ → ℕ → Node) → Option Range → List ℕ → List ℕ
-shown node none rest = 0 ∷ 0 ∷ rest
-shown node (some r) rest = (node r.from r.to).first ∷ (node r.from r.to).toggles ∷ rest
+shown node None rest = 0 ∷ 0 ∷ rest
+shown node (Some r) rest = (node r.from r.to).first ∷ (node r.from r.to).toggles ∷ rest
 
 -- n pixels from px on, over any summary of ranges and any ranges of pixels
 unfoldable pub row_by : (ℕ → ℕ → Node) → (ℕ → Option Range) → ℕ → ℕ → List ℕ

@@ -1,7 +1,7 @@
 -- One push on a recorder and its memory, for any unit: the samples that it is to store, its refusals, its answer, and what it leaves.
 -- 01: Selection and recorder; Where each number is checked, 1, 2 and 8.
 use Rattle.std.specs.Prelude.{cond, List, [], ◌∷◌, ◌++◌, ℕ, ◌+◌, ◌-◌, ◌*◌, min, ltb, eqb, length, take, drop}
-use Rattle.std.proofs.Math.Option.{some}
+use Rattle.std.specs.Prelude.{Some}
 use Rattle.rules.specs.Sample.{sample_of, sample_count, samples_of}
 use Rattle.rules.specs.Trigger.{Armed, unarmed, waiting, first_fire, last_of}
 use Rattle.rules.specs.Selection.{Reply, refused, reply_of}
@@ -28,11 +28,11 @@ with_len c n = record {
 -- "the mark is min(T, pre)"
 abbrev pub fired_by : Recorder → ℕ → ℕ → Recorder
 fired_by c v i = record {
-  store = record { unit = c.store.unit; capacity = c.store.capacity; len = c.store.len; mark = some (min c.pre (c.kept + i)) };
+  store = record { unit = c.store.unit; capacity = c.store.capacity; len = c.store.len; mark = Some (min c.pre (c.kept + i)) };
   limit = c.limit;
   pre = c.pre;
   armed = unarmed;
-  previous = some v;
+  previous = Some v;
   place = 0;
   kept = 0;
 }

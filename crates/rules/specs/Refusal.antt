@@ -1,6 +1,6 @@
 -- The refusals 1 to 11: their conditions, and the order in which a call tries them. 01: Where each number is checked.
 use Rattle.std.specs.Prelude.{Bool, false, cond, not, ◌&&◌, ◌||◌, List, [], ◌∷◌, ℕ, zero, suc, ◌+◌, ◌*◌, min, ◌-◌, ltb, leb, eqb}
-use Rattle.std.proofs.Math.Option.{Option, none, some}
+use Rattle.std.specs.Prelude.{Option, None, Some}
 use Rattle.std.specs.Float.Ieee.{is_nan}
 use Rattle.std.specs.Float.Ieee.Scale.{finite}
 use Rattle.rules.specs.Node.{nodes_for, top_level}
@@ -23,12 +23,12 @@ most_samples = 67108864
 
 -- a mark as two numbers: "1 if there is a mark else 0" (02, CR 7), and its place, 0 where there is none; a previous sample too
 abbrev pub mark_flag : Option ℕ → ℕ
-mark_flag none = 0
-mark_flag (some k) = 1
+mark_flag None = 0
+mark_flag (Some k) = 1
 
 abbrev pub mark_place : Option ℕ → ℕ
-mark_place none = 0
-mark_place (some k) = k
+mark_place None = 0
+mark_place (Some k) = k
 
 -- the lengths of the lent slices
 pub record Lent : Type 0 where
@@ -47,8 +47,8 @@ first_of (r ∷ rows) = cond r.holds r.number (first_of rows)
 
 -- ---- 1: "unit, capacity, len or mark outside the above"
 abbrev pub mark_wrong : Option ℕ → ℕ → Bool
-mark_wrong none len = false
-mark_wrong (some k) len = ltb len k
+mark_wrong None len = false
+mark_wrong (Some k) len = ltb len k
 
 -- unit 1 or 2
 abbrev pub unit_wrong : ℕ → Bool
@@ -92,7 +92,7 @@ store_refusal st lent = first_of (store_rows st lent [])
 
 -- a store's start gives a store with nothing in it
 abbrev pub fresh : ℕ → ℕ → Store
-fresh channels capacity = record { unit = unit_of channels; capacity = capacity; len = 0; mark = none }
+fresh channels capacity = record { unit = unit_of channels; capacity = capacity; len = 0; mark = None }
 
 -- ---- 8: "len plus the samples to store > capacity"
 abbrev pub room_row : Store → ℕ → Row

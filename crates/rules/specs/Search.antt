@@ -1,6 +1,6 @@
 -- Next, previous and summary, from samples alone. 01: Search.
 use Rattle.std.specs.Prelude.{Bool, cond, not, ℕ, zero, suc, ◌+◌, ◌-◌, min, ltb, eqb}
-use Rattle.std.proofs.Math.Option.{Option, none, some}
+use Rattle.std.specs.Prelude.{Option, None, Some}
 use Rattle.std.specs.Int.Bits.{bit_and}
 use Rattle.rules.specs.Node.{Node, Lines, changes, changes_in, node_of, cut}
 
@@ -10,8 +10,8 @@ changed s mask i = not (eqb (bit_and (changes s i) mask) 0)
 
 -- the first of n places at which the test holds: p, then step p, and so on
 unfoldable pub seek : (ℕ → ℕ) → (ℕ → Bool) → ℕ → ℕ → Option ℕ
-seek step test p zero = none
-seek step test p (suc n) = cond (test p) (some p) (seek step test (step p) n)
+seek step test p zero = None
+seek step test p (suc n) = cond (test p) (Some p) (seek step test (step p) n)
 
 abbrev pub higher : ℕ → ℕ
 higher p = p + 1
@@ -41,17 +41,17 @@ previous s len mask from = previous_at (changed s mask) len from
 
 -- "Summary(a,b) is the node of [a, min(b,len)), or none if empty."
 abbrev pub summary : (ℕ → ℕ) → ℕ → ℕ → ℕ → Option Node
-summary s len a b = cond (ltb a (min b len)) (some (node_of s a (min b len))) none
+summary s len a b = cond (ltb a (min b len)) (Some (node_of s a (min b len))) None
 
 -- "Cutting down takes first, last and toggles AND that mask; none stays none." (01, Lists of pushes)
 abbrev pub cut_summary : ℕ → Option Node → Option Lines
-cut_summary v none = none
-cut_summary v (some n) = some (cut v n)
+cut_summary v None = None
+cut_summary v (Some n) = Some (cut v n)
 
 -- the count of a summary, which is 0 where there is none
 abbrev pub count_in : Option Node → ℕ
-count_in none = 0
-count_in (some n) = n.count
+count_in None = 0
+count_in (Some n) = n.count
 
 -- "the number of changes in [a,b), cut at len as in summary, 0 if that is empty" (02, CR 5)
 abbrev pub density : (ℕ → ℕ) → ℕ → ℕ → ℕ → ℕ

@@ -1,6 +1,6 @@
 -- The run and the mark that a list of pushes makes. 01: Selection and recorder; Lists of pushes.
 use Rattle.std.specs.Prelude.{Bool, cond, List, [], ◌∷◌, ◌++◌, ℕ, ◌-◌, ◌%◌, min, ltb, leb, eqb, length, take, drop, get_or}
-use Rattle.std.proofs.Math.Option.{Option, none, some}
+use Rattle.std.specs.Prelude.{Option, None, Some}
 use Rattle.rules.specs.Sample.{unit_of, samples_of}
 use Rattle.rules.specs.Pretrigger.{Pretrigger, Pre, pre_for}
 use Rattle.rules.specs.Trigger.{Masks, Term, Armed, unarmed, waiting, armed_of, first_fire, last_of}
@@ -44,16 +44,16 @@ pub record Selected : Type 0 where
 
 -- "the run starts at T − min(T, pre), the mark is min(T, pre)"
 abbrev pub fired_at : ℕ → ℕ → List ℕ → Selected
-fired_at pre t xs = record { run = drop (t - min t pre) xs; mark = some (min t pre) }
+fired_at pre t xs = record { run = drop (t - min t pre) xs; mark = Some (min t pre) }
 
 -- "no T, empty run and no mark"
 abbrev pub not_fired : Selected
-not_fired = record { run = []; mark = none }
+not_fired = record { run = []; mark = None }
 
 -- "without terms the run is all of them, with no mark; with terms and T the first firing place, .."
 unfoldable pub chosen : Armed → ℕ → List ℕ → Selected
-chosen unarmed pre xs = record { run = xs; mark = none }
-chosen (waiting m) pre xs = cond (ltb (first_fire m none xs) (length xs)) (fired_at pre (first_fire m none xs) xs) not_fired
+chosen unarmed pre xs = record { run = xs; mark = None }
+chosen (waiting m) pre xs = cond (ltb (first_fire m None xs) (length xs)) (fired_at pre (first_fire m None xs) xs) not_fired
 
 -- "Limit above 0 keeps the run's first limit samples."
 abbrev pub limited : ℕ → List ℕ → List ℕ
@@ -100,20 +100,20 @@ slot_of pre k = cond (eqb pre 0) 0 (k % pre)
 
 -- "unarmed pushes change none of the three": previous sample, ring place and kept count are start's
 abbrev pub never_armed : Beside
-never_armed = record { armed = unarmed; previous = none; place = 0; kept = 0 }
+never_armed = record { armed = unarmed; previous = None; place = 0; kept = 0 }
 
 -- while it waits: the next slot, and "kept count (at most pre)" (01, Records)
 abbrev pub still_armed : Masks → ℕ → List ℕ → Beside
-still_armed m pre xs = record { armed = waiting m; previous = last_of none xs; place = slot_of pre (length xs); kept = min (length xs) pre }
+still_armed m pre xs = record { armed = waiting m; previous = last_of None xs; place = slot_of pre (length xs); kept = min (length xs) pre }
 
 -- "Firing keeps the firing sample as the previous one and sets kept count and ring place to 0"
 abbrev pub fired_on : ℕ → Beside
-fired_on v = record { armed = unarmed; previous = some v; place = 0; kept = 0 }
+fired_on v = record { armed = unarmed; previous = Some v; place = 0; kept = 0 }
 
 abbrev pub beside_for : Armed → ℕ → List ℕ → Beside
 beside_for unarmed pre xs = never_armed
 beside_for (waiting m) pre xs =
-    cond (ltb (first_fire m none xs) (length xs)) (fired_on (get_or xs (first_fire m none xs) 0)) (still_armed m pre xs)
+    cond (ltb (first_fire m None xs) (length xs)) (fired_on (get_or xs (first_fire m None xs) 0)) (still_armed m pre xs)
 
 abbrev pub beside_of : Rule → List ℕ → Beside
 beside_of r xs = beside_for r.armed r.pre xs

@@ -1,6 +1,6 @@
 -- Shelf files: the file of a capture, what a file holds, and which files some capture has. 02: CR 7.
 use Rattle.std.specs.Prelude.{◌≡◌, Bool, true, false, cond, not, ◌&&◌, ◌||◌, List, [], ◌∷◌, ◌++◌, ℕ, zero, suc, ◌+◌, ◌-◌, ◌*◌, ◌/◌, ◌≤◌, min, ltb, leb, eqb, length, get_or, take, drop}
-use Rattle.std.proofs.Math.Option.{Option, none, some}
+use Rattle.std.specs.Prelude.{Option, None, Some}
 use Rattle.rules.specs.Sample.{little}
 use Rattle.rules.specs.SampleBytes.{sample_bytes, Bytes}
 use Rattle.rules.specs.Refusal.{Store, most_samples, mark_flag, mark_place, unit_wrong, mark_wrong, store_wrong, samples_need}
@@ -76,7 +76,7 @@ abbrev pub flag_in : List ℕ → ℕ
 flag_in file = get_or file 13 0
 
 unfoldable pub heading_in : List ℕ → Heading
-heading_in file = record { unit = get_or file payload_at 0; mark = cond (eqb (flag_in file) 0) none (some (little 8 file 22)); len = little 8 file 14 }
+heading_in file = record { unit = get_or file payload_at 0; mark = cond (eqb (flag_in file) 0) None (Some (little 8 file 22)); len = little 8 file 14 }
 
 -- the payloads of k blocks, one after the other
 unfoldable pub payloads : ℕ → List ℕ → List ℕ

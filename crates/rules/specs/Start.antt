@@ -1,6 +1,6 @@
 -- The record that a recorder's start gives. 01: Records, Recorder; Lists of pushes.
 use Rattle.std.specs.Prelude.{Bool, ℕ}
-use Rattle.std.proofs.Math.Option.{none}
+use Rattle.std.specs.Prelude.{None}
 use Rattle.rules.specs.Selection.{Settings, Rule, pre_wish, rule_of, Beside}
 use Rattle.rules.specs.Refusal.{Lent, Recorder, start_refusal}
 use Rattle.rules.specs.Answer.{Answer, unless}
@@ -8,11 +8,11 @@ use Rattle.rules.specs.Answer.{Answer, unless}
 -- nothing stored, no mark, no previous sample, nothing kept
 abbrev pub fresh_recorder : Rule → Recorder
 fresh_recorder r = record {
-  store = record { unit = r.unit; capacity = r.capacity; len = 0; mark = none };
+  store = record { unit = r.unit; capacity = r.capacity; len = 0; mark = None };
   limit = r.limit;
   pre = r.pre;
   armed = r.armed;
-  previous = none;
+  previous = None;
   place = 0;
   kept = 0;
 }

@@ -1,6 +1,6 @@
 -- Terms, the five masks that they make, and when a sample fires. 01: Selection and recorder; 02: CR 4.
 use Rattle.std.specs.Prelude.{Bool, cond, ◌&&◌, List, [], ◌∷◌, ℕ, suc, ◌^◌, eqb}
-use Rattle.std.proofs.Math.Option.{Option, none, some}
+use Rattle.std.specs.Prelude.{Option, None, Some}
 use Rattle.std.specs.Int.Bits.{bit_and, bit_or, bit_xor}
 
 -- "A term is a line (0–15) and one of Rising, Falling, Edge, High, Low"
@@ -71,15 +71,15 @@ matches m p v =
 
 -- "The first sample has no p: it fires only if there is no Rising, Falling or Edge term, tested with p = v."
 unfoldable pub fires : Masks → Option ℕ → ℕ → Bool
-fires m none v = eqb (bit_or (bit_or m.rising m.falling) m.edge) 0 && matches m v v
-fires m (some p) v = matches m p v
+fires m None v = eqb (bit_or (bit_or m.rising m.falling) m.edge) 0 && matches m v v
+fires m (Some p) v = matches m p v
 
 -- "T the first firing place" of samples that come after q; their count where none fires
 unfoldable pub first_fire : Masks → Option ℕ → List ℕ → ℕ
 first_fire m q [] = 0
-first_fire m q (v ∷ vs) = cond (fires m q v) 0 (suc (first_fire m (some v) vs))
+first_fire m q (v ∷ vs) = cond (fires m q v) 0 (suc (first_fire m (Some v) vs))
 
 -- "previous sample or none": the sample before the next one, once vs came after q
 unfoldable pub last_of : Option ℕ → List ℕ → Option ℕ
 last_of q [] = q
-last_of q (v ∷ vs) = last_of (some v) vs
+last_of q (v ∷ vs) = last_of (Some v) vs

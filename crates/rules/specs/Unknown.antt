@@ -1,6 +1,6 @@
 -- Changes across unknown stretches: certain and possible ones. 02: CR 9.
 use Rattle.std.specs.Prelude.{◌≡◌, Bool, true, false, cond, not, ◌&&◌, ◌||◌, List, [], ◌∷◌, ℕ, ◌-◌, ◌%◌, ◌^◌, ◌≤◌, ◌<◌, eqb, length}
-use Rattle.std.proofs.Math.Option.{Option, none, some}
+use Rattle.std.specs.Prelude.{Option, None, Some}
 use Rattle.std.specs.Int.Bits.{bit_and}
 use Rattle.rules.specs.Refusal.{Store, Lent, Row, first_of, store_rows}
 use Rattle.rules.specs.Search.{changed, next_at, previous_at}
@@ -65,8 +65,8 @@ Sooner false j i = j < i
 
 -- the answer is the first place on its way of which P holds, "with none exactly when there is none"
 unfoldable pub Nearest : Bool → (ℕ → Type 0) → ℕ → ℕ → Option ℕ → Type 0
-Nearest back P len from none = (i : ℕ) → Asked back len from i → P i → ⊥
-Nearest back P len from (some i) = Asked back len from i × P i × ((j : ℕ) → Asked back len from j → Sooner back j i → P j → ⊥)
+Nearest back P len from None = (i : ℕ) → Asked back len from i → P i → ⊥
+Nearest back P len from (Some i) = Asked back len from i × P i × ((j : ℕ) → Asked back len from j → Sooner back j i → P j → ⊥)
 
 -- ---- the call
 -- "It refuses with 18, after 2, a list with an odd count of numbers, or whose stretches are out of order, overlap or touch, or with a stretch of no samples or one reaching past len; a list of no stretches is accepted."

@@ -1,7 +1,7 @@
 -- The walk of "Search", over any reader of nodes: which nodes it takes, in which order, and how many. 01: Search.
 -- A reader gives the node of level l that starts at a place; level 0 is the sample. A level set says which levels above 0 there are.
 use Rattle.std.specs.Prelude.{Bool, true, cond, ◌&&◌, ℕ, zero, suc, ◌+◌, ◌-◌, ◌*◌, ◌/◌, ◌%◌, ltb, leb, eqb}
-use Rattle.std.proofs.Math.Option.{Option, none, some}
+use Rattle.std.specs.Prelude.{Option, None, Some}
 use Rattle.rules.specs.Node.{Node, node_of, mirror, quiet, top_level, span, chunk, chunk_end, nodes_for}
 use Rattle.rules.specs.Search.{higher, lower, next, previous, start_back}
 
@@ -19,7 +19,7 @@ abbrev pub Walked : Type 0
 Walked = Counted ℕ
 
 abbrev pub nothing : Walked
-nothing = record { found = none; steps = 0 }
+nothing = record { found = None; steps = 0 }
 
 -- a direction within a chunk
 pub record Way : Type 0 where
@@ -76,7 +76,7 @@ step w mask p cap before =
 -- the walk after a step; each but the end takes one node
 abbrev pub after : Step → (ℕ → ℕ → ℕ → Walked) → Walked
 after ended rest = nothing
-after (found_at p) rest = record { found = some p; steps = 1 }
+after (found_at p) rest = record { found = Some p; steps = 1 }
 after (on p cap before) rest = record { found = (rest p cap before).found; steps = suc (rest p cap before).steps }
 
 -- at most `fuel` steps, which bound the recursion: the places left and the cap together fall at each step, so those of `walk_from` are enough
@@ -117,12 +117,12 @@ behind has reader = record {
 
 -- a chunk's find, else the rest's, with the steps of both
 abbrev pub or_found : Option ℕ → Option ℕ → Option ℕ
-or_found (some i) rest = some i
-or_found none rest = rest
+or_found (Some i) rest = Some i
+or_found None rest = rest
 
 abbrev pub or_steps : Option ℕ → ℕ → ℕ → ℕ
-or_steps (some i) n rest = n
-or_steps none n rest = n + rest
+or_steps (Some i) n rest = n
+or_steps None n rest = n + rest
 
 abbrev pub or_else : Walked → Walked → Walked
 or_else w rest = record {
@@ -144,8 +144,8 @@ enters zero = 0
 enters (suc left) = 1
 
 abbrev pub or_entered : ℕ → Option ℕ → ℕ → ℕ
-or_entered left (some i) rest = enters left
-or_entered left none rest = enters left + rest
+or_entered left (Some i) rest = enters left
+or_entered left None rest = enters left + rest
 
 unfoldable pub entered : Course → ℕ → ℕ → ℕ → ℕ → ℕ → ℕ
 entered k mask zero c p before = 0

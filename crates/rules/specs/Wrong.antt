@@ -1,6 +1,6 @@
 -- Whole: "yes or the first wrong node (level and number) of those that cover stored samples, lowest level first". 01: Other calls.
 use Rattle.std.specs.Prelude.{Bool, not, ◌&&◌, ℕ, zero, suc, ◌+◌, eqb}
-use Rattle.std.proofs.Math.Option.{Option, none, some}
+use Rattle.std.specs.Prelude.{Option, None, Some}
 use Rattle.rules.specs.Node.{Node, nodes_for, level_node, top_level}
 use Rattle.rules.specs.Search.{seek, higher}
 
@@ -14,8 +14,8 @@ pub record NodeAt : Type 0 where
 
 -- level l's find, else the rest's
 abbrev pub or_above : ℕ → Option ℕ → Option NodeAt → Option NodeAt
-or_above l (some j) rest = some (record { level = l; number = j })
-or_above l none rest = rest
+or_above l (Some j) rest = Some (record { level = l; number = j })
+or_above l None rest = rest
 
 -- `held l j` is what memory holds for node j of level l
 module _ (s : ℕ → ℕ) (len : ℕ) (held : ℕ → ℕ → Node) where
@@ -25,7 +25,7 @@ module _ (s : ℕ → ℕ) (len : ℕ) (held : ℕ → ℕ → Node) where
 
   -- the first wrong node of n levels from level l on
   unfoldable pub first_wrong : ℕ → ℕ → Option NodeAt
-  first_wrong l zero = none
+  first_wrong l zero = None
   first_wrong l (suc n) = or_above l (seek higher (wrong_at l) 0 (nodes_for len l)) (first_wrong (l + 1) n)
 
   -- none is yes

@@ -4,7 +4,7 @@
 use Prim.Native.Nat.{ℕ, ◌*◌, ◌≤◌}
 use mathlib.Core.Path.{◌≡◌, refl, sym, ap, ◌∙◌, subst}
 use mathlib.Core.List.{List}
-use mathlib.Core.Option.{some}
+use Rattle.std.specs.Prelude.{Some}
 use contract.Lifetimes.{Lfts}
 use denote.Ref.{Bor}
 use Rattle.rules.specs.Sample.{sample_of}
@@ -15,7 +15,7 @@ use Rattle.rules.proofs.Found.{TrueNodes}
 use Rattle.rules.proofs.Steps.{next_searched, previous_searched}
 use Rattle.rules.proofs.Effort.{next_effort, previous_effort}
 use Rattle.node.specs.Memory.{level_of, reader_of, Right}
-use Rattle.node.proofs.Memory.{right_true}
+use Rattle.node.proofs.NodeMemory.{right_true}
 use Rattle.capture.specs.declared.Capture.{Capture}
 use Rattle.capture.specs.Record.{store_of, lent_of}
 use Rattle.capture.proofs.Answer.{unless_given}
@@ -67,10 +67,10 @@ module _ (κs : Lfts 2) (c : Capture) (samples l1 l2 l3 l4 : Bor (List ℕ)) (ma
       (unless_given _ (store_refusal (store_of c) (lent_of samples.now levels)) w (sym (previous_right p h) ∙ e)).1 (previous_effort (run_reader s) s c.len mask run_true from)
 
   -- whatever memory holds, a place found is one of the range
-  pub next_range : NextAnswered → (i n : ℕ) → found_of r ≡ given (record { found = some i; steps = n }) → After from c.len i
+  pub next_range : NextAnswered → (i n : ℕ) → found_of r ≡ given (record { found = Some i; steps = n }) → After from c.len i
   unfolding next_of
   next_range p i n e = next_within all_levels (reader_of c.unitsize samples.now levels) c.len mask from i (ap (λ (w : Walked). w.found) (unless_given _ (store_refusal (store_of c) (lent_of samples.now levels)) _ (sym p ∙ e)).1)
 
-  pub previous_range : PreviousAnswered → (i n : ℕ) → found_of r ≡ given (record { found = some i; steps = n }) → UpTo from c.len i
+  pub previous_range : PreviousAnswered → (i n : ℕ) → found_of r ≡ given (record { found = Some i; steps = n }) → UpTo from c.len i
   unfolding previous_of
   previous_range p i n e = previous_within all_levels (reader_of c.unitsize samples.now levels) c.len mask from i (ap (λ (w : Walked). w.found) (unless_given _ (store_refusal (store_of c) (lent_of samples.now levels)) _ (sym p ∙ e)).1)

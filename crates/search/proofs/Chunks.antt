@@ -2,7 +2,8 @@
 use Prim.Native.Nat.{ℕ, suc, ◌+◌, ◌-◌, ◌/◌, ◌≤◌, ◌<◌}
 use mathlib.Core.Path.{◌≡◌, refl, sym, ap, ◌∙◌}
 use mathlib.Core.Bool.{Bool, cond}
-use mathlib.Core.Option.{Option, none, some, none-ne-some}
+use Rattle.std.specs.Prelude.{Option, None, Some}
+use Rattle.rules.proofs.Options.{none-ne-some}
 use native.Mathlib.Omega.{arith}
 use borrow.Author.Tests.{lt-ltb}
 use Rattle.rules.specs.Node.{Node, chunk}
@@ -14,17 +15,17 @@ use Rattle.search.proofs.Asked.{previous_something}
 
 -- ---- a chunk's walk and the rest's
 -- a find ends the walk; without one the steps add
-some_first : (x : Option ℕ) (n : ℕ) (rest : Walked) → (x ≡ none → ⊥) → told x n ≡ or_else (told x n) rest
-some_first none n rest t = absurd (t refl)
-some_first (some i) n rest t = refl
+some_first : (x : Option ℕ) (n : ℕ) (rest : Walked) → (x ≡ None → ⊥) → told x n ≡ or_else (told x n) rest
+some_first None n rest t = absurd (t refl)
+some_first (Some i) n rest t = refl
 
-none_first : (x : Option ℕ) (n : ℕ) (rest : Walked) → x ≡ none → counted_from n rest ≡ or_else (told x n) rest
-none_first none n rest z = refl
-none_first (some i) n rest z = absurd (none-ne-some i (sym z))
+none_first : (x : Option ℕ) (n : ℕ) (rest : Walked) → x ≡ None → counted_from n rest ≡ or_else (told x n) rest
+none_first None n rest z = refl
+none_first (Some i) n rest z = absurd (none-ne-some i (sym z))
 
 steps_first : (x : Option ℕ) (n rest : ℕ) → n ≤ or_steps x n rest
-steps_first none n rest = omega arith
-steps_first (some i) n rest = omega arith
+steps_first None n rest = omega arith
+steps_first (Some i) n rest = omega arith
 
 -- ---- a course
 -- the walk over n chunks from chunk c on, its steps counted on from those before, is the whole walk; v is the value before place p
@@ -61,7 +62,7 @@ module _ {k : Course} {mask : ℕ} {whole : Walked} {count n c p v : ℕ} (g : C
   pub coursing_fits : count < 18446744073709551616
   coursing_fits = omega (arith, g.few_steps, ap (λ (x : Walked). x.steps) g.same)
 
-  pub coursing_end : n ≡ 0 → told none count ≡ whole
+  pub coursing_end : n ≡ 0 → told None count ≡ whole
   unfolding chunks
   coursing_end z = sym (from_end count) ∙ sym (ap (λ (x : ℕ). counted_from count (chunks k mask x c p v)) z) ∙ g.same
 
@@ -77,8 +78,8 @@ module _ {k : Course} {mask : ℕ} {whole : Walked} {count n c p v : ℕ} (g : C
     pub coursing_counts : count + r.steps < 18446744073709551616
     coursing_counts = omega (arith, g.few_steps, ap (λ (x : Walked). x.steps) opened, steps_first r.found r.steps rest.steps)
 
-    pub coursing_found : (r.found ≡ none → ⊥) → counted_from count r ≡ whole
+    pub coursing_found : (r.found ≡ None → ⊥) → counted_from count r ≡ whole
     coursing_found t = ap (counted_from count) (some_first r.found r.steps rest t) ∙ opened
 
-    pub coursing_on : r.found ≡ none → Coursing k mask whole (count + r.steps) m (k.next_chunk c) (k.entry c) (k.value c)
+    pub coursing_on : r.found ≡ None → Coursing k mask whole (count + r.steps) m (k.next_chunk c) (k.entry c) (k.value c)
     coursing_on z = record { same = from_more count r.steps rest ∙ ap (counted_from count) (none_first r.found r.steps rest z) ∙ opened; few_steps = g.few_steps }

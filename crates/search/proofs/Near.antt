@@ -3,14 +3,15 @@ use Prim.Native.Nat.{ℕ, suc, ◌+◌, ◌-◌, ◌/◌, ◌≤◌, ◌<◌}
 use mathlib.Core.Path.{◌≡◌, refl, sym, ap, ◌∙◌}
 use mathlib.Core.Bool.{true, false}
 use mathlib.Core.List.{List}
-use mathlib.Core.Option.{none, none-ne-some}
+use Rattle.std.specs.Prelude.{None}
+use Rattle.rules.proofs.Options.{none-ne-some}
 use native.Mathlib.Omega.{arith}
 use Rattle.rules.specs.Sample.{sample_of}
 use Rattle.rules.specs.Node.{Node, chunk}
 use Rattle.rules.specs.Refusal.{most_samples}
 use Rattle.rules.specs.Walk.{Walked, Course, chunks_for, walk_from, next_walk, previous_from, all_levels}
 use Rattle.node.specs.Memory.{reader_of}
-use Rattle.node.proofs.Memory.{reads_sample}
+use Rattle.node.proofs.NodeMemory.{reads_sample}
 use Rattle.find.specs.declared.Place.{Place}
 use Rattle.find.specs.declared.Place.TheVariants.{At}
 use Rattle.find.specs.Way.{place_of}
@@ -21,12 +22,12 @@ use Rattle.search.proofs.Chunks.{Coursing, next_starts, previous_starts, coursin
 
 -- the first chunk's find, told with v as the value before p
 first_chunk : {k : Course} {mask : ℕ} {whole : Walked} {n c p u : ℕ} → Coursing k mask whole 0 n c p u → (m : ℕ) → n ≡ suc m → (v : ℕ) → v ≡ u
-    → (r : Walked) → r ≡ walk_from (k.way c) mask p v → (r.found ≡ none → ⊥) → r ≡ whole
+    → (r : Walked) → r ≡ walk_from (k.way c) mask p v → (r.found ≡ None → ⊥) → r ≡ whole
 first_chunk {k} {mask} {whole} {n} {c} {p} {u} g m em v ev r e t = sym (from_none r) ∙ coursing_found g m em r (e ∙ ap (walk_from (k.way c) mask p) ev) t
 
 -- what near answers is a place
 module _ (unit len : ℕ) (most : len ≤ most_samples) (samples level : List ℕ) (levels : ℕ → List ℕ) (mask v : ℕ) {q : Place} {i n : ℕ} (is : q ≡ At i n) where
-  some_found : (place_of q).found ≡ none → ⊥
+  some_found : (place_of q).found ≡ None → ⊥
   some_found z = none-ne-some i (sym z ∙ ap (λ (p : Place). (place_of p).found) is)
 
   value_at : (i j : ℕ) → i ≡ j → v ≡ sample_of unit samples i → v ≡ (reader_of unit samples levels 0 j).first

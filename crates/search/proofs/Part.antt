@@ -13,7 +13,7 @@ use Rattle.rules.specs.Node.{Node, leaf, mirror, cut, span, top_level}
 use Rattle.rules.specs.Walk.{forward, backward, walk_from, all_levels}
 use Rattle.rules.proofs.Steps.{walk_alike}
 use Rattle.node.specs.Memory.{reader_of}
-use Rattle.node.proofs.Memory.{reads_sample, reads_node}
+use Rattle.node.proofs.NodeMemory.{reads_sample, reads_node}
 use Rattle.find.specs.Part.{reader_from, Part}
 use Rattle.find.specs.Way.{way_in}
 use Rattle.find.proofs.Part.{from_sample, from_node, bytes_less}

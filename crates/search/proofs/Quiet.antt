@@ -3,7 +3,7 @@ use Prim.Native.Nat.{ℕ, zero, suc, ◌+◌, ◌-◌, ◌*◌, ◌/◌, ◌%◌
 use mathlib.Core.Path.{◌≡◌, refl, sym, ap, ap₂, ◌∙◌, subst, subst₂}
 use mathlib.Core.Bool.{Bool, true, false, true≢false, false≢true, ◌&&◌}
 use mathlib.Core.List.{List}
-use mathlib.Core.Option.{none}
+use Rattle.std.specs.Prelude.{None}
 use native.Mathlib.Omega.{arith}
 use borrow.Author.Tests.{eq-eqb, le-leb}
 use Rattle.rules.specs.Sample.{sample_of}
@@ -11,7 +11,7 @@ use Rattle.rules.specs.Node.{Node, mirror, quiet, span, top_level, chunk}
 use Rattle.rules.specs.Walk.{Walked, Way, Course, ahead, behind, walk_from, all_levels}
 use Rattle.rules.proofs.Walk.{counted, best_top, walk_past, walk_ended}
 use Rattle.node.specs.Memory.{node_in, reader_of}
-use Rattle.node.proofs.Memory.{reads_sample, reads_node}
+use Rattle.node.proofs.NodeMemory.{reads_sample, reads_node}
 use Rattle.find.specs.Run.{node_at}
 use Rattle.find.specs.Way.{moved}
 use Rattle.find.proofs.Going.{told}
@@ -29,7 +29,7 @@ record Whole (w : Way) (p : ℕ) : Type 0 where
   pub ends : w.left (w.past top_level p) ≡ 0
 
 -- which is passed in one step where it is quiet
-quiet_whole : (w : Way) (mask p v : ℕ) → Whole w p → quiet (w.node top_level p) v mask ≡ true → told none 1 ≡ walk_from w mask p v
+quiet_whole : (w : Way) (mask p v : ℕ) → Whole w p → quiet (w.node top_level p) v mask ≡ true → told None 1 ≡ walk_from w mask p v
 quiet_whole w mask p v h q =
     sym
     (walk_past w mask (w.left p + top_level) p top_level v top_level (w.node top_level p) h.some_left (sym (best_top (λ (l : ℕ). w.takes l p) top_level h.fits)) refl q
@@ -63,8 +63,8 @@ module _ (reader : ℕ → ℕ → Node) (len mask : ℕ) where
   whole_at false b h = record { some_left = omega arith; fits = ap₂ ◌&&◌ (eq-eqb (b * chunk % span top_level) 0 (omega arith)) (le-leb (b * chunk + span top_level) _ (omega arith)); ends = omega arith }
 
   border_past : {whole : Walked} (back : Bool) (count m b : ℕ) → AtBorder whole back count (suc m) b → 1 ≤ wholes_from back len b → quiet_at back b ≡ true → AtBorder whole back (count + 1) m (moved back b 1)
-  border_past true count m b g h q = coursing_on g m refl (told none 1) (quiet_whole _ mask (b * chunk) _ (whole_at true b h) q) refl
-  border_past false count m b g h q = coursing_on g m refl (told none 1) (quiet_whole _ mask (b * chunk) _ (whole_at false b h) q) refl
+  border_past true count m b g h q = coursing_on g m refl (told None 1) (quiet_whole _ mask (b * chunk) _ (whole_at true b h) q) refl
+  border_past false count m b g h q = coursing_on g m refl (told None 1) (quiet_whole _ mask (b * chunk) _ (whole_at false b h) q) refl
 
   same_border : {whole : Walked} (back : Bool) {count count' n n' b b' : ℕ} → AtBorder whole back count n b → count ≡ count' → n ≡ n' → b ≡ b' → AtBorder whole back count' n' b'
   same_border {whole} back {count} {count'} {n} {n'} {b} g ec en eb = subst (AtBorder whole back count' n') eb (subst₂ (λ (x y : ℕ). AtBorder whole back x y b) ec en g)

@@ -1,7 +1,7 @@
 -- What block 0 says, written as numbers, reads back, whatever stood there before.
 use mathlib.Core.Path.{◌≡◌, refl, sym, ap, subst⁻¹}
 use mathlib.Core.List.{List, [], ◌∷◌}
-use mathlib.Core.Option.{Option, none, some}
+use Rattle.std.specs.Prelude.{Option, None, Some}
 use Prim.Native.Nat.{ℕ}
 use lib.ListN.{length, get_or}
 use lib.Seq.{sets}
@@ -20,8 +20,8 @@ pub mark_written : (h : Heading) (m : Mark) (old : List ℕ) → h.trigger ≡ m
 mark_written h m old e = sym (ap (λ (x : Mark). sets old 0 (h.unitsize ∷ h.len ∷ mark_numbers (mark_of x))) e)
 
 mark_back : (unit len a b c d : ℕ) (m : Option ℕ) → said_in (said_numbers (record { unit = unit; mark = m; len = len }) (a ∷ b ∷ c ∷ d ∷ [])) ≡ record { unit = unit; mark = m; len = len }
-mark_back unit len a b c d none = refl
-mark_back unit len a b c d (some k) = refl
+mark_back unit len a b c d None = refl
+mark_back unit len a b c d (Some k) = refl
 
 pub said_back : (old : List ℕ) → length old ≡ 4 → (h : rule.Heading) → said_in (said_numbers h old) ≡ h
 unfolding list_from

@@ -2,7 +2,7 @@
 use mathlib.Core.Path.{◌≡◌, refl, sym, ap, ap₂, ◌∙◌}
 use mathlib.Core.Bool.{Bool, true, false, cond, not}
 use mathlib.Core.List.{List, [], ◌∷◌, ◌++◌, append-nil}
-use mathlib.Core.Option.{Option, none, some}
+use Rattle.std.specs.Prelude.{Option, None, Some}
 use Prim.Native.Nat.{ℕ, suc, ◌+◌, ◌-◌, ◌*◌, ◌^◌, ◌≤◌, ◌<◌}
 use native.Mathlib.Nat.{mul-le-mul, pow-succ', pow-le-pow_right}
 use native.Mathlib.Omega.{arith}
@@ -89,29 +89,29 @@ number_at file a = little_same 8 (field a (a + 8) file) file 0 a (λ i h. stands
     eight : a + 8 - a ≡ 8
     eight = omega arith
 
-    none : (i : ℕ) → 0 + i ≡ i
-    none i = omega arith
+    None : (i : ℕ) → 0 + i ≡ i
+    None i = omega arith
 
     stands : (i : ℕ) → i < 8 → get_or (field a (a + 8) file) (0 + i) 0 ≡ get_or file (a + i) 0
-    stands i h = ap₂ (λ (n k : ℕ). get_or (take n (drop a file)) k 0) eight (none i) ∙ get_or-take 8 (drop a file) i 0 h ∙ get_or-drop a file i 0
+    stands i h = ap₂ (λ (n k : ℕ). get_or (take n (drop a file)) k 0) eight (None i) ∙ get_or-take 8 (drop a file) i 0 h ∙ get_or-drop a file i 0
 
 -- ---- what block 0 says
 -- a mark by its two numbers
-pub mark_read : (flag place : ℕ) → mark_of (mark_in flag place) ≡ cond (eqb flag 0) none (some place)
+pub mark_read : (flag place : ℕ) → mark_of (mark_in flag place) ≡ cond (eqb flag 0) None (Some place)
 mark_read flag place = go (eqb flag 0)
   where
-    go : (b : Bool) → mark_of (cond b Absent (At place)) ≡ cond b none (some place)
+    go : (b : Bool) → mark_of (cond b Absent (At place)) ≡ cond b None (Some place)
     go true = refl
     go false = refl
 
 pub said : (file : List ℕ) (unit len flag place : ℕ) (mark : Option ℕ)
-    → unit ≡ get_or file payload_at 0 → len ≡ little 8 file 14 → flag ≡ flag_in file → place ≡ little 8 file 22 → mark ≡ cond (eqb flag 0) none (some place)
+    → unit ≡ get_or file payload_at 0 → len ≡ little 8 file 14 → flag ≡ flag_in file → place ≡ little 8 file 22 → mark ≡ cond (eqb flag 0) None (Some place)
     → ◌≡◌ {A = Heading} (record { unit = unit; mark = mark; len = len }) (heading_in file)
 unfolding heading_in
 said file unit len flag place mark e₁ e₂ e₃ e₄ e₅ = λ i. record { unit = e₁ i; mark = marks i; len = e₂ i }
   where
-    marks : mark ≡ cond (eqb (flag_in file) 0) none (some (little 8 file 22))
-    marks = e₅ ∙ ap₂ (λ (f p : ℕ). cond (eqb f 0) none (some p)) e₃ e₄
+    marks : mark ≡ cond (eqb (flag_in file) 0) None (Some (little 8 file 22))
+    marks = e₅ ∙ ap₂ (λ (f p : ℕ). cond (eqb f 0) None (Some p)) e₃ e₄
 
 -- ---- tested
 module _ (file : List ℕ) where

@@ -3,7 +3,6 @@ use Rattle.std.specs.Prelude.{◌≡◌, ℕ, ◌*◌, ◌^◌, ◌<◌}
 use Rattle.rules.specs.Answer.{Answer, refused, given}
 use Rattle.rules.specs.Block.{block_size}
 use Rattle.rules.specs.Shelf as rule
-use Rattle.capture.specs.Record.{mark_of}
 use Rattle.shelf_head.specs.declared.Heading.{Heading}
 use Rattle.shelf_head.specs.declared.FileLength.{FileLength}
 use Rattle.shelf_head.specs.declared.FileLength.TheVariants as file_length
@@ -11,7 +10,7 @@ use Rattle.shelf_head.specs.declared.Says.{Says}
 use Rattle.shelf_head.specs.declared.Says.TheVariants as says
 
 abbrev pub heading_as : Heading → rule.Heading
-heading_as h = record { unit = h.unitsize; mark = mark_of h.trigger; len = h.len }
+heading_as h = record { unit = h.unitsize; mark = h.trigger; len = h.len }
 
 abbrev pub length_of : FileLength → Answer ℕ
 length_of (file_length.Refused n) = refused n

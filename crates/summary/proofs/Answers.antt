@@ -2,7 +2,7 @@
 use Prim.Native.Nat.{ℕ}
 use mathlib.Core.Path.{◌≡◌, ap, ◌∙◌}
 use mathlib.Core.List.{List}
-use mathlib.Core.Option.{Option}
+use Rattle.std.specs.Prelude.{Option}
 use contract.Lifetimes.{Lfts}
 use denote.Ref.{Bor}
 use Rattle.rules.specs.Sample.{sample_of}

@@ -4,7 +4,7 @@ use mathlib.Core.Path.{◌≡◌, refl, sym, ap, ap₂, ◌∙◌, subst}
 use mathlib.Core.Bool.{Bool, true, false, cond}
 use mathlib.Core.List.{List}
 use mathlib.Core.Logic.{◌⊎◌, inl, inr}
-use mathlib.Core.Option.{none, some}
+use Rattle.std.specs.Prelude.{None, Some}
 use native.Mathlib.Nat.{mul-le-mul_right, le-div_iff_mul-le, lt_of_mul-lt-mul_right, lt-div-mul-add, div-add-mod', mul-div_cancel, div-le_self}
 use native.Mathlib.Decide.{dec_lt}
 use native.Mathlib.Omega.{arith}
@@ -183,10 +183,10 @@ module _ (levels : ℕ → List ℕ) (s : ℕ → ℕ) (len : ℕ) (right : Righ
   summary_is a b = go (dec_lt a (min b len))
     where
       go : Dec (a < min b len) → summary_of levels s len a b ≡ summary s len a b
-      go (yes h) = ap (λ (n : Node). cond (ltb a (min b len)) (some n) none) (summed_right a (min b len) h (omega arith))
+      go (yes h) = ap (λ (n : Node). cond (ltb a (min b len)) (Some n) None) (summed_right a (min b len) h (omega arith))
       go (no h) =
-          ap (λ (t : Bool). cond t (some (summed levels s a (min b len))) none) (le-ltb a (min b len) (omega arith))
-          ∙ sym (ap (λ (t : Bool). cond t (some (node_of s a (min b len))) none) (le-ltb a (min b len) (omega arith)))
+          ap (λ (t : Bool). cond t (Some (summed levels s a (min b len))) None) (le-ltb a (min b len) (omega arith))
+          ∙ sym (ap (λ (t : Bool). cond t (Some (node_of s a (min b len))) None) (le-ltb a (min b len) (omega arith)))
 
 -- ---- room
 -- a node that covers stored samples lies in its level

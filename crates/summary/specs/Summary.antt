@@ -1,6 +1,6 @@
 -- The node of a range as the code takes it, over any levels and samples: chunk by chunk, in each by runs of the highest level that fits.
 use Rattle.std.specs.Prelude.{◌≡◌, Bool, cond, List, ℕ, zero, suc, ◌+◌, ◌-◌, ◌*◌, ◌/◌, ◌≤◌, ◌<◌, min, ltb, leb, length}
-use Rattle.std.proofs.Math.Option.{Option, none, some}
+use Rattle.std.specs.Prelude.{Option, None, Some}
 use Rattle.rules.specs.Sample.{UnitSize}
 use Rattle.rules.specs.Node.{Node, node_of, span, chunk, top_level}
 use Rattle.rules.specs.Walk.{best}
@@ -61,12 +61,12 @@ module _ (levels : ℕ → List ℕ) (s : ℕ → ℕ) where
 
   -- "the node of [a, min(b,len)), or none if empty"
   abbrev pub summary_of : ℕ → ℕ → ℕ → Option Node
-  summary_of len a b = cond (ltb a (min b len)) (some (summed a (min b len))) none
+  summary_of len a b = cond (ltb a (min b len)) (Some (summed a (min b len))) None
 
 abbrev pub summed_of : Summed → Answer (Option Node)
 summed_of (summed-as.Refused n) = refused n
-summed_of (summed-as.Node n) = given (some (as_node n))
-summed_of summed-as.Nothing = given none
+summed_of (summed-as.Node n) = given (Some (as_node n))
+summed_of summed-as.Nothing = given None
 
 -- ---- memory
 -- the samples of [base, b) lie in the part, and nodes that start before b in the levels

@@ -1,6 +1,6 @@
 -- The code's terms and masks as 01's, and what a list of terms comes to, term by term.
 use Rattle.std.specs.Prelude.{true, false, cond, ◌||◌, List, [], ◌∷◌, ℕ, ◌^◌, ltb}
-use Rattle.std.proofs.Math.Option.{Option, none, some}
+use Rattle.std.specs.Prelude.{Option, None, Some}
 use Rattle.std.specs.Int.Bits.{bit_or}
 use Rattle.rules.specs.Refusal.{top_line}
 use Rattle.rules.specs.Trigger as rule
@@ -26,8 +26,8 @@ abbrev pub as_masks : Masks → rule.Masks
 as_masks m = record { high = m.high; low = m.low; rising = m.rising; falling = m.falling; edge = m.edge }
 
 abbrev pub previous_of : Previous → Option ℕ
-previous_of Nothing = none
-previous_of (Sample v) = some v
+previous_of Nothing = None
+previous_of (Sample v) = Some v
 
 -- ---- term by term
 abbrev pub no_terms : declared.Terms

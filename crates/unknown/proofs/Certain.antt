@@ -1,7 +1,7 @@
 -- Over stretches in order, crossing them one by one leaves the first change on the way that none of them touches.
 use mathlib.Core.Path.{◌≡◌, subst}
 use mathlib.Core.Bool.{Bool, true, false}
-use mathlib.Core.Option.{Option, none, some}
+use Rattle.std.specs.Prelude.{Option, None, Some}
 use Prim.Native.Nat.{ℕ, zero, suc, ◌+◌, ◌≤◌, ◌<◌}
 use native.Mathlib.Decide.{dec_lt, ℕ_discrete}
 use native.Mathlib.Omega.{arith}
@@ -111,8 +111,8 @@ module _ (back : Bool) (P : ℕ → Type 0) (len : ℕ) (search : ℕ → Option
 
   step : (k : ℕ) → k < n → (f : Option ℕ) → Nearest back (Left P stretch k) len from f → Nearest back (Left P stretch (suc k)) len from (crossing search back (stretch k).first (end_of (stretch k)) f)
   unfolding Nearest
-  step k l none h = λ i a p. h i a (p.0, fewer k i p.1)
-  step k l (some i) h = go (touch? (stretch k) i)
+  step k l None h = λ i a p. h i a (p.0, fewer k i p.1)
+  step k l (Some i) h = go (touch? (stretch k) i)
     where
       s : Stretch
       s = stretch k
@@ -125,16 +125,16 @@ module _ (back : Bool) (P : ℕ → Type 0) (len : ℕ) (search : ℕ → Option
       left_behind t j a p = goes_behind back len from s i j t (λ x. h.2 j a x (p.0, fewer k j p.1)) (p.1 k (omega arith)) a
 
       found : Touch s i → (g : Option ℕ) → Nearest back P len b g → Nearest back (Left P stretch (suc k)) len from g
-      found t none m = λ j a p. m j (left_behind t j a p) p.0
-      found t (some j) m =
+      found t None m = λ j a p. m j (left_behind t j a p) p.0
+      found t (Some j) m =
           let w = lies_behind back len from s i j t h.0 m.0 in
           (w.asked, (m.1, more k j (λ r y. w.others (stretch r) (rises r k y l)) w.free), λ x a y p. m.2 x (left_behind t x a p) y p.0)
 
-      go : Dec (Touch s i) → Nearest back (Left P stretch (suc k)) len from (crossing search back s.first (end_of s) (some i))
+      go : Dec (Touch s i) → Nearest back (Left P stretch (suc k)) len from (crossing search back s.first (end_of s) (Some i))
       go (yes t) = subst (Nearest back (Left P stretch (suc k)) len from) (goes_on search back s.first (end_of s) i t.least t.most) (found t (search b) (is b))
       go (no t) = subst (Nearest back (Left P stretch (suc k)) len from) (stays (dec_lt i s.first)) (h.0, (h.1.0, more k i h.1.1 t), λ j a x p. h.2 j a x (p.0, fewer k j p.1))
         where
-          stays : Dec (i < s.first) → some i ≡ crossing search back s.first (end_of s) (some i)
+          stays : Dec (i < s.first) → Some i ≡ crossing search back s.first (end_of s) (Some i)
           stays (yes x) = stays_before search back s.first (end_of s) i x
           stays (no x) = stays_behind search back s.first (end_of s) i (omega (arith, x)) (past (dec_lt (end_of s) i))
             where

@@ -2,7 +2,7 @@
 use mathlib.Core.Path.{◌≡◌, refl, sym, ◌∙◌, subst}
 use mathlib.Core.Bool.{Bool, true, false, cond, false≢true}
 use mathlib.Core.Logic.{◌⊎◌, inl, inr}
-use mathlib.Core.Option.{Option, none, some}
+use Rattle.std.specs.Prelude.{Option, None, Some}
 use Prim.Native.Nat.{ℕ, zero, suc, ◌≤◌, ◌<◌, min, max}
 use native.Mathlib.Nat.{le_refl}
 use native.Mathlib.Decide.{dec_lt, ℕ_discrete}
@@ -23,7 +23,7 @@ pub record Entry (back : Bool) (len from p : ℕ) : Type 0 where
 
 -- ---- one stretch
 module _ (len from p : ℕ) (s : Stretch) (some_places : 0 < s.count) (inside : end_of s ≤ len) where
-  meets_behind : Entry true len from p → (b : Bool) → leb s.first (min (end_of s) p) ≡ b → Nearest true (Touch s) len from (cond b (some (min (end_of s) p)) none)
+  meets_behind : Entry true len from p → (b : Bool) → leb s.first (min (end_of s) p) ≡ b → Nearest true (Touch s) len from (cond b (Some (min (end_of s) p)) None)
   unfolding Nearest
   meets_behind e true t = (
     (omega (arith, some_places, e.asked.0), omega (arith, e.asked.1), omega (arith, e.asked.2)),
@@ -41,7 +41,7 @@ module _ (len from p : ℕ) (s : Stretch) (some_places : 0 < s.count) (inside : 
       late j a y (no z) (yes w) = omega (arith, y.least, y.most, z, w)
       late j a y (no z) (no w) = false≢true (sym t ∙ le-leb s.first (min (end_of s) p) (omega (arith, w)))
 
-  meets_ahead : Entry false len from p → (b : Bool) → leb (max s.first p) (end_of s) ≡ b → Nearest false (Touch s) len from (cond b (some (max s.first p)) none)
+  meets_ahead : Entry false len from p → (b : Bool) → leb (max s.first p) (end_of s) ≡ b → Nearest false (Touch s) len from (cond b (Some (max s.first p)) None)
   unfolding Nearest
   meets_ahead e true t = (
     (omega (arith, e.asked.0), omega (arith, some_places, inside, e.asked.1)),
@@ -88,17 +88,17 @@ module _ (back : Bool) (len from p : ℕ) (e : Entry back len from p) (stretch :
 
   step : (k : ℕ) → k < n → (a b : Option ℕ) → Nearest back (Touched stretch k) len from a → Nearest back (Touch (stretch k)) len from b → Nearest back (Touched stretch (suc k)) len from (or_found a b)
   unfolding Nearest
-  step k l (some i) b h m = (h.0, widen h.1, λ j a x t. go j a x (split t))
+  step k l (Some i) b h m = (h.0, widen h.1, λ j a x t. go j a x (split t))
     where
       go : (j : ℕ) → Asked back len from j → Sooner back j i → Touched stretch k j ⊎ Touch (stretch k) j → ⊥
       go j a x (inl t) = h.2 j a x t
       go j a x (inr t) = later back (stretch h.1.number) (stretch k) i j (rises h.1.number k h.1.below l) h.1.touch t x
-  step k l none none h m = λ j a t. go j a (split t)
+  step k l None None h m = λ j a t. go j a (split t)
     where
       go : (j : ℕ) → Asked back len from j → Touched stretch k j ⊎ Touch (stretch k) j → ⊥
       go j a (inl t) = h j a t
       go j a (inr t) = m j a t
-  step k l none (some c) h m = (m.0, last m.1, λ j a x t. go j a x (split t))
+  step k l None (Some c) h m = (m.0, last m.1, λ j a x t. go j a x (split t))
     where
       go : (j : ℕ) → Asked back len from j → Sooner back j c → Touched stretch k j ⊎ Touch (stretch k) j → ⊥
       go j a x (inl t) = h j a t
@@ -121,16 +121,16 @@ module _ (back : Bool) (P T : ℕ → Type 0) (len from p : ℕ) (e : Entry back
   neither f g (inr x) = g x
 
   -- with a stretch met at c, of those that are touched the first
-  with_met : (b : Bool) (c : ℕ) → Nearest b T len from (some c) → (f : Option ℕ) → Nearest b P (cut_at b len c) from f → Nearest b (λ i. P i ⊎ T i) len from (earlier b f c)
+  with_met : (b : Bool) (c : ℕ) → Nearest b T len from (Some c) → (f : Option ℕ) → Nearest b P (cut_at b len c) from f → Nearest b (λ i. P i ⊎ T i) len from (earlier b f c)
   unfolding Nearest
-  with_met true c m none s = (m.0, inr m.1, λ j a x. neither (s j a) (m.2 j a x))
-  with_met true c m (some j) s = go (dec_lt c j)
+  with_met true c m None s = (m.0, inr m.1, λ j a x. neither (s j a) (m.2 j a x))
+  with_met true c m (Some j) s = go (dec_lt c j)
     where
-      go : Dec (c < j) → Nearest true (λ i. P i ⊎ T i) len from (some (max j c))
-      go (yes l) = subst (λ (x : ℕ). Nearest true (λ i. P i ⊎ T i) len from (some x)) (omega (arith, l)) (s.0, inl s.1, λ k a x. neither (s.2 k a x) (m.2 k a (omega (arith, l, x))))
-      go (no l) = subst (λ (x : ℕ). Nearest true (λ i. P i ⊎ T i) len from (some x)) (omega (arith, l)) (m.0, inr m.1, λ k a x. neither (s.2 k a (omega (arith, l, x))) (m.2 k a x))
-  with_met false c m none s = (m.0, inr m.1, λ j a x. neither (s j (a.0, x)) (m.2 j a x))
-  with_met false c m (some j) s = (
+      go : Dec (c < j) → Nearest true (λ i. P i ⊎ T i) len from (Some (max j c))
+      go (yes l) = subst (λ (x : ℕ). Nearest true (λ i. P i ⊎ T i) len from (Some x)) (omega (arith, l)) (s.0, inl s.1, λ k a x. neither (s.2 k a x) (m.2 k a (omega (arith, l, x))))
+      go (no l) = subst (λ (x : ℕ). Nearest true (λ i. P i ⊎ T i) len from (Some x)) (omega (arith, l)) (m.0, inr m.1, λ k a x. neither (s.2 k a (omega (arith, l, x))) (m.2 k a x))
+  with_met false c m None s = (m.0, inr m.1, λ j a x. neither (s j (a.0, x)) (m.2 j a x))
+  with_met false c m (Some j) s = (
     (s.0.0, omega (arith, s.0.1, m.0.1)),
     inl s.1,
     λ k a x. neither (s.2 k (a.0, omega (arith, x, s.0.1)) x) (m.2 k a (omega (arith, x, s.0.1))),
@@ -138,17 +138,17 @@ module _ (back : Bool) (P T : ℕ → Type 0) (len from p : ℕ) (e : Entry back
 
   pub besides_nearest : (a : Option ℕ) → Nearest back T len from a → ((hi : ℕ) → hi ≤ len → Nearest back P hi from (search hi from)) → Nearest back Either len from (besides back search len from p a)
   unfolding Nearest
-  besides_nearest none m s = nearest_as back P Either len from (λ i a x. inl x) (λ i a x. only i a x) (search len from) (s len (le_refl len))
+  besides_nearest None m s = nearest_as back P Either len from (λ i a x. inl x) (λ i a x. only i a x) (search len from) (s len (le_refl len))
     where
       only : (i : ℕ) → Asked back len from i → Either i → P i
       only i a (inl x) = x
       only i a (inr x) = absurd (m i a x)
-  besides_nearest (some c) m s = go (eqb c p) refl
+  besides_nearest (Some c) m s = go (eqb c p) refl
     where
       cut : (b : Bool) → Asked b len from c → cut_at b len c ≤ len
       cut true a = le_refl len
       cut false a = omega (arith, a.1)
 
-      go : (t : Bool) → eqb c p ≡ t → Nearest back Either len from (cond t (some c) (earlier back (search (cut_at back len c) from) c))
+      go : (t : Bool) → eqb c p ≡ t → Nearest back Either len from (cond t (Some c) (earlier back (search (cut_at back len c) from) c))
       go true q = (m.0, inr m.1, λ j a x y. e.first j a (subst (Sooner back j) (eqb-true c p q) x))
       go false q = with_met back c m (search (cut_at back len c) from) (s (cut_at back len c) (cut back m.0))

@@ -4,7 +4,7 @@ use mathlib.Core.Path.{◌≡◌, refl, sym, ap, ◌∙◌, subst}
 use mathlib.Core.Bool.{Bool, true, false, cond, not, ◌&&◌, ◌||◌, false≢true}
 use mathlib.Core.List.{List, [], ◌∷◌}
 use mathlib.Core.Logic.{◌⊎◌, inl, inr}
-use mathlib.Core.Option.{Option, none, some}
+use Rattle.std.specs.Prelude.{Option, None, Some}
 use Prim.Native.Nat.{ℕ, zero, suc, ◌+◌, ◌-◌, ◌^◌, ◌≤◌, ◌<◌}
 use native.Mathlib.Nat.{le_refl, div-add-mod'}
 use native.Mathlib.Decide.{dec_lt}
@@ -27,7 +27,7 @@ use Rattle.rules.proofs.Listed.{Lies, each_lies, each_rises, HeldBy, covered_by,
 use Rattle.rules.proofs.Nearest.{Holds, asked_least, asked_most, nearest_as, search_nearest, is_search}
 use Rattle.rules.proofs.Unknown.{list_passes, none_unknown, itself, line_there}
 use Rattle.node.specs.Memory.{reader_of, Right}
-use Rattle.node.proofs.Memory.{right_true}
+use Rattle.node.proofs.NodeMemory.{right_true}
 use Rattle.capture.specs.declared.Capture.{Capture}
 use Rattle.capture.specs.Record.{store_of, lent_of}
 use Rattle.unknown.specs.Crossing.{walked, nth_number, stretch_count, nth_stretch, certain_in}
@@ -41,20 +41,20 @@ use Rattle.unknown.proofs.Possible.{Entry, met_nearest, besides_nearest}
 
 -- ---- the first place that is asked, or none is
 abbrev Enters : Bool → ℕ → ℕ → Option ℕ → Type 0
-Enters back len from none = (j : ℕ) → Asked back len from j → ⊥
-Enters back len from (some p) = Entry back len from p
+Enters back len from None = (j : ℕ) → Asked back len from j → ⊥
+Enters back len from (Some p) = Entry back len from p
 
 entry_enters : (back : Bool) (len from : ℕ) → Enters back len from (entry back len from)
 entry_enters true len from = go (eqb (start_back len from) 0) refl
   where
-    go : (b : Bool) → eqb (start_back len from) 0 ≡ b → Enters true len from (cond b none (some (start_back len from)))
+    go : (b : Bool) → eqb (start_back len from) 0 ≡ b → Enters true len from (cond b None (Some (start_back len from)))
     go true e = λ j a. omega (arith, eqb-true (start_back len from) 0 e, a.0, a.1, a.2)
     go false e =
         let z = eqb-false (start_back len from) 0 e in
         record { asked = (omega (arith, z), omega arith, omega (arith, z)); first = λ j a x. omega (arith, x, a.1, a.2) }
 entry_enters false len from = go (ltb (from + 1) len) refl
   where
-    go : (b : Bool) → ltb (from + 1) len ≡ b → Enters false len from (cond b (some (from + 1)) none)
+    go : (b : Bool) → ltb (from + 1) len ≡ b → Enters false len from (cond b (Some (from + 1)) None)
     go true e = record { asked = (omega arith, ltb-true (from + 1) len e); first = λ j a x. omega (arith, x, a.0) }
     go false e = λ j a. omega (arith, ltb-false (from + 1) len e, a.0, a.1)
 
@@ -177,8 +177,8 @@ module _ (len : ℕ) (list : List ℕ) (w : list_wrong len list ≡ false) (back
         of i l false q x = inl x
 
         searched_right : (a : Option ℕ) → Enters back len from a → Nearest back (λ i. Holds (changed s mask) i ⊎ Touched stretch n i) len from (from_entry back (walked back reader mask) len list from a)
-        searched_right none e = λ j a x. e j a
-        searched_right (some p) e =
+        searched_right None e = λ j a x. e j a
+        searched_right (Some p) e =
             besides_nearest back (Holds (changed s mask)) (Touched stretch n) len from p e (walked back reader mask) (met back p stretch n)
             (met_nearest back len from p e stretch n (λ k h. (lies k h).some_places) (λ k h. (lies k h).inside) rises n (le_refl n)) (λ hi h. walked_nearest hi h from)
 
@@ -186,14 +186,14 @@ module _ (len : ℕ) (list : List ℕ) (w : list_wrong len list ≡ false) (back
         nobody e i l m true q x = false≢true x
         nobody e i l m false q x = false≢true (sym e ∙ line_there unit len r (λ j. false) s words mask i l m (itself unit len r (λ j. false) s words) x)
 
-        go : (h : Bool) → has_line unit mask ≡ h → cond h (from_entry back (walked back reader mask) len list from (entry back len from)) none ≡ search_at back (test h) len from
+        go : (h : Bool) → has_line unit mask ≡ h → cond h (from_entry back (walked back reader mask) len list from (entry back len from)) None ≡ search_at back (test h) len from
         go true e =
             is_search back (test true) len from (from_entry back (walked back reader mask) len list from (entry back len from))
             (nearest_as back (λ i. Holds (changed s mask) i ⊎ Touched stretch n i) (Holds (test true)) len from (λ i a x. to i (asked_least back len from i a) (beside i) refl x) (λ i a x. of i (asked_least back len from i a) (beside i) refl x)
             (from_entry back (walked back reader mask) len list from (entry back len from)) (searched_right (entry back len from) (entry_enters back len from)))
-        go false e = is_search back (test false) len from none (none_nearest (λ i a x. nobody e i (asked_least back len from i a) (asked_most back len from i a) (beside i) refl x))
+        go false e = is_search back (test false) len from None (none_nearest (λ i a x. nobody e i (asked_least back len from i a) (asked_most back len from i a) (beside i) refl x))
           where
-            none_nearest : ((i : ℕ) → Asked back len from i → Holds (test false) i → ⊥) → Nearest back (Holds (test false)) len from none
+            none_nearest : ((i : ℕ) → Asked back len from i → Holds (test false) i → ⊥) → Nearest back (Holds (test false)) len from None
             none_nearest h = h
 
     pub possible_right : (from : ℕ) → possible_in back unit reader len list mask from ≡ search_at back (possible_at unit (covers (pairs_in list)) s mask) len from

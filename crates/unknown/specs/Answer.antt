@@ -1,6 +1,6 @@
 -- What the four calls answer: 02's refusals, else the search over memory's own nodes.
 use Rattle.std.specs.Prelude.{Bool, List, ℕ}
-use Rattle.std.proofs.Math.Option.{Option, none, some}
+use Rattle.std.specs.Prelude.{Option, None, Some}
 use Rattle.rules.specs.Answer.{Answer, refused, given, unless}
 use Rattle.rules.specs.Unknown.{unknown_refusal}
 use Rattle.node.specs.Memory.{reader_of}
@@ -14,14 +14,14 @@ use Rattle.unknown.specs.Crossing.{certain_in}
 use Rattle.unknown.specs.Meeting.{possible_in}
 
 abbrev pub spot_of : Spot → Option ℕ
-spot_of (spot.At i) = some i
-spot_of spot.Nothing = none
+spot_of (spot.At i) = Some i
+spot_of spot.Nothing = None
 
 -- 02's number or place for each case
 abbrev pub located_of : Located → Answer (Option ℕ)
 located_of (located.Refused n) = refused n
-located_of (located.At i) = given (some i)
-located_of located.Nothing = given none
+located_of (located.At i) = given (Some i)
+located_of located.Nothing = given None
 
 unfoldable pub certain_of : Bool → Capture → List ℕ → (ℕ → List ℕ) → List ℕ → ℕ → ℕ → Answer (Option ℕ)
 certain_of back c samples levels list mask from =

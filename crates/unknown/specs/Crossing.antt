@@ -1,6 +1,6 @@
 -- A search for a certain change: 01's search, again behind each stretch that its find lies at.
 use Rattle.std.specs.Prelude.{Bool, true, false, cond, ◌&&◌, List, ℕ, zero, suc, ◌+◌, ◌-◌, ◌/◌, leb, length}
-use Rattle.std.proofs.Math.Option.{Option, none, some}
+use Rattle.std.specs.Prelude.{Option, None, Some}
 use Rattle.rules.specs.Node.{Node}
 use Rattle.rules.specs.Walk.{next_walk, previous_walk, all_levels}
 use Rattle.rules.specs.Stretches.{Stretch, stretch_at}
@@ -33,8 +33,8 @@ resume false first end = end
 
 -- what becomes of a find
 abbrev pub crossing : (ℕ → Option ℕ) → Bool → ℕ → ℕ → Option ℕ → Option ℕ
-crossing search back first end none = none
-crossing search back first end (some i) = cond (touches first end i) (search (resume back first end)) (some i)
+crossing search back first end None = None
+crossing search back first end (Some i) = cond (touches first end i) (search (resume back first end)) (Some i)
 
 -- k stretches, one after the other
 unfoldable pub crossed : (ℕ → Option ℕ) → Bool → (ℕ → Stretch) → ℕ → Option ℕ → Option ℕ

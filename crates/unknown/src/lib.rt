@@ -4,7 +4,7 @@
 #![tactic(auto)]
 
 ghost use Rattle.std.specs.Prelude.{◌≡◌, true, false, ◌+◌, ◌*◌, ◌≤◌, ◌<◌, max};
-ghost use Rattle.std.proofs.Math.Option.{some};
+ghost use Rattle.std.specs.Prelude.{Some};
 ghost use Rattle.rules.specs.Refusal.{most_samples};
 ghost use Rattle.rules.specs.Answer.{given};
 ghost use Rattle.rules.specs.Unknown.{list_wrong};
@@ -101,7 +101,7 @@ fn cross<'a>(
     i: usize,
 ) -> Spot
     requires { Stored unitsize len samples.now (level_of l1.now l2.now l3.now l4.now) }
-    ensures { spot_of result ≡ crossing (walked back (reader_of unitsize samples.now (level_of l1.now l2.now l3.now l4.now)) mask len) back first end (some i) }
+    ensures { spot_of result ≡ crossing (walked back (reader_of unitsize samples.now (level_of l1.now l2.now l3.now l4.now)) mask len) back first end (Some i) }
 {
     if i < first {
         return Spot::At(i);
@@ -265,7 +265,7 @@ fn possible_from<'a>(
     p: usize,
 ) -> Spot
     requires { Stored unitsize len samples.now (level_of l1.now l2.now l3.now l4.now) × (list_wrong len list.now ≡ false) }
-    ensures { spot_of result ≡ from_entry back (walked back (reader_of unitsize samples.now (level_of l1.now l2.now l3.now l4.now)) mask) len list.now from (some p) }
+    ensures { spot_of result ≡ from_entry back (walked back (reader_of unitsize samples.now (level_of l1.now l2.now l3.now l4.now)) mask) len list.now from (Some p) }
 {
     let stretch = met(list, len, back, p);
     let Spot::At(c) = stretch else {

@@ -3,7 +3,7 @@ use Prim.Native.Nat.{ℕ}
 use mathlib.Core.Path.{◌≡◌, refl, ap, ◌∙◌}
 use mathlib.Core.List.{List}
 use mathlib.Core.Logic.{◌↔◌}
-use mathlib.Core.Option.{Option, none}
+use Rattle.std.specs.Prelude.{Option, None}
 use native.Mathlib.Omega.{arith}
 use contract.Lifetimes.{Lfts}
 use denote.Ref.{Bor}
@@ -21,7 +21,7 @@ use Rattle.whole.proofs.Laws.{right_is}
 use Rattle.whole.proofs.whole.Reads as reads
 
 -- an answer is yes exactly when it finds no node
-yes_is : (r : Checked) (o : Option NodeAt) → checked_of r ≡ given o → (r ≡ Yes) ↔ (o ≡ none)
+yes_is : (r : Checked) (o : Option NodeAt) → checked_of r ≡ given o → (r ≡ Yes) ↔ (o ≡ None)
 yes_is (Refused n) o e = let z : ◌≡◌ {A = ℕ} 0 1 = cc in absurd (omega arith)
 yes_is Yes o e = (λ q. cc, λ q. refl)
 yes_is (Wrong l j) o e = (λ q. let z : ◌≡◌ {A = ℕ} 0 1 = cc in absurd (omega arith), λ q. let z : ◌≡◌ {A = ℕ} 0 1 = cc in absurd (omega arith))

@@ -4,7 +4,7 @@ use mathlib.Core.Path.{◌≡◌, refl, sym, ap, ap₂, ◌∙◌, subst}
 use mathlib.Core.Bool.{Bool, true, false, not, ◌&&◌}
 use mathlib.Core.List.{List}
 use mathlib.Core.Logic.{◌↔◌}
-use mathlib.Core.Option.{Option, none, some}
+use Rattle.std.specs.Prelude.{Option, None, Some}
 use native.Mathlib.Nat.{mul-le-mul_left, le-div_iff_mul-le, pow-suc}
 use native.Mathlib.Decide.{dec_lt}
 use native.Mathlib.Omega.{arith}
@@ -91,7 +91,7 @@ module _ (s : ℕ → ℕ) (len : ℕ) (levels : ℕ → List ℕ) where
     λ r j k. ap not ((same_is (node_in (levels l) j) (level_node s len l j)).1 (r j ((covering len l j).0 k))),
   )
 
-  seek_is : (l n : ℕ) → None l n ↔ (seek higher (wrong_at s len (held_in levels) l) 0 n ≡ none)
+  seek_is : (l n : ℕ) → None l n ↔ (seek higher (wrong_at s len (held_in levels) l) 0 n ≡ None)
   seek_is l n = (
     λ h. none_seek higher (wrong_at s len (held_in levels) l) 0 n (λ j k. h (times higher j 0) (omega (arith, times_up j 0))),
     λ e j k. ap (wrong_at s len (held_in levels) l) (sym (times_up j 0 ∙ omega arith)) ∙ seek_none higher (wrong_at s len (held_in levels) l) 0 n e j k,
@@ -116,7 +116,7 @@ module _ (s : ℕ → ℕ) (len : ℕ) (levels : ℕ → List ℕ) where
     low = omega arith;
     high = omega arith;
     below = λ k a b. go k a (dec_lt k l) b;
-    rest = c.rest ∙ ap (first_wrong s len (held_in levels) l) left ∙ level_found l (top_level + 1 - (l + 1)) none ((seek_is l (nodes_for len l)).0 n);
+    rest = c.rest ∙ ap (first_wrong s len (held_in levels) l) left ∙ level_found l (top_level + 1 - (l + 1)) None ((seek_is l (nodes_for len l)).0 n);
   }
     where
       left : top_level + 1 - l ≡ suc (top_level + 1 - (l + 1))
@@ -129,8 +129,8 @@ module _ (s : ℕ → ℕ) (len : ℕ) (levels : ℕ → List ℕ) where
           same : l ≡ k
           same = omega arith
 
-  pub checking_found : (l j : ℕ) → Checking l → l ≤ top_level → j < nodes_for len l → None l j → wrong_at s len (held_in levels) l j ≡ true → some (record { level = l; number = j }) ≡ whole_answer s len (held_in levels)
-  checking_found l j c h k n e = sym (c.rest ∙ ap (first_wrong s len (held_in levels) l) left ∙ level_found l (top_level + 1 - (l + 1)) (some j) found)
+  pub checking_found : (l j : ℕ) → Checking l → l ≤ top_level → j < nodes_for len l → None l j → wrong_at s len (held_in levels) l j ≡ true → Some (record { level = l; number = j }) ≡ whole_answer s len (held_in levels)
+  checking_found l j c h k n e = sym (c.rest ∙ ap (first_wrong s len (held_in levels) l) left ∙ level_found l (top_level + 1 - (l + 1)) (Some j) found)
     where
       left : top_level + 1 - l ≡ suc (top_level + 1 - (l + 1))
       left = omega arith
@@ -141,14 +141,14 @@ module _ (s : ℕ → ℕ) (len : ℕ) (levels : ℕ → List ℕ) where
       at : times higher j 0 ≡ j
       at = times_up j 0 ∙ omega arith
 
-      found : seek higher (wrong_at s len (held_in levels) l) 0 (nodes_for len l) ≡ some j
+      found : seek higher (wrong_at s len (held_in levels) l) 0 (nodes_for len l) ≡ Some j
       found =
           ap (seek higher (wrong_at s len (held_in levels) l) 0) parts
           ∙ seek_skip higher (wrong_at s len (held_in levels) l) 0 j (nodes_for len l - j) (λ i d. n (times higher i 0) (omega (arith, times_up i 0)))
           ∙ ap (λ (p : ℕ). seek higher (wrong_at s len (held_in levels) l) p (nodes_for len l - j)) at
           ∙ seek_here higher (wrong_at s len (held_in levels) l) j (nodes_for len l - j) e (omega arith)
 
-  pub checking_ends : (l : ℕ) → Checking l → top_level < l → none ≡ whole_answer s len (held_in levels)
+  pub checking_ends : (l : ℕ) → Checking l → top_level < l → None ≡ whole_answer s len (held_in levels)
   unfolding first_wrong
   checking_ends l c h = sym (c.rest ∙ ap (first_wrong s len (held_in levels) l) over)
     where
@@ -170,29 +170,29 @@ module _ (s : ℕ → ℕ) (len : ℕ) (levels : ℕ → List ℕ) where
   wrong_is l j t c h k e = e ∙ ap (λ (n : Node). not (same_node (node_in (levels l) j) n)) (made_right l j c h k)
 
   -- ---- no wrong node
-  none_after : (l n : ℕ) (o : Option ℕ) (rest : Option NodeAt) → or_above l o rest ≡ none → (o ≡ none) × (rest ≡ none)
-  none_after l n none rest e = (refl, e)
-  none_after l n (some j) rest e = let z : ◌≡◌ {A = ℕ} 0 1 = cc in absurd (omega arith)
+  none_after : (l n : ℕ) (o : Option ℕ) (rest : Option NodeAt) → or_above l o rest ≡ None → (o ≡ None) × (rest ≡ None)
+  none_after l n None rest e = (refl, e)
+  none_after l n (Some j) rest e = let z : ◌≡◌ {A = ℕ} 0 1 = cc in absurd (omega arith)
 
-  levels_right : (l n : ℕ) → first_wrong s len (held_in levels) l n ≡ none → (k : ℕ) → l ≤ k → k < l + n → RightAt s len levels k
+  levels_right : (l n : ℕ) → first_wrong s len (held_in levels) l n ≡ None → (k : ℕ) → l ≤ k → k < l + n → RightAt s len levels k
   unfolding first_wrong
   levels_right l zero e k a b = absurd (omega arith)
   levels_right l (suc n) e k a b = go (none_after l n _ _ e) (levels_right (l + 1) n) (dec_lt l k)
     where
-      go : (seek higher (wrong_at s len (held_in levels) l) 0 (nodes_for len l) ≡ none) × (first_wrong s len (held_in levels) (l + 1) n ≡ none)
-          → (first_wrong s len (held_in levels) (l + 1) n ≡ none → (k : ℕ) → l + 1 ≤ k → k < l + 1 + n → RightAt s len levels k) → Dec (l < k) → RightAt s len levels k
+      go : (seek higher (wrong_at s len (held_in levels) l) 0 (nodes_for len l) ≡ None) × (first_wrong s len (held_in levels) (l + 1) n ≡ None)
+          → (first_wrong s len (held_in levels) (l + 1) n ≡ None → (k : ℕ) → l + 1 ≤ k → k < l + 1 + n → RightAt s len levels k) → Dec (l < k) → RightAt s len levels k
       go t ih (yes d) = ih t.1 k (omega arith) (omega arith)
       go t ih (no d) = subst (RightAt s len levels) same ((none_right l).0 ((seek_is l (nodes_for len l)).1 t.0))
         where
           same : l ≡ k
           same = omega arith
 
-  right_levels : (l n : ℕ) → ((k : ℕ) → l ≤ k → k < l + n → RightAt s len levels k) → first_wrong s len (held_in levels) l n ≡ none
+  right_levels : (l n : ℕ) → ((k : ℕ) → l ≤ k → k < l + n → RightAt s len levels k) → first_wrong s len (held_in levels) l n ≡ None
   unfolding first_wrong
   right_levels l zero h = refl
   right_levels l (suc n) h = ap₂ (or_above l) ((seek_is l (nodes_for len l)).0 ((none_right l).1 (h l (omega arith) (omega arith)))) (right_levels (l + 1) n (λ k a b. h k (omega arith) (omega arith)))
 
-  pub right_is : (whole_answer s len (held_in levels) ≡ none) ↔ Right s len levels
+  pub right_is : (whole_answer s len (held_in levels) ≡ None) ↔ Right s len levels
   right_is = (λ e k a b. levels_right 1 top_level e k a (omega arith), λ r. right_levels 1 top_level (λ k a b. r k a (omega arith)))
 
 -- ---- room
@@ -203,7 +203,7 @@ module _ (st : Store) (samples : List ℕ) (levels : ℕ → List ℕ) (l j : �
   pub samples_room : (e : ℕ) → l ≡ 1 → e ≡ min (j * 32 + 32) st.len → RangeIn st.unit (j * 32) e (length samples)
   samples_room e z ee = record {
     unit_size = n.sound.unit_size;
-    some = omega (arith, covers);
+    Some = omega (arith, covers);
     room = stored st samples levels n.sound e (omega arith);
   }
     where

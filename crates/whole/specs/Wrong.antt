@@ -1,6 +1,6 @@
 -- The call's answer as 01's: none is yes, or the first wrong node. 01: Other calls.
 use Rattle.std.specs.Prelude.{List, ℕ}
-use Rattle.std.proofs.Math.Option.{Option, none, some}
+use Rattle.std.specs.Prelude.{Option, None, Some}
 use Rattle.rules.specs.Node.{Node}
 use Rattle.rules.specs.Answer.{Answer, refused, given}
 use Rattle.rules.specs.Wrong.{NodeAt}
@@ -14,5 +14,5 @@ held_in levels l j = node_in (levels l) j
 
 abbrev pub checked_of : Checked → Answer (Option NodeAt)
 checked_of (Refused n) = refused n
-checked_of Yes = given none
-checked_of (Wrong l j) = given (some (record { level = l; number = j }))
+checked_of Yes = given None
+checked_of (Wrong l j) = given (Some (record { level = l; number = j }))

@@ -1,7 +1,7 @@
 -- `burst::burst_at` meets its contract: a refusal, nothing to ask, no pair, or a pair that is grown. Assumes nothing.
 use Prim.Native.Nat.{ℕ, ◌+◌, ◌-◌, ◌≤◌, min}
 use mathlib.Core.Path.{◌≡◌, sym, ap, ◌∙◌}
-use mathlib.Core.Option.{Option, none, some}
+use Rattle.std.specs.Prelude.{Option, None, Some}
 use native.Mathlib.Omega.{arith}
 use borrow.Author.Rules.{rules}
 use Rattle.rules.specs.Answer.{given}
@@ -62,13 +62,13 @@ paired p side e =
 abbrev read_at : tie.After-end_of-start → ℕ
 read_at f = f.pair_of-pair.result.read + f.end_of-end.result.read + f.end_of-start.result.read
 
-grew : (f : tie.After-end_of-start) → let s = start_at f.before.before.before in counted (some (ends (places (back_at s)) (places (fore_at s)) (end_as f.end_of-end.result) (end_as f.end_of-start.result))) (read_at f) ≡ burst-at s
+grew : (f : tie.After-end_of-start) → let s = start_at f.before.before.before in counted (Some (ends (places (back_at s)) (places (fore_at s)) (end_as f.end_of-end.result) (end_as f.end_of-start.result))) (read_at f) ≡ burst-at s
 grew f =
     let p = f.before.before.before in
     let s = start_at p in
     let side : rule.Side = record { distance = f.in-Pair.field-0; first = f.in-Pair.first; last = f.in-Pair.last } in
     grown_some (back_at s) (fore_at s) s.args.max_gap s.args.budget side p.pair_of-pair.result.read f.end_of-end.result f.end_of-start.result f.end_of-end.ensures f.end_of-start.ensures
-    ∙ paired p (some side) (sym (ap side_as f.in-Pair.is))
+    ∙ paired p (Some side) (sym (ap side_as f.in-Pair.is))
 
 -- so that every sum of the counts fits
 read_few : (f : tie.After-end_of-start) → read_at f ≤ most_burst
@@ -92,13 +92,13 @@ returns-2 : tie.Need-returns-then-len-eq0
 returns-2 c =
     let k = c.before in
     let s = start_of k in
-    told k (counted none 0) (burst_empty (back_at s) (fore_at s) s.args.c.len s.args.sample s.args.max_gap s.args.tolerance s.args.budget c.if-len-eq0.true)
+    told k (counted None 0) (burst_empty (back_at s) (fore_at s) s.args.c.len s.args.sample s.args.max_gap s.args.tolerance s.args.budget c.if-len-eq0.true)
 
 returns-3 : tie.Need-returns-then-max_gap-lt2
 returns-3 c =
     let k = c.before.before in
     let s = start_of k in
-    told k (counted none 0) (burst_narrow (back_at s) (fore_at s) s.args.c.len s.args.sample s.args.max_gap s.args.tolerance s.args.budget c.if-len-eq0.false c.if-max_gap-lt2.true)
+    told k (counted None 0) (burst_narrow (back_at s) (fore_at s) s.args.c.len s.args.sample s.args.max_gap s.args.tolerance s.args.budget c.if-len-eq0.false c.if-max_gap-lt2.true)
 
 sub-lesser : tie.Need-overflow_sub-max_gap
 sub-lesser c = search rules
@@ -120,7 +120,7 @@ returns-4 c =
     let p = c.before in
     let s = start_at p in
     told p.before.before.before.before _
-    (grown_none (back_at s) (fore_at s) s.args.max_gap s.args.budget p.pair_of-pair.result.read ∙ paired p none (sym (ap side_as c.in_default.is)))
+    (grown_none (back_at s) (fore_at s) s.args.max_gap s.args.budget p.pair_of-pair.result.read ∙ paired p None (sym (ap side_as c.in_default.is)))
 
 end-of-requires : tie.Need-end_of-end-requires
 end-of-requires c κs = (stored c.before.before.before.before, c.if-max_gap-lt2.false)

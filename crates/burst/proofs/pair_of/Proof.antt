@@ -1,7 +1,7 @@
 -- `burst::pair_of` meets its contract: the changes at both sides, or the nearer side. Assumes nothing.
 use Prim.Native.Nat.{ℕ, ◌+◌, ◌*◌, ◌≤◌}
 use mathlib.Core.Path.{◌≡◌, sym, ap, ap₂, ◌∙◌}
-use mathlib.Core.Option.{Option, none}
+use Rattle.std.specs.Prelude.{Option, None}
 use native.Mathlib.Omega.{arith}
 use borrow.Author.Rules.{rules}
 use Rattle.rules.specs.Burst.{Side, nearer}
@@ -41,7 +41,7 @@ sided r =
     ap₂ (counted {A = Side})
     (ap₂ nearer (ap (λ (x : Counted Side). x.found) r.one_side-l.ensures) (ap (λ (x : Counted Side). x.found) r.one_side-r.ensures))
     (omega (arith, ap (λ (x : Counted Side). x.steps) r.one_side-l.ensures, ap (λ (x : Counted Side). x.steps) r.one_side-r.ensures))
-    ∙ paired r.before.before.before none (sym (ap side_as r.in_default.is))
+    ∙ paired r.before.before.before None (sym (ap side_as r.in_default.is))
 
 read_few : (r : tie.After-one_side-r) → read_at r ≤ 4 * most_search
 read_few r = omega (arith, ap (λ (x : Counted Side). x.steps) (sided r), few r.before.before.before.before.before.before.before.before.before.before.before.before.before)

@@ -1,6 +1,6 @@
 -- `scan::last_sample` meets its contract. Assumes nothing.
 use mathlib.Core.Path.{ap, ◌∙◌}
-use mathlib.Core.Option.{some}
+use Rattle.std.specs.Prelude.{Some}
 use native.Mathlib.Omega.{arith}
 use borrow.Author.Rules.{rules}
 use Rattle.rules.specs.Sample.{sample_of}
@@ -24,7 +24,7 @@ get-requires c κs = held _ _ _ _ c.requires (omega arith)
 returns-2 : tie.Need-returns
 returns-2 c =
     let a = c.args in
-    ap some c.get.ensures ∙ last_some (sample_of a.unitsize a.bytes.now) (previous_of a.prev) a.n (omega arith)
+    ap Some c.get.ensures ∙ last_some (sample_of a.unitsize a.bytes.now) (previous_of a.prev) a.n (omega arith)
 
 pub last_sample_spec : {M : Type 1} → statement M
 last_sample_spec = tie.close (tie.spec returns sub-get get-requires returns-2)

@@ -1,6 +1,6 @@
 -- `logic_core::lc_summary` says what `summary::summary` answers. Assumes nothing.
 use borrow.Author.Rules.{rules}
-use mathlib.Core.Option.{Option}
+use Rattle.std.specs.Prelude.{Option}
 use Rattle.rules.specs.Node.{Node}
 use Rattle.rules.specs.Answer.{Answer}
 use Rattle.node.specs.Memory.{level_of}

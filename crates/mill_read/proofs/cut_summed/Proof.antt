@@ -1,6 +1,6 @@
 -- `mill_read::cut_summed` meets its contract, case by case. Assumes nothing.
 use mathlib.Core.Path.{sym, ap, ◌∙◌}
-use mathlib.Core.Option.{Option, some}
+use Rattle.std.specs.Prelude.{Option, Some}
 use borrow.Author.Rules.{rules}
 use Rattle.rules.specs.Node.{Lines}
 use Rattle.rules.specs.Search.{cut_summary}
@@ -32,7 +32,7 @@ returns c = sym (ap (shown c.before) c.in-Refused.is)
 
 returns-2 : tie.Need-returns-in-Node
 unfolding shown
-returns-2 c = ap (λ (n : Lines). given (some n)) c.cut_node.ensures ∙ sym (ap (shown c.before.before) c.in-Node.is)
+returns-2 c = ap (λ (n : Lines). given (Some n)) c.cut_node.ensures ∙ sym (ap (shown c.before.before) c.in-Node.is)
 
 returns-3 : tie.Need-returns-in-Nothing
 unfolding shown

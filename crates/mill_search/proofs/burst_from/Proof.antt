@@ -1,6 +1,6 @@
 -- `mill_search::burst_from` meets its contract, case by case. Assumes nothing.
 use mathlib.Core.Path.{sym, ap, ◌∙◌}
-use mathlib.Core.Option.{some}
+use Rattle.std.specs.Prelude.{Some}
 use native.Mathlib.Omega.{arith}
 use borrow.Author.Rules.{rules}
 use Rattle.rules.specs.Answer.{Answer, given, seen}
@@ -48,7 +48,7 @@ returns-2 c =
     let small = s.requires.1 _ _ (ap burst_as b_is) in
     let first = counted_back s.args.from b.first s.requires.0 small.0 c.counted_from.result c.counted_from.ensures in
     let last = counted_back s.args.from b.last s.requires.0 small.1 c.counted_from-in-At.result c.counted_from-in-At.ensures in
-    (λ i. given (record { found = some (record { first = first i; last = last i; jumps_end = b.jumps_end; jumps_start = b.jumps_start }); steps = c.in-At.n })) ∙ sym (ap (shown s) b_is)
+    (λ i. given (record { found = Some (record { first = first i; last = last i; jumps_end = b.jumps_end; jumps_start = b.jumps_start }); steps = c.in-At.n })) ∙ sym (ap (shown s) b_is)
 
 returns-3 : tie.Need-returns-in-Nothing
 unfolding shown

@@ -1,6 +1,6 @@
 -- `mill_search::found_from` meets its contract, case by case. Assumes nothing.
 use mathlib.Core.Path.{sym, ap, ◌∙◌}
-use mathlib.Core.Option.{some}
+use Rattle.std.specs.Prelude.{Some}
 use lib.IntN.{ℤ}
 use native.Mathlib.Omega.{arith}
 use borrow.Author.Rules.{rules}
@@ -31,7 +31,7 @@ unfolding shown
 returns c =
     let s = c.before.before in
     let i-is = c.in-At.is in
-    ap (λ (z : ℤ). given (record { found = some z; steps = c.in-At.n })) (counted_back s.args.from c.in-At.i s.requires.0 (s.requires.1 _ _ (ap (λ (p : Place). given (place_of p)) i-is)) c.counted_from.result c.counted_from.ensures) ∙ sym (ap (shown s) i-is)
+    ap (λ (z : ℤ). given (record { found = Some z; steps = c.in-At.n })) (counted_back s.args.from c.in-At.i s.requires.0 (s.requires.1 _ _ (ap (λ (p : Place). given (place_of p)) i-is)) c.counted_from.result c.counted_from.ensures) ∙ sym (ap (shown s) i-is)
 
 returns-2 : tie.Need-returns-in-Nothing
 unfolding shown

@@ -1,7 +1,7 @@
 -- `pixel::cover` meets its contract. Assumes nothing.
 use mathlib.Core.Path.{◌≡◌, refl, sym, ap, ◌∙◌}
 use mathlib.Core.Bool.{Bool, cond}
-use mathlib.Core.Option.{Option, none}
+use Rattle.std.specs.Prelude.{Option, None}
 use Prim.Native.Nat.{ℕ}
 use borrow.Author.Rules.{rules}
 use borrow.Author.Tests.{eq-eqb, ne_eqb}
@@ -14,7 +14,7 @@ use Rattle.pixel.proofs.cover.Tie as tie
 returns : tie.Need-returns-then-len-eq0
 returns c =
     let s = c.args in
-    sym (ap (λ (t : Bool). cond {A = Option Range} t none (ended_by s.a s.b s.len)) (eq-eqb s.len 0 c.if-len-eq0.true))
+    sym (ap (λ (t : Bool). cond {A = Option Range} t None (ended_by s.a s.b s.len)) (eq-eqb s.len 0 c.if-len-eq0.true))
 
 enum_told : tie.Need-enum_told-1
 enum_told c = search rules
@@ -33,7 +33,7 @@ spanned-requires-2 c κs = search rules
 
 -- with len above 0, b's place decides
 ended : (a b : Place) (len : ℕ) {p : Place} {r : Option Range} → (len ≡ 0 → ⊥) → b ≡ p → r ≡ ended_by a p len → r ≡ cover_by a b len
-ended a b len n e h = h ∙ ap (λ (q : Place). ended_by a q len) (sym e) ∙ sym (ap (λ (t : Bool). cond {A = Option Range} t none (ended_by a b len)) (ne_eqb len 0 n))
+ended a b len n e h = h ∙ ap (λ (q : Place). ended_by a q len) (sym e) ∙ sym (ap (λ (t : Bool). cond {A = Option Range} t None (ended_by a b len)) (ne_eqb len 0 n))
 
 returns-2 : tie.Need-returns-in-Below
 returns-2 c =

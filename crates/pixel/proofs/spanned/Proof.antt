@@ -1,6 +1,6 @@
 -- `pixel::spanned` meets its contract. Assumes nothing.
 use mathlib.Core.Path.{◌≡◌, refl, sym, ap, ◌∙◌}
-use mathlib.Core.Option.{Option, some}
+use Rattle.std.specs.Prelude.{Option, Some}
 use Prim.Native.Nat.{ℕ}
 use borrow.Author.Rules.{rules}
 use Rattle.rules.specs.Pixel.{Range}
@@ -28,8 +28,8 @@ enum-told-2 c = search rules
 from : {a p : Place} (b len : ℕ) {r : Option Range} → a ≡ p → r ≡ spanned_by p b len → r ≡ spanned_by a b len
 from b len e h = h ∙ ap (λ (q : Place). spanned_by q b len) (sym e)
 
-ending : {k l : ℕ} (n : ℕ) → k ≡ l → ◌≡◌ {A = Option Range} (some (record { from = n; to = k })) (some (record { from = n; to = l }))
-ending n e = ap (λ (k : ℕ). some (record { from = n; to = k })) e
+ending : {k l : ℕ} (n : ℕ) → k ≡ l → ◌≡◌ {A = Option Range} (Some (record { from = n; to = k })) (Some (record { from = n; to = l }))
+ending n e = ap (λ (k : ℕ). Some (record { from = n; to = k })) e
 
 returns : tie.Need-returns-in-Below
 returns c =

@@ -1,7 +1,7 @@
 -- `render::render` meets its contract: the first row that holds, or the pixels drawn. Assumes nothing.
 use mathlib.Core.Path.{sym, ap, ◌∙◌, fun_ext}
 use mathlib.Core.List.{List}
-use mathlib.Core.Option.{Option}
+use Rattle.std.specs.Prelude.{Option}
 use Prim.Native.Nat.{ℕ}
 use native.Mathlib.Omega.{arith}
 use lib.ListN.{length}

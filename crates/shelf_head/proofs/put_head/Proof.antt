@@ -8,7 +8,6 @@ use Rattle.rules.specs.SampleBytes.{sample_bytes}
 use Rattle.rules.specs.Block.{block_of}
 use Rattle.rules.specs.Shelf.{head_bytes}
 use Rattle.rules.proofs.ShelfHead.{flag_small}
-use Rattle.capture.specs.Record.{mark_of}
 use Rattle.shelf_head.proofs.put_head.Statement.{statement}
 use Rattle.shelf_head.proofs.put_head.Tie as tie
 
@@ -22,7 +21,7 @@ mark-flag-requires : tie.Need-mark_flag-requires
 mark-flag-requires c κs = search rules
 
 cast-put-numbers-2 : tie.Need-overflow_cast-mark_flag
-cast-put-numbers-2 c = record { fits = omega (arith, c.mark_flag.ensures, flag_small (mark_of c.args.h.trigger)) }
+cast-put-numbers-2 c = record { fits = omega (arith, c.mark_flag.ensures, flag_small (c.args.h.trigger)) }
 
 mark-place-requires : tie.Need-mark_place-requires
 mark-place-requires c κs = search rules

@@ -1,7 +1,7 @@
 -- `unknown::earlier` meets its contract. Assumes nothing.
 use mathlib.Core.Path.{sym, ap, ap₂, ◌∙◌}
 use mathlib.Core.Bool.{Bool}
-use mathlib.Core.Option.{some}
+use Rattle.std.specs.Prelude.{Some}
 use Prim.Native.Nat.{ℕ}
 use borrow.Author.Rules.{rules}
 use Rattle.unknown.specs.declared.Spot.{Spot}
@@ -25,7 +25,7 @@ greater-requires c κs = search rules
 returns-2 : tie.Need-returns-then-back
 returns-2 c =
     let a = c.args in
-    ap (λ (x : ℕ). some x) c.greater.ensures
+    ap (λ (x : ℕ). Some x) c.greater.ensures
     ∙ ap₂ (λ (b : Bool) (s : Spot). earlier b (spot_of s) a.c) (sym c.if-back.true) (sym c.in-At.is)
 
 returns-3 : tie.Need-returns

@@ -2,7 +2,7 @@
 use Prim.Native.Nat.{ℕ}
 use mathlib.Core.Path.{sym, ap, ◌∙◌, subst⁻¹}
 use mathlib.Core.Bool.{Bool, cond}
-use mathlib.Core.Option.{Option, some}
+use Rattle.std.specs.Prelude.{Option, Some}
 use borrow.Author.Rules.{rules}
 use borrow.Author.Tests.{eq-eqb, ne_eqb}
 use Rattle.node.specs.Memory.{level_of, reader_of}
@@ -35,7 +35,7 @@ returns-2 : tie.Need-returns-then-c-p
 returns-2 c =
     let a = c.args in
     let x = c.in-At.c in
-    sym (ap (λ (t : Bool). cond t (some x) (earlier a.back ((walked a.back (reader_of a.unitsize a.samples.now (level_of a.l1.now a.l2.now a.l3.now a.l4.now)) a.mask) (cut_at a.back a.len x) a.from) x)) (eq-eqb x a.p c.if-c-p.true))
+    sym (ap (λ (t : Bool). cond t (Some x) (earlier a.back ((walked a.back (reader_of a.unitsize a.samples.now (level_of a.l1.now a.l2.now a.l3.now a.l4.now)) a.mask) (cut_at a.back a.len x) a.from) x)) (eq-eqb x a.p c.if-c-p.true))
     ∙ ap (besides a.back (walked a.back (reader_of a.unitsize a.samples.now (level_of a.l1.now a.l2.now a.l3.now a.l4.now)) a.mask) a.len a.from a.p) (sym (ap spot_of c.in-At.is) ∙ c.met-stretch.ensures)
 
 cut-at-requires : tie.Need-cut_at-hi-requires
@@ -57,7 +57,7 @@ returns-3 c =
     let x = c.in-At.c in
     c.earlier.ensures
     ∙ ap (λ (o : Option ℕ). earlier a.back o x) (c.change-2.ensures ∙ ap (λ (n : ℕ). (walked a.back (reader_of a.unitsize a.samples.now (level_of a.l1.now a.l2.now a.l3.now a.l4.now)) a.mask) n a.from) c.cut_at-hi.ensures)
-    ∙ sym (ap (λ (t : Bool). cond t (some x) (earlier a.back ((walked a.back (reader_of a.unitsize a.samples.now (level_of a.l1.now a.l2.now a.l3.now a.l4.now)) a.mask) (cut_at a.back a.len x) a.from) x)) (ne_eqb x a.p c.if-c-p.false))
+    ∙ sym (ap (λ (t : Bool). cond t (Some x) (earlier a.back ((walked a.back (reader_of a.unitsize a.samples.now (level_of a.l1.now a.l2.now a.l3.now a.l4.now)) a.mask) (cut_at a.back a.len x) a.from) x)) (ne_eqb x a.p c.if-c-p.false))
     ∙ ap (besides a.back (walked a.back (reader_of a.unitsize a.samples.now (level_of a.l1.now a.l2.now a.l3.now a.l4.now)) a.mask) a.len a.from a.p) (sym (ap spot_of c.in-At.is) ∙ c.met-stretch.ensures)
 
 pub possible_from_spec : {M : Type 1} → statement M

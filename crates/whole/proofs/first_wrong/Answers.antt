@@ -1,7 +1,7 @@
 -- `whole::first_wrong` meets its contract: the levels below the one at hand are right, and so are the nodes below the one at hand. Assumes nothing.
 use Prim.Native.Nat.{ℕ, ◌<◌}
 use mathlib.Core.Path.{sym, ap, ◌∙◌, subst}
-use mathlib.Core.Option.{some}
+use Rattle.std.specs.Prelude.{Some}
 use native.Mathlib.Omega.{arith}
 use Rattle.rules.specs.Sample.{sample_of}
 use Rattle.rules.specs.Answer.{given}
@@ -54,7 +54,7 @@ returns-then-level-le-LEVELS c =
       | else-levels-test w ↦ absurd (omega (arith, w.levels-test.false, c.if-level-le-LEVELS.true))
       | then-levels-test+then-loop-j-test+then-node_wrong w ↦
           let k = subst (λ (n : ℕ). w.loop-j.j < n) w.nodes_of-count.ensures w.loop-j-test.true in
-          ap (λ (j : ℕ). given (some (place v.level j))) w.j-is
+          ap (λ (j : ℕ). given (Some (place v.level j))) w.j-is
           ∙ ap given (checking_found (sample_of a.c.unitsize a.samples.now) a.c.len (level_of a.l1.now a.l2.now a.l3.now a.l4.now) v.level w.loop-j.j v.invariant w.levels-test.true k w.loop-j.invariant.1 (sym (wrong_is (sample_of a.c.unitsize a.samples.now) a.c.len (level_of a.l1.now a.l2.now a.l3.now a.l4.now) v.level w.loop-j.j w.node_wrong.result v.invariant w.levels-test.true ((covering a.c.len v.level w.loop-j.j).0 k) w.node_wrong.ensures) ∙ w.if-node_wrong.true))
     ]
 
