@@ -1,11 +1,11 @@
 // What a line gives to an append or a push: bytes, runs of equal samples, or noise, handed over in pieces.
 #![tactic(auto)]
 
-ghost use Rattle.std.specs.Prelude.{◌≡◌, true, ◌-◌, ◌≤◌, ◌<◌, length};
+ghost use Rattle.std.specs.Prelude.{◌≡◌, ◌-◌, ◌≤◌, ◌<◌, length};
+ghost use Rattle.std.specs.Bool.{OnTrue};
 ghost use Rattle.replay_feed.specs.Rest.{rest, Fills};
 
 use lines::Mask;
-use number::lesser;
 use replay_text::numbers::{mask_of, number};
 use replay_text::operations::Operation;
 
@@ -64,7 +64,7 @@ fn next_run(line: &[u8], f: Feed) -> Feed
 {
     if f.counted {
         let count = number(line, f.next);
-        return run_at(line, count.next, count.value, f);
+        return run_at(line, count.next, count.value.unwrap_or(0), f);
     }
     run_at(line, f.next, 1, f)
 }
@@ -77,11 +77,10 @@ fn run_at(line: &[u8], at: usize, count: usize, f: Feed) -> Feed
     let value = number(line, at);
     Feed {
         left: count,
-        run: Run::Of(mask_of(value.value)),
+        run: Run::Of(mask_of(value.value.unwrap_or(0))),
         runs: f.runs - 1,
-        counted: f.counted,
         next: value.next,
-        unitsize: f.unitsize,
+        ..f
     }
 }
 
@@ -106,18 +105,15 @@ fn sample_of(r: Run) -> Mask {
 }
 
 // The feed behind its next sample.
+#[tactic(auto, unfolding(crate::specs::Rest::rest))]
 fn next_sample(f: Feed) -> Feed
     requires { 0 < f.left }
     ensures { rest result < rest f }
 {
-    let run = f.run;
     Feed {
         left: f.left - 1,
-        run: advanced(run),
-        runs: f.runs,
-        counted: f.counted,
-        next: f.next,
-        unitsize: f.unitsize,
+        run: advanced(f.run),
+        ..f
     }
 }
 
@@ -128,53 +124,38 @@ fn put_sample(piece: &mut [u8], at: usize, unitsize: usize, value: Mask) -> usiz
 {
     piece[at] = (value % 256) as u8;
     let next = at + 1;
-    if unitsize == 2 {
-        if next < piece.len() {
-            piece[next] = (value / 256) as u8;
-            return next + 1;
-        }
+    if unitsize == 2 && next < piece.len() {
+        piece[next] = (value / 256) as u8;
+        return next + 1;
     }
     next
 }
 
 // 32,768 samples.
 fn piece_size(unitsize: usize) -> usize {
-    if unitsize == 2 {
-        return 65536;
-    }
-    32768
+    if unitsize == 2 { 65536 } else { 32768 }
 }
 
-// A piece was filled with so many bytes, and the feed then stands at a sample or has none left. There is another
-// piece where it has one, and this one held something.
+// A piece was filled with so many bytes, and the feed then stands at a sample or has none left.
 #[derive(Clone, Copy)]
 pub struct Filled {
     pub feed: Feed,
     pub bytes: usize,
-    pub more: bool,
 }
 
-fn filled_with(feed: Feed, bytes: usize) -> Filled
-    ensures { (result.feed ≡ feed) × (result.bytes ≡ bytes) × (result.more ≡ true → 0 < bytes) }
-{
-    if bytes == 0 {
-        return Filled {
-            feed,
-            bytes,
-            more: false,
-        };
-    }
-    Filled {
-        feed,
-        bytes,
-        more: feed.left != 0,
+impl Filled {
+    // There is another piece where the feed has a sample, and this one held something.
+    pub fn has_more(&self) -> bool
+        ensures { OnTrue result (0 < self.now.bytes) }
+    {
+        self.bytes != 0 && self.feed.left != 0
     }
 }
 
 pub fn fill(line: &[u8], f: Feed, piece: &mut [u8]) -> Filled
     ensures { Fills f piece.old result }
 {
-    let size = lesser(piece_size(f.unitsize), piece.len());
+    let size = piece_size(f.unitsize).min(piece.len());
     let mut feed = f;
     let mut bytes = 0;
     loop {
@@ -188,9 +169,8 @@ pub fn fill(line: &[u8], f: Feed, piece: &mut [u8]) -> Filled
                 break;
             }
             feed = next_sample(feed);
-            let run = feed.run;
-            bytes = put_sample(piece, bytes, feed.unitsize, sample_of(run));
+            bytes = put_sample(piece, bytes, feed.unitsize, sample_of(feed.run));
         }
     }
-    filled_with(feed, bytes)
+    Filled { feed, bytes }
 }

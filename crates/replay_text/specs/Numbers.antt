@@ -1,5 +1,6 @@
 -- The number that a line's bytes write at a place. crates/replay/data/README.md: numbers from 0 to 2^64 − 1 in decimal, with a space between two of them.
 use Rattle.std.specs.Prelude.{◌≡◌, Bool, cond, ◌&&◌, List, [], ◌∷◌, ℕ, suc, ◌+◌, ◌-◌, ◌*◌, min, leb, ltb, eqb, ℤ, pos, negsuc, get_or, drop}
+use Rattle.std.specs.Bool.{then_some}
 use Rattle.replay_text.specs.declared.numbers.Parsed.{Parsed}
 
 -- from "0" to "9"
@@ -26,9 +27,8 @@ past_space line at = cond (eqb (get_or line at 0) 32) (suc at) at
 
 -- what is read at a place of a line
 pub record NumberAt (line : List ℕ) (at : ℕ) (r : Parsed) : Type 0 where
-  pub value_is : r.value ≡ decimal 0 (drop (past_space line at) line)
+  pub value_is : r.value ≡ then_some (ltb (past_space line at) r.next) (decimal 0 (drop (past_space line at) line))
   pub next_is : r.next ≡ past_space line at + digits (drop (past_space line at) line)
-  pub found_is : r.found ≡ ltb (past_space line at) r.next
 
 -- a position as the number that its 64 bits make: 2^64 more where it is below 0
 unfoldable pub bits_of : ℤ → ℕ

@@ -1,7 +1,6 @@
 // The answer to a line, and whether it is the recorded one.
-use crate::numbers::{number, value_of, wide};
+use crate::numbers::number;
 use lines::Mask;
-use number::lesser;
 
 // A refusal's number or 0, how many values there are, the values, and how many numbers of the output follow.
 #[derive(Clone, Copy)]
@@ -45,66 +44,39 @@ pub fn listed(n: usize) -> Answer {
     }
 }
 
-// How far an answer was compared with the recorded one, and whether it was the same up to there.
-#[derive(Clone, Copy)]
-struct Compared {
-    at: usize,
-    same: bool,
+// The next recorded number is this one: where the bytes after it start.
+fn and(line: &[u8], at: usize, value: usize) -> Option<usize> {
+    let n = number(line, at);
+    (n.value? == value).then_some(n.next)
 }
 
-// The next recorded number is to be this one.
-fn and(line: &[u8], c: Compared, value: usize) -> Compared {
-    if !c.same {
-        return c;
+// The next recorded numbers are these.
+fn and_values(line: &[u8], at: usize, values: &[usize]) -> Option<usize> {
+    let mut next = at;
+    for value in values {
+        next = and(line, next, *value)?;
     }
-    let n = number(line, c.at);
-    if !n.found {
-        return Compared {
-            at: n.next,
-            same: false,
-        };
-    }
-    Compared {
-        at: n.next,
-        same: n.value == value,
-    }
+    Some(next)
 }
 
-fn and_values(line: &[u8], c: Compared, values: [usize; 5], count: usize) -> Compared {
-    let mut d = c;
-    let mut i = 0;
-    let end = lesser(count, 5);
-    while i < end {
-        d = and(line, d, values[i]);
-        i += 1;
+fn and_samples(line: &[u8], at: usize, samples: &[Mask]) -> Option<usize> {
+    let mut next = at;
+    for sample in samples {
+        next = and(line, next, usize::from(*sample))?;
     }
-    d
+    Some(next)
 }
 
-fn and_samples(line: &[u8], c: Compared, output: &[Mask], count: usize) -> Compared {
-    let mut d = c;
-    let mut i = 0;
-    let end = lesser(count, output.len());
-    while i < end {
-        d = and(line, d, value_of(output[i]));
-        i += 1;
-    }
-    d
-}
-
-// The line goes on with this answer and ends. A recorded answer begins with whose it is, which is not compared.
-pub fn agrees(line: &[u8], at: usize, a: Answer, output: &[Mask]) -> bool {
+// Where a line ends that goes on with this answer. A recorded answer begins with whose it is, which is not compared.
+fn end_of(line: &[u8], at: usize, a: Answer, output: &[Mask]) -> Option<usize> {
     let whose = number(line, at);
-    let start = Compared {
-        at: whose.next,
-        same: whose.found,
-    };
-    let refusal = and(line, start, wide(a.refusal));
-    let values = a.values;
-    let c = and_values(line, refusal, values, a.count);
-    let d = and_samples(line, c, output, a.listed);
-    if d.same {
-        return d.at == line.len();
-    }
-    false
+    whose.value?;
+    let refusal = and(line, whose.next, usize::from(a.refusal))?;
+    let values = and_values(line, refusal, &a.values[..a.count.min(5)])?;
+    and_samples(line, values, &output[..a.listed.min(output.len())])
+}
+
+// The line goes on with this answer and ends.
+pub fn agrees(line: &[u8], at: usize, a: Answer, output: &[Mask]) -> bool {
+    end_of(line, at, a, output) == Some(line.len())
 }

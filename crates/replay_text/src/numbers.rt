@@ -7,48 +7,35 @@ ghost use Rattle.replay_text.specs.Numbers.{is_digit, with_digit, past_space, Nu
 use lines::Mask;
 use number::magnitude;
 
-// A number, where the bytes after it start, and whether there is one.
+// A number, if there is one, and where the bytes after it start.
 #[derive(Clone, Copy)]
 pub struct Parsed {
-    pub value: usize,
+    pub value: Option<usize>,
     pub next: usize,
-    pub found: bool,
 }
 
-const MOST: usize = 18446744073709551615;
-
-// A byte as a number.
-pub fn wide(b: u8) -> usize
-    ensures { result ≡ b }
-{
-    b as usize
-}
-
+#[tactic(auto, unfolding(crate::specs::Numbers::is_digit))]
 fn is_digit(b: u8) -> bool
     ensures { result ≡ is_digit b }
 {
-    if 48 <= b { b <= 57 } else { false }
+    matches!(b, b'0'..=b'9')
 }
 
 // The value with one more digit, at most 2^64 − 1.
+#[tactic(auto, unfolding(crate::specs::Numbers::with_digit))]
 fn with_digit(value: usize, b: u8) -> usize
     requires { (48 ≤ b) × (b ≤ 57) }
     ensures { result ≡ with_digit value b }
 {
-    let digit = wide(b - 48);
-    if (MOST - digit) / 10 < value {
-        return MOST;
-    }
-    value * 10 + digit
+    value.saturating_mul(10).saturating_add(usize::from(b - 48))
 }
 
+#[tactic(auto, unfolding(crate::specs::Numbers::past_space))]
 fn past_space(line: &[u8], at: usize) -> usize
     ensures { result ≡ past_space line.now at }
 {
-    if at < line.len() {
-        if line[at] == 32 {
-            return at + 1;
-        }
+    if at < line.len() && line[at] == b' ' {
+        return at + 1;
     }
     at
 }
@@ -60,18 +47,16 @@ pub fn number(line: &[u8], at: usize) -> Parsed
     let start = past_space(line, at);
     let mut next = start;
     let mut value = 0;
-    while next < line.len() {
-        let b = line[next];
-        if !is_digit(b) {
+    for i in start..line.len() {
+        if !is_digit(line[i]) {
             break;
         }
-        value = with_digit(value, b);
-        next += 1;
+        value = with_digit(value, line[i]);
+        next = i + 1;
     }
     Parsed {
-        value,
+        value: (start < next).then_some(value),
         next,
-        found: start < next,
     }
 }
 
@@ -86,32 +71,16 @@ pub fn mask_of(value: usize) -> Mask
 pub fn byte_of(value: usize) -> u8
     ensures { result ≡ min value 255 }
 {
-    if value < 255 {
-        return value as u8;
-    }
-    255
-}
-
-// Yes or no as a number.
-pub fn flag(b: bool) -> usize
-    ensures { result ≡ cond b 1 0 }
-{
-    if b { 1 } else { 0 }
-}
-
-// A mask or a sample as a number.
-pub fn value_of(m: Mask) -> usize
-    ensures { result ≡ m }
-{
-    m as usize
+    value.min(255) as u8
 }
 
 // The number that a position's bits make.
+#[tactic(auto, unfolding(crate::specs::Numbers::bits_of))]
 pub fn bits_of(p: i64) -> usize
     ensures { result ≡ bits_of p }
 {
     if p < 0 {
-        return MOST - magnitude(p);
+        return usize::MAX - magnitude(p);
     }
     magnitude(p)
 }

@@ -1,6 +1,5 @@
 // What a line begins with: the code of its operation, and its arguments.
 use crate::numbers::number;
-use number::lesser;
 
 // The code, its arguments, and where the bytes after them start. The last argument of 11, 12, 25 to 28, 51, 52 and 53 is
 // how many entries follow.
@@ -25,19 +24,17 @@ fn arguments_of(code: usize) -> usize {
 }
 
 pub fn read_operation(line: &[u8]) -> Operation {
-    let code = number(line, 0);
-    let end = lesser(arguments_of(code.value), 7);
+    let first = number(line, 0);
+    let code = first.value.unwrap_or(0);
     let mut arguments = [0; 7];
-    let mut next = code.next;
-    let mut i = 0;
-    while i < end {
+    let mut next = first.next;
+    for argument in arguments.iter_mut().take(arguments_of(code)) {
         let n = number(line, next);
-        arguments[i] = n.value;
+        *argument = n.value.unwrap_or(0);
         next = n.next;
-        i += 1;
     }
     Operation {
-        code: code.value,
+        code,
         arguments,
         next,
     }

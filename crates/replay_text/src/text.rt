@@ -7,22 +7,17 @@ pub fn line_end(text: &[u8], at: usize) -> usize
     requires { at ≤ length text.now }
     ensures { LineEnd text.now at result }
 {
-    let mut end = at;
-    while end < text.len() {
-        if text[end] == 10 {
-            return end;
+    for i in at..text.len() {
+        if text[i] == b'\n' {
+            return i;
         }
-        end += 1;
     }
-    end
+    text.len()
 }
 
 // Where the next line starts: behind the newline, or at the end of a text of n bytes.
 pub fn line_after(end: usize, n: usize) -> usize
     ensures { result ≡ min (end + 1) n }
 {
-    if end < n {
-        return end + 1;
-    }
-    n
+    end.saturating_add(1).min(n)
 }
