@@ -1,6 +1,6 @@
 -- Laws of the answer: which row refuses, and the record of equations in each case.
 use Prim.Native.Nat.{ℕ, ◌+◌, ◌*◌, ◌≤◌, ◌<◌}
-use mathlib.Core.Path.{◌≡◌, refl, sym, ap, ◌∙◌, subst⁻¹}
+use mathlib.Core.Path.{◌≡◌, refl, sym, ap, subst⁻¹}
 use mathlib.Core.Bool.{Bool, false, cond}
 use mathlib.Core.List.{List, [], ◌∷◌}
 use mathlib.Core.Logic.{◌↔◌}
@@ -18,8 +18,11 @@ use Rattle.store.proofs.Fits.{sound_room}
 use Rattle.store.proofs.Stored.{stored_none}
 use Rattle.capture.specs.declared.Capture.{Capture}
 use Rattle.capture.specs.Record.{store_of, lent_of}
-use Rattle.capture.proofs.Answer.{refused_is, given_is, rows_refuse, rows_decide}
-use Rattle.append.specs.declared.Appended.TheVariants.{Refused, Done}
+use Rattle.capture.proofs.Answer.{rows_refuse, rows_decide}
+use Rattle.std.specs.Prelude.{Ok, Err}
+use Rattle.answer.specs.declared.Refusal.{Refusal}
+use Rattle.answer.specs.Answered.{number}
+use Rattle.answer.proofs.Answered.{number_least, stops, goes}
 use Rattle.append.specs.Append.{grown, refusal_of, taken_of, Appends}
 
 pub whole_bytes : (unit : ℕ) (bytes : List ℕ) → sample_count unit bytes * unit ≤ length bytes
@@ -34,19 +37,19 @@ module _ (c : Capture) (b s : List ℕ) (lv : ℕ → List ℕ) where
   room_of d h = record { room = sound_room (store_of c) s lv (sample_count c.unitsize b) d h; bytes = whole_bytes c.unitsize b }
 
   -- ---- which row refuses
-  -- k is the number of rows 1 and 2
-  module _ {k : ℕ} (e : k ≡ store_refusal (store_of c) (lent_of s lv)) where
-    pub refused_first : (k ≡ 0 → ⊥) → k ≡ refusal_of c s lv b
-    unfolding refusal_of
-    refused_first z = rows_refuse (store_of c) (lent_of s lv) (row_8 c b) e z
+  -- 1 or 2 comes first
+  pub refused_first : (r : Refusal) → number r ≡ store_refusal (store_of c) (lent_of s lv) → number r ≡ refusal_of c s lv b
+  unfolding refusal_of
+  refused_first r e = rows_refuse (store_of c) (lent_of s lv) (row_8 c b) e (λ z. omega (arith, number_least r))
 
-    pub refused_full : k ≡ 0 → c.capacity < c.len + sample_count c.unitsize b → 8 ≡ refusal_of c s lv b
+  module _ (e : 0 ≡ store_refusal (store_of c) (lent_of s lv)) where
+    pub refused_full : c.capacity < c.len + sample_count c.unitsize b → 8 ≡ refusal_of c s lv b
     unfolding refusal_of
-    refused_full z h = rows_decide (store_of c) (lent_of s lv) (row_8 c b) e z 8 (simp (lt-ltb _ _ h))
+    refused_full h = rows_decide (store_of c) (lent_of s lv) (row_8 c b) e refl 8 (simp (lt-ltb _ _ h))
 
-    pub refused_none : k ≡ 0 → c.len + sample_count c.unitsize b ≤ c.capacity → 0 ≡ refusal_of c s lv b
+    pub refused_none : c.len + sample_count c.unitsize b ≤ c.capacity → 0 ≡ refusal_of c s lv b
     unfolding refusal_of
-    refused_none z h = rows_decide (store_of c) (lent_of s lv) (row_8 c b) e z 0 (simp (le-ltb _ _ h))
+    refused_none h = rows_decide (store_of c) (lent_of s lv) (row_8 c b) e refl 0 (simp (le-ltb _ _ h))
 
   -- ---- the equations
   pub taken_none : (refusal_of c s lv b ≡ 0 → ⊥) → taken_of c s lv b ≡ 0
@@ -57,24 +60,24 @@ module _ (c : Capture) (b s : List ℕ) (lv : ℕ → List ℕ) where
   unfolding taken_of
   taken_all e = ap (λ (t : Bool). cond t (sample_count c.unitsize b) 0) (eq-eqb (refusal_of c s lv b) 0 e)
 
-  pub appends_refused : (k : ℕ) → k ≡ refusal_of c s lv b → (k ≡ 0 → ⊥) → Appends c b s lv (Refused k c) s lv
-  appends_refused k e z = record {
-    answer_is = refused_is _ e z;
+  pub appends_refused : (r : Refusal) → number r ≡ refusal_of c s lv b → Appends c b s lv (Err r) s lv
+  appends_refused r e = record {
+    answer_is = stops r _ _ e;
     number_is = e;
     record_is = λ i. record { unitsize = c.unitsize; capacity = c.capacity; len = same i; trigger = c.trigger };
     memory = stored_none c.unitsize c.len (taken_of c s lv b) b s lv none;
   }
     where
       none : taken_of c s lv b ≡ 0
-      none = taken_none (λ y. z (e ∙ y))
+      none = taken_none (λ y. omega (arith, number_least r))
 
       same : c.len ≡ c.len + taken_of c s lv b
       same = omega (arith, none)
 
   pub appends_done : 0 ≡ refusal_of c s lv b → (s' : List ℕ) (lv' : ℕ → List ℕ) → Stored c.unitsize c.len (sample_count c.unitsize b) b s lv s' lv'
-      → Appends c b s lv (Done (grown c (sample_count c.unitsize b))) s' lv'
+      → Appends c b s lv (Ok (grown c (sample_count c.unitsize b))) s' lv'
   appends_done e s' lv' d = record {
-    answer_is = given_is _ e refl (ap (grown c) (sym (taken_all (sym e))));
+    answer_is = goes _ _ _ (sym e) (ap (grown c) (sym (taken_all (sym e))));
     number_is = e;
     record_is = ap (grown c) (sym (taken_all (sym e)));
     memory = subst⁻¹ (λ (n : ℕ). Stored c.unitsize c.len n b s lv s' lv') (taken_all (sym e)) d;

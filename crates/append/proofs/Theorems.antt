@@ -22,10 +22,12 @@ use Rattle.store.specs.Room.{AppendRoom}
 use Rattle.store.proofs.Bytes.{paste_twice}
 use Rattle.store.proofs.Stored.{RoomOrNone, none_samples, none_levels, level_length, level_rest, samples_length, bytes_rest, old_samples, new_samples, has_room, stored_right}
 use Rattle.store.proofs.Written.{SameNew, written_alike}
+use Rattle.std.specs.Prelude.{Result}
+use Rattle.answer.specs.declared.Refusal.{Refusal}
+use Rattle.answer.specs.Answered as answered
 use Rattle.capture.specs.declared.Capture.{Capture}
 use Rattle.capture.specs.Record.{store_of, lent_of}
-use Rattle.append.specs.declared.Appended.{Appended}
-use Rattle.append.specs.Append.{number_of, record_of, grown, refusal_of, taken_of, Appends}
+use Rattle.append.specs.Append.{record_of, grown, refusal_of, taken_of, Appends}
 use Rattle.append.proofs.Answer.{taken_none, taken_all, passed, passed_room}
 use Rattle.append.proofs.append.Reads as append
 
@@ -48,7 +50,7 @@ abbrev Ref : Type 0
 Ref = MutBor (List ℕ)
 
 -- one call of append, as its contract has it: the answer v and the memory m' are allowed. The references are whatever the caller lends
-pub record Called (c : Capture) (m : Memory) (bytes : List ℕ) (v : Appended) (m' : Memory) : Type 0 where
+pub record Called (c : Capture) (m : Memory) (bytes : List ℕ) (v : Result Capture Refusal) (m' : Memory) : Type 0 where
   pub κs : Lfts 6
   pub s : Ref
   pub r1 : Ref
@@ -66,7 +68,7 @@ pub record Called (c : Capture) (m : Memory) (bytes : List ℕ) (v : Appended) (
       (c, (at_last s m'.samples, (at_last r1 m'.l1, (at_last r2 m'.l2, (at_last r3 m'.l3, (at_last r4 m'.l4, (b, tt)))))))
 
 -- one call
-module _ {c : Capture} {m : Memory} {bytes : List ℕ} {v : Appended} {m' : Memory} (call : Called c m bytes v m') where
+module _ {c : Capture} {m : Memory} {bytes : List ℕ} {v : Result Capture Refusal} {m' : Memory} (call : Called c m bytes v m') where
   pub equations : Appends c bytes m.samples (levels m) v m'.samples (levels m')
   equations = rw (← call.s_is, ← call.r1_is, ← call.r2_is, ← call.r3_is, ← call.r4_is, ← call.b_is) call.promised
 
@@ -84,15 +86,15 @@ module _ {c : Capture} {m : Memory} {bytes : List ℕ} {v : Appended} {m' : Memo
       pick (no e) = inl (taken_none c bytes m.samples (levels m) e)
 
   -- Right levels stay right, whether the call refuses or not: for the samples that are stored then, partial last nodes included.
-  pub right_stays : RightIn c m → RightIn (record_of v) m'
+  pub right_stays : RightIn c m → RightIn (record_of c v) m'
   right_stays r = subst⁻¹ (λ (x : Capture). RightIn x m') equations.record_is (stored_right equations.memory roomed r)
 
   -- 01, Store: "Each node touched is made anew from the level below, partial last nodes included." On right levels each node is its nodes of the level below, joined.
-  pub made_anew : RightIn c m → (l j : ℕ) → 1 ≤ l → l < top_level → j * span (suc l) < (record_of v).len → node_in (levels m' (suc l)) j ≡ made_over (node_in (levels m' l)) (((record_of v).len - 1) / span l) j
+  pub made_anew : RightIn c m → (l j : ℕ) → 1 ≤ l → l < top_level → j * span (suc l) < (record_of c v).len → node_in (levels m' (suc l)) j ≡ made_over (node_in (levels m' l)) (((record_of c v).len - 1) / span l) j
   made_anew r l j p q h =
       right_stays r (suc l) (omega arith) q j h
-      ∙ sym (made_true (sample_of (record_of v).unitsize m'.samples) (record_of v).len l (((record_of v).len - 1) / span l) (node_in (levels m' l)) (right_stays r l p (omega arith))
-      (omega (arith, node_low ((record_of v).len - 1) l)) (omega (arith, node_high ((record_of v).len - 1) l)) j h)
+      ∙ sym (made_true (sample_of (record_of c v).unitsize m'.samples) (record_of c v).len l (((record_of c v).len - 1) / span l) (node_in (levels m' l)) (right_stays r l p (omega arith))
+      (omega (arith, node_low ((record_of c v).len - 1) l)) (omega (arith, node_high ((record_of c v).len - 1) l)) j h)
 
   -- The samples that were stored stay, and the ones that are taken follow.
   pub old_stay : (i : ℕ) → i < c.len → sample_of c.unitsize m'.samples i ≡ sample_of c.unitsize m.samples i
@@ -114,14 +116,14 @@ module _ {c : Capture} {m : Memory} {bytes : List ℕ} {v : Appended} {m' : Memo
   nodes_stay = level_rest equations.memory
 
   -- A call that refuses gives the record back, and changes no memory.
-  module _ (refused : number_of v ≡ 0 → ⊥) where
+  module _ (refused : answered.refusal_of v ≡ 0 → ⊥) where
     none_taken : taken ≡ 0
     none_taken = taken_none c bytes m.samples (levels m) (λ e. refused (equations.number_is ∙ e))
 
     same_level : (l : ℕ) → 1 ≤ l → l ≤ top_level → levels m' l ≡ levels m l
     same_level = none_levels equations.memory none_taken
 
-    pub refused_leaves : (record_of v ≡ c) × (m' ≡ m)
+    pub refused_leaves : (record_of c v ≡ c) × (m' ≡ m)
     unfolding level_of
     refused_leaves = (
       equations.record_is ∙ (λ i. record { unitsize = c.unitsize; capacity = c.capacity; len = same i; trigger = c.trigger }),
@@ -138,7 +140,7 @@ module _ {c : Capture} {m : Memory} {bytes : List ℕ} {v : Appended} {m' : Memo
         same = omega (arith, none_taken)
 
   -- A call that does not refuse takes every whole sample of the bytes.
-  module _ (done : number_of v ≡ 0) where
+  module _ (done : answered.refusal_of v ≡ 0) where
     not_refused : refusal_of c m.samples (levels m) bytes ≡ 0
     not_refused = sym equations.number_is ∙ done
 
@@ -149,7 +151,7 @@ module _ {c : Capture} {m : Memory} {bytes : List ℕ} {v : Appended} {m' : Memo
 -- 02, CR 2: "over any lent memory the first-level nodes that append or push writes depend on len, that node and the samples it now stores, and on none stored before".
 -- It holds of every level. Two calls on any two captures and memories, of the same len, whose unfinished nodes of a level and new samples are the same: each node of that level that covers
 -- a new sample is the same after them.
-module _ {c : Capture} {m : Memory} {a : List ℕ} {v : Appended} {m' : Memory} {d : Capture} {k : Memory} {b : List ℕ} {w : Appended} {k' : Memory}
+module _ {c : Capture} {m : Memory} {a : List ℕ} {v : Result Capture Refusal} {m' : Memory} {d : Capture} {k : Memory} {b : List ℕ} {w : Result Capture Refusal} {k' : Memory}
     (one : Called c m a v m') (two : Called d k b w k') (same_len : c.len ≡ d.len) (same_count : taken one ≡ taken two) (l : ℕ) (low : 1 ≤ l) (high : l ≤ top_level)
     (same : SameNew c.len (taken one) l (levels m l) (levels k l) (sample_of c.unitsize m'.samples) (sample_of d.unitsize k'.samples)) where
   pub new_alone : (j : ℕ) → c.len / span l ≤ j → j * span l < c.len + taken one → node_in (levels m' l) j ≡ node_in (levels k' l) j
@@ -169,16 +171,16 @@ counts_add u a b h z = (whole, ap (λ (x : ℕ). x / u) (length-append a b ∙ a
 
 -- Appending in pieces: a, with no leftover byte, and then b. Where neither call refuses, a call of both together does not refuse,
 -- and it leaves the same record, the same sample memory and, where the levels are right before, the same nodes.
-pub record SameLeft (c : Capture) (m : Memory) (v₂ : Appended) (m₂ : Memory) (w : Appended) (m' : Memory) : Type 0 where
-  pub not_refused : number_of w ≡ 0
-  pub same_record : record_of v₂ ≡ record_of w
+pub record SameLeft (c : Capture) (m : Memory) (c₁ : Capture) (v₂ : Result Capture Refusal) (m₂ : Memory) (w : Result Capture Refusal) (m' : Memory) : Type 0 where
+  pub not_refused : answered.refusal_of w ≡ 0
+  pub same_record : record_of c₁ v₂ ≡ record_of c w
   pub same_samples : m₂.samples ≡ m'.samples
-  pub right_levels : RightIn c m → RightIn (record_of v₂) m₂ × RightIn (record_of w) m'
-  pub same_nodes : RightIn c m → (l j : ℕ) → 1 ≤ l → l ≤ top_level → j * span l < (record_of w).len → node_in (levels m₂ l) j ≡ node_in (levels m' l) j
+  pub right_levels : RightIn c m → RightIn (record_of c₁ v₂) m₂ × RightIn (record_of c w) m'
+  pub same_nodes : RightIn c m → (l j : ℕ) → 1 ≤ l → l ≤ top_level → j * span l < (record_of c w).len → node_in (levels m₂ l) j ≡ node_in (levels m' l) j
 
-module _ {c : Capture} {m : Memory} {a b : List ℕ} {v₁ : Appended} {m₁ : Memory} {v₂ : Appended} {m₂ : Memory} {w : Appended} {m' : Memory}
-    (call₁ : Called c m a v₁ m₁) (call₂ : Called (record_of v₁) m₁ b v₂ m₂) (both : Called c m (a ++ b) w m')
-    (done₁ : number_of v₁ ≡ 0) (done₂ : number_of v₂ ≡ 0) (whole : length a % c.unitsize ≡ 0) where
+module _ {c : Capture} {m : Memory} {a b : List ℕ} {v₁ : Result Capture Refusal} {m₁ : Memory} {v₂ : Result Capture Refusal} {m₂ : Memory} {w : Result Capture Refusal} {m' : Memory}
+    (call₁ : Called c m a v₁ m₁) (call₂ : Called (record_of c v₁) m₁ b v₂ m₂) (both : Called c m (a ++ b) w m')
+    (done₁ : answered.refusal_of v₁ ≡ 0) (done₂ : answered.refusal_of v₂ ≡ 0) (whole : length a % c.unitsize ≡ 0) where
   abbrev u : ℕ
   u = c.unitsize
 
@@ -194,21 +196,22 @@ module _ {c : Capture} {m : Memory} {a b : List ℕ} {v₁ : Appended} {m₁ : M
   counts : (na * u ≡ length a) × (sample_count u (a ++ b) ≡ na + nb)
   counts = counts_add u a b first_passed.0.unit_size.least whole
 
-  first_record : record_of v₁ ≡ grown c na
+  first_record : record_of c v₁ ≡ grown c na
   first_record = (equations call₁).record_is ∙ ap (grown c) (takes_all call₁ done₁)
 
   second : Called (grown c na) m₁ b v₂ m₂
   second = subst (λ (x : Capture). Called x m₁ b v₂ m₂) first_record call₂
 
-  both_done : number_of w ≡ 0
+  both_done : answered.refusal_of w ≡ 0
   both_done = (equations both).number_is ∙ (passed c (a ++ b) m.samples (levels m)).1 (first_passed.0, first_passed.1, omega (arith, counts.1, second_fits))
     where
       second_fits : c.len + na + nb ≤ c.capacity
       second_fits = ((passed (grown c na) b m₁.samples (levels m₁)).0 (not_refused second done₂)).2
 
-  records : record_of v₂ ≡ record_of w
+  records : record_of (record_of c v₁) v₂ ≡ record_of c w
   records =
-      (equations second).record_is
+      ap (λ (x : Capture). record_of x v₂) first_record
+      ∙ (equations second).record_is
       ∙ ap (grown (grown c na)) (takes_all second done₂)
       ∙ (λ i. record { unitsize = u; capacity = c.capacity; len = end i; trigger = c.trigger })
       ∙ sym ((equations both).record_is ∙ ap (grown c) (takes_all both both_done ∙ counts.1))
@@ -237,7 +240,7 @@ module _ {c : Capture} {m : Memory} {a b : List ℕ} {v₁ : Appended} {m₁ : M
       room : (c.len + sample_count u (a ++ b)) * u ≤ length m.samples
       room = (passed_room c (a ++ b) m.samples (levels m) (not_refused both both_done)).room.samples
 
-  pub pieces : SameLeft c m v₂ m₂ w m'
+  pub pieces : SameLeft c m (record_of c v₁) v₂ m₂ w m'
   pieces = record {
     not_refused = both_done;
     same_record = records;
@@ -246,10 +249,10 @@ module _ {c : Capture} {m : Memory} {a b : List ℕ} {v₁ : Appended} {m₁ : M
     same_nodes = λ r l j p q h. nodes (rights r) l j p q h;
   }
     where
-      rights : RightIn c m → RightIn (record_of v₂) m₂ × RightIn (record_of w) m'
+      rights : RightIn c m → RightIn (record_of (record_of c v₁) v₂) m₂ × RightIn (record_of c w) m'
       rights r = (right_stays call₂ (right_stays call₁ r), right_stays both r)
 
-      nodes : RightIn (record_of v₂) m₂ × RightIn (record_of w) m' → (l j : ℕ) → 1 ≤ l → l ≤ top_level → j * span l < (record_of w).len → node_in (levels m₂ l) j ≡ node_in (levels m' l) j
+      nodes : RightIn (record_of (record_of c v₁) v₂) m₂ × RightIn (record_of c w) m' → (l j : ℕ) → 1 ≤ l → l ≤ top_level → j * span l < (record_of c w).len → node_in (levels m₂ l) j ≡ node_in (levels m' l) j
       nodes t l j p q h =
           t.0 l p q j (subst⁻¹ (λ (x : Capture). j * span l < x.len) records h)
           ∙ ap₂ (λ (x : Capture) (s : List ℕ). level_node (sample_of x.unitsize s) x.len l j) records memory

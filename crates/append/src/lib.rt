@@ -1,18 +1,34 @@
 // Samples are appended to a capture's lent memory.
 #![tactic(auto)]
 
+ghost use Rattle.std.specs.Prelude.{◌≡◌};
+ghost use Rattle.rules.specs.Refusal.{store_refusal};
+ghost use Rattle.answer.specs.Answered.{refusal_of};
 ghost use Rattle.node.specs.Memory.{level_of};
+ghost use Rattle.capture.specs.Record.{store_of, lent_of};
 ghost use Rattle.append.specs.Append.{Appends};
 
-use capture::{Capture, refusal};
+use answer::Refusal;
+use capture::Capture;
 use lines::Mask;
+use node::{Levels, Memory};
 use store::append_samples;
 
-// What append answers: the number of a refusal and the record as it was given, or the record with the samples taken.
-#[derive(Clone, Copy)]
-pub enum Appended {
-    Refused(u8, Capture),
-    Done(Capture),
+// Rows 1 and 2. The slices are lent together here: a `Memory` in `append` itself would be of five lifetimes.
+fn check<'a>(
+    c: Capture,
+    samples: &'a [u8],
+    l1: &'a [Mask],
+    l2: &'a [Mask],
+    l3: &'a [Mask],
+    l4: &'a [Mask],
+) -> Result<(), Refusal>
+    ensures { refusal_of result ≡ store_refusal (store_of c) (lent_of samples.now (level_of l1.now l2.now l3.now l4.now)) }
+{
+    c.check(&Memory {
+        samples,
+        levels: Levels { l1, l2, l3, l4 },
+    })
 }
 
 // 01's append: whole samples of the bytes join the capture, a leftover byte is dropped; refuses with 1, 2 and 8.
@@ -26,25 +42,17 @@ pub fn append(
     l3: &mut [Mask],
     l4: &mut [Mask],
     bytes: &[u8],
-) -> Appended
+) -> Result<Capture, Refusal>
     ensures { Appends c bytes.now samples.old (level_of l1.old l2.old l3.old l4.old) result samples.new (level_of l1.new l2.new l3.new l4.new) }
 {
-    let wrong = refusal(c, &samples[..], &l1[..], &l2[..], &l3[..], &l4[..]);
-    if wrong != 0 {
-        return Appended::Refused(wrong, c);
+    check(c, &samples[..], &l1[..], &l2[..], &l3[..], &l4[..])?;
+    let n = bytes.len() / c.unitsize;
+    if c.capacity - c.len < n {
+        return Err(Refusal::Full);
     }
-    let unitsize = c.unitsize;
-    let len = c.len;
-    let n = bytes.len() / unitsize;
-    if c.capacity - len < n {
-        return Appended::Refused(8, c);
-    }
-    append_samples(samples, l1, l2, l3, l4, unitsize, len, n, bytes);
-    let trigger = c.trigger;
-    Appended::Done(Capture {
-        unitsize,
-        capacity: c.capacity,
-        len: len + n,
-        trigger,
+    append_samples(samples, l1, l2, l3, l4, c.unitsize, c.len, n, bytes);
+    Ok(Capture {
+        len: c.len + n,
+        ..c
     })
 }
