@@ -1,14 +1,13 @@
 -- Row 18 by a loop: the stretches up to number i lie in order, and the others decide. 02: CR 9.
-use mathlib.Core.Path.{◌≡◌, refl, sym, ap, ap₂, ◌∙◌}
-use mathlib.Core.Bool.{Bool, true, false, not, ◌&&◌, ◌||◌, false≢true}
+use mathlib.Core.Path.{◌≡◌, refl, sym, ap, ◌∙◌}
+use mathlib.Core.Bool.{Bool, true, false, not, ◌&&◌, ◌||◌}
 use mathlib.Core.List.{List}
-use Prim.Native.Nat.{ℕ, ◌+◌, ◌-◌, ◌*◌, ◌%◌, ◌≤◌, ◌<◌}
+use Prim.Native.Nat.{ℕ, ◌+◌, ◌*◌, ◌%◌, ◌≤◌, ◌<◌}
 use native.Mathlib.Nat.{div-add-mod'}
-use native.Mathlib.Decide.{dec_lt}
 use native.Mathlib.Omega.{arith}
+use Rattle.std.proofs.lemmas.Bool.Decides.{nat_tests}
 use lib.Dec.{ltb, leb, eqb}
 use lib.ListN.{length, drop, drop_of_length-le}
-use borrow.Author.Tests.{lt-ltb, le-ltb, le-leb, lt-leb}
 use Rattle.rules.specs.Stretches.{Stretch, apart, pairs_in, stretch_at}
 use Rattle.rules.specs.Unknown.{list_wrong}
 use Rattle.rules.proofs.Stretches.{pairs_next}
@@ -16,30 +15,9 @@ use Rattle.rules.proofs.Unknown.{list_passes}
 use Rattle.rules.proofs.Listed.{Lies, each_lies}
 use Rattle.stretches.specs.Listed.{outside}
 
--- ---- one stretch
-module _ (p len first count : ℕ) where
-  tested : (a b c : Bool) → leb p first ≡ a → ltb 0 count ≡ b → leb (first + count) len ≡ c → outside p len first count ≡ not (a && (b && c))
-  tested a b c e f g = ap₂ (λ (x y : Bool). not (x && y)) e (ap₂ ◌&&◌ f g)
-
-  pub too_soon : first < p → outside p len first count ≡ true
-  too_soon h = ap (λ (a : Bool). not (a && (ltb 0 count && leb (first + count) len))) (lt-leb p first h)
-
-  pub of_none : p ≤ first → count ≡ 0 → outside p len first count ≡ true
-  of_none h z = ap₂ (λ (a b : Bool). not (a && (b && leb (first + count) len))) (le-leb p first h) (le-ltb 0 count (omega (arith, z)))
-
-  pub too_far : p ≤ first → 0 < count → len < first + count → outside p len first count ≡ true
-  too_far h l k = tested true true false (le-leb p first h) (lt-ltb 0 count l) (lt-leb (first + count) len k)
-
-  pub within : p ≤ first → 0 < count → first + count ≤ len → outside p len first count ≡ false
-  within h l k = tested true true true (le-leb p first h) (lt-ltb 0 count l) (le-leb (first + count) len k)
-
-  -- with no sum, which the numbers might not allow
-  pub by_room : p ≤ first → 0 < count → first ≤ len → ltb (len - first) count ≡ outside p len first count
-  by_room h l k = go (dec_lt len (first + count))
-    where
-      go : Dec (len < first + count) → ltb (len - first) count ≡ outside p len first count
-      go (yes m) = lt-ltb (len - first) count (omega (arith, m, k)) ∙ sym (too_far h l m)
-      go (no m) = le-ltb (len - first) count (omega (arith, m, k)) ∙ sym (within h l (omega (arith, m)))
+-- one that does not lie outside ends at len at the latest
+within : (p len first count : ℕ) → outside p len first count ≡ false → first + count ≤ len
+within p len first count e = grind (arith, nat_tests)
 
 -- ---- the loop
 pub record Going (len : ℕ) (list : List ℕ) (p i : ℕ) : Type 0 where
@@ -82,18 +60,9 @@ module _ (len : ℕ) (list : List ℕ) where
     pub going_on : outside p len this.first this.count ≡ false → Going len list (this.first + this.count + 1) (i + 1)
     going_on e = record {
       most = omega (arith, there);
-      small = inside;
+      small = omega (arith, within p len this.first this.count e);
       same = sym (ap (λ (x : Bool). not x && apart (this.first + this.count + 1) len rest) e) ∙ split;
     }
-      where
-        inside : this.first + this.count + 1 ≤ len + 1
-        inside = go (dec_lt len (this.first + this.count)) (dec_lt this.first p) (dec_lt 0 this.count)
-          where
-            go : Dec (len < this.first + this.count) → Dec (this.first < p) → Dec (0 < this.count) → this.first + this.count + 1 ≤ len + 1
-            go (no h) a b = omega (arith, h)
-            go (yes h) (yes a) b = absurd (false≢true (sym e ∙ too_soon p len this.first this.count a))
-            go (yes h) (no a) (no b) = absurd (false≢true (sym e ∙ of_none p len this.first this.count (omega (arith, a)) (omega (arith, b))))
-            go (yes h) (no a) (yes b) = absurd (false≢true (sym e ∙ too_far p len this.first this.count (omega (arith, a)) b h))
 
   pub going_ends : {p i : ℕ} → Going len list p i → length list ≤ 2 * i + 1 → (length list % 2 ≡ 1 → ⊥) → false ≡ list_wrong len list
   unfolding apart pairs_in
@@ -101,10 +70,6 @@ module _ (len : ℕ) (list : List ℕ) where
     where
       two : length list % 2 ≡ 0
       two = omega (arith, even, div-add-mod' (length list) 2)
-
--- an odd count
-pub odd_wrong : (len : ℕ) (list : List ℕ) → length list % 2 ≡ 1 → true ≡ list_wrong len list
-odd_wrong len list e = sym (ap (λ (x : ℕ). eqb x 1 || not (apart 0 len (pairs_in list))) e)
 
 -- ---- a stretch of a list that passed
 pub passed_lies : (len : ℕ) (list : List ℕ) (j : ℕ) → list_wrong len list ≡ false → 2 * j + 1 < length list → Lies 0 len (stretch_at list j)
