@@ -10,11 +10,5 @@ use terms::{Terms, TriggerTerm};
 pub fn terms_of(terms: &[TriggerTerm]) -> Terms
     ensures { result ≡ terms_of terms.now }
 {
-    let mut sum = Terms::none();
-    let mut i: usize = 0;
-    while i < terms.len() {
-        sum = sum.with(terms[i]);
-        i += 1;
-    }
-    sum
+    terms.iter().fold(Terms::none(), |sum, t| sum.with(*t))
 }

@@ -1,6 +1,5 @@
 -- The code's terms and masks as 01's, and what a list of terms comes to, term by term.
-use Rattle.std.specs.Prelude.{true, false, cond, ◌||◌, List, [], ◌∷◌, ℕ, ◌^◌, ltb}
-use Rattle.std.specs.Prelude.{Option, None, Some}
+use Rattle.std.specs.Prelude.{false, cond, ◌||◌, List, ℕ, ◌^◌, ltb, Option, None, Some, unwrap_or, fold}
 use Rattle.std.specs.Int.Bits.{bit_or}
 use Rattle.rules.specs.Refusal.{top_line}
 use Rattle.rules.specs.Trigger as rule
@@ -9,8 +8,6 @@ use Rattle.terms.specs.declared.Condition.TheVariants.{Rising, Falling, Edge, Hi
 use Rattle.terms.specs.declared.TriggerTerm.{TriggerTerm}
 use Rattle.terms.specs.declared.Masks.{Masks}
 use Rattle.terms.specs.declared.Terms as declared
-use Rattle.terms.specs.declared.Previous.{Previous}
-use Rattle.terms.specs.declared.Previous.TheVariants.{Nothing, Sample}
 
 abbrev pub condition_of : Condition → rule.Condition
 condition_of Rising = rule.rising
@@ -25,36 +22,38 @@ term_of t = record { line = t.channel; condition = condition_of t.condition }
 abbrev pub as_masks : Masks → rule.Masks
 as_masks m = record { high = m.high; low = m.low; rising = m.rising; falling = m.falling; edge = m.edge }
 
-abbrev pub previous_of : Previous → Option ℕ
-previous_of Nothing = None
-previous_of (Sample v) = Some v
-
 -- ---- term by term
 abbrev pub no_terms : declared.Terms
-no_terms = record { any = false; wrong = false; masks = record { high = 0; low = 0; rising = 0; falling = 0; edge = 0 } }
+no_terms = record { masks = None; wrong = false }
+
+abbrev pub no_lines : Masks
+no_lines = record { high = 0; low = 0; rising = 0; falling = 0; edge = 0 }
+
+-- the lines named so far
+abbrev pub lines_in : declared.Terms → Masks
+lines_in ts = unwrap_or ts.masks no_lines
 
 abbrev pub with_line : Masks → Condition → ℕ → Masks
-with_line m High b = record { high = bit_or m.high b; low = m.low; rising = m.rising; falling = m.falling; edge = m.edge }
-with_line m Low b = record { high = m.high; low = bit_or m.low b; rising = m.rising; falling = m.falling; edge = m.edge }
-with_line m Rising b = record { high = m.high; low = m.low; rising = bit_or m.rising b; falling = m.falling; edge = m.edge }
-with_line m Falling b = record { high = m.high; low = m.low; rising = m.rising; falling = bit_or m.falling b; edge = m.edge }
-with_line m Edge b = record { high = m.high; low = m.low; rising = m.rising; falling = m.falling; edge = bit_or m.edge b }
+with_line m High b = record m { high = bit_or m.high b }
+with_line m Low b = record m { low = bit_or m.low b }
+with_line m Rising b = record m { rising = bit_or m.rising b }
+with_line m Falling b = record m { falling = bit_or m.falling b }
+with_line m Edge b = record m { edge = bit_or m.edge b }
 
 -- a line above the highest is noted, and adds nothing to the masks
 abbrev pub with_term : declared.Terms → TriggerTerm → declared.Terms
 with_term ts t = record {
-  any = true;
+  masks = Some (cond (ltb top_line t.channel) (lines_in ts) (with_line (lines_in ts) t.condition (2 ^ t.channel)));
   wrong = ts.wrong || ltb top_line t.channel;
-  masks = cond (ltb top_line t.channel) ts.masks (with_line ts.masks t.condition (2 ^ t.channel));
 }
 
-unfoldable pub with_terms : declared.Terms → List TriggerTerm → declared.Terms
-with_terms ts [] = ts
-with_terms ts (t ∷ more) = with_terms (with_term ts t) more
-
 abbrev pub terms_of : List TriggerTerm → declared.Terms
-terms_of list = with_terms no_terms list
+terms_of list = fold with_term no_terms list
 
 -- armed where there is a term; Rising and Falling on one line become Edge here, once
+abbrev pub armed_with : Option Masks → rule.Armed
+armed_with None = rule.unarmed
+armed_with (Some m) = rule.waiting (rule.both_as_edge (as_masks m))
+
 abbrev pub armed_by : declared.Terms → rule.Armed
-armed_by ts = cond ts.any (rule.waiting (rule.both_as_edge (as_masks ts.masks))) rule.unarmed
+armed_by ts = armed_with ts.masks

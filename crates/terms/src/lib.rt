@@ -3,11 +3,11 @@
 
 ghost use Rattle.std.specs.Prelude.{◌≡◌, Bool, ◌^◌};
 ghost use Rattle.rules.specs.Trigger.{both_as_edge, matches, fires};
-ghost use Rattle.terms.specs.Terms.{as_masks, previous_of, no_terms, with_line, with_term};
+ghost use Rattle.terms.specs.Terms.{as_masks, no_terms, with_line, with_term};
 
 use lines::{Mask, TOP_LINE, line_bit};
 
-#[derive(Clone, Copy)]
+#[derive(Clone, Copy, PartialEq, Eq)]
 pub enum Condition {
     Rising,
     Falling,
@@ -24,7 +24,7 @@ pub struct TriggerTerm {
 }
 
 // The lines of each condition.
-#[derive(Clone, Copy)]
+#[derive(Clone, Copy, PartialEq, Eq, Default)]
 pub struct Masks {
     pub high: Mask,
     pub low: Mask,
@@ -33,19 +33,11 @@ pub struct Masks {
     pub edge: Mask,
 }
 
-// What a list of terms comes to: whether there is one, whether a line is above the highest, and the lines that they name.
+// What a list of terms comes to: the lines that they name, once there is a term, and whether a line is above the highest.
 #[derive(Clone, Copy)]
 pub struct Terms {
-    pub any: bool,
+    pub masks: Option<Masks>,
     pub wrong: bool,
-    pub masks: Masks,
-}
-
-// The sample before, once there is one.
-#[derive(Clone, Copy)]
-pub enum Previous {
-    Nothing,
-    Sample(Mask),
 }
 
 impl Terms {
@@ -54,15 +46,8 @@ impl Terms {
         ensures { result ≡ no_terms }
     {
         Terms {
-            any: false,
+            masks: None,
             wrong: false,
-            masks: Masks {
-                high: 0,
-                low: 0,
-                rising: 0,
-                falling: 0,
-                edge: 0,
-            },
         }
     }
 
@@ -70,21 +55,16 @@ impl Terms {
     pub fn with(self, t: TriggerTerm) -> Terms
         ensures { result ≡ with_term self t }
     {
-        let channel = t.channel;
-        let condition = t.condition;
-        let masks = self.masks;
-        if TOP_LINE < channel {
+        let masks = self.masks.unwrap_or_default();
+        if TOP_LINE < t.channel {
             return Terms {
-                any: true,
+                masks: Some(masks),
                 wrong: true,
-                masks,
             };
         }
-        let added = masks.with_line(condition, line_bit(channel));
         Terms {
-            any: true,
+            masks: Some(masks.with_line(t.condition, line_bit(t.channel))),
             wrong: self.wrong,
-            masks: added,
         }
     }
 }
@@ -94,28 +74,41 @@ impl Masks {
     fn with_line(self, condition: Condition, bit: Mask) -> Masks
         ensures { result ≡ with_line self condition bit }
     {
-        let mut next = self;
         match condition {
-            Condition::High => next.high = self.high | bit,
-            Condition::Low => next.low = self.low | bit,
-            Condition::Rising => next.rising = self.rising | bit,
-            Condition::Falling => next.falling = self.falling | bit,
-            Condition::Edge => next.edge = self.edge | bit,
+            Condition::High => Masks {
+                high: self.high | bit,
+                ..self
+            },
+            Condition::Low => Masks {
+                low: self.low | bit,
+                ..self
+            },
+            Condition::Rising => Masks {
+                rising: self.rising | bit,
+                ..self
+            },
+            Condition::Falling => Masks {
+                falling: self.falling | bit,
+                ..self
+            },
+            Condition::Edge => Masks {
+                edge: self.edge | bit,
+                ..self
+            },
         }
-        next
     }
 
     // 02: "a line with both counts as one with Edge, beside any other terms on it". Taken once, when a recorder is armed.
+    #[tactic(auto, unfolding(rules::specs::Trigger::both_as_edge))]
     pub fn both_as_edge(self) -> Masks
         ensures { as_masks result ≡ both_as_edge (as_masks self) }
     {
         let both = self.rising & self.falling;
         Masks {
-            high: self.high,
-            low: self.low,
             rising: self.rising ^ both,
             falling: self.falling ^ both,
             edge: self.edge | both,
+            ..self
         }
     }
 
@@ -131,17 +124,13 @@ impl Masks {
     }
 
     // v after the sample before it, or as the first one.
-    pub fn fires(self, previous: Previous, v: Mask) -> bool
-        ensures { result ≡ fires (as_masks self) (previous_of previous) v }
+    #[tactic(auto, unfolding(rules::specs::Trigger::fires))]
+    pub fn fires(self, previous: Option<Mask>, v: Mask) -> bool
+        ensures { result ≡ fires (as_masks self) previous v }
     {
         match previous {
-            Previous::Sample(p) => self.matches(p, v),
-            Previous::Nothing => {
-                if self.rising | self.falling | self.edge != 0 {
-                    return false;
-                }
-                self.matches(v, v)
-            }
+            Some(p) => self.matches(p, v),
+            None => self.rising | self.falling | self.edge == 0 && self.matches(v, v),
         }
     }
 }
