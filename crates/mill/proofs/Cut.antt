@@ -5,7 +5,7 @@ use mathlib.Core.List.{List, [], ◌∷◌, ◌++◌, map, map-append, append_as
 use native.Mathlib.Numerals.{add-one}
 use native.Mathlib.Omega.{arith}
 use lib.Bits.{bit_and}
-use lib.ListN.{length, get_or, take, drop, set, length-take, length-append, length-drop, length-map}
+use lib.ListN.{length, get_or, take, drop, set, length-take, length-map}
 use lib.Seq.{take-suc, drop-cons, set_at, get_or_at, take_at, drop_at}
 use Rattle.rules.specs.Sample.{list_from, cut_lines}
 use Rattle.rules.specs.Reading.{copied_to}
@@ -25,7 +25,7 @@ module _ (grant : ℕ) where
   cut_none output = refl
 
   -- the next number, which no turn has reached
-  pub cut_next : (i : ℕ) (output : List ℕ) → i < length output → get_or (cut_first grant i output) i 0 ≡ get_or output i 0
+  cut_next : (i : ℕ) (output : List ℕ) → i < length output → get_or (cut_first grant i output) i 0 ≡ get_or output i 0
   unfolding cut_first
   cut_next i output h =
       ap (λ (l : List ℕ). get_or (map granted (take i output) ++ l) i 0) (drop-cons output i 0 h)
@@ -40,10 +40,6 @@ module _ (grant : ℕ) where
       ∙ sym (append_assoc (map granted (take i output)) (granted (get_or output i 0) ∷ []) (drop (suc i) output))
       ∙ ap (λ (l : List ℕ). l ++ drop (suc i) output) (sym (map-append granted (take i output) (get_or output i 0 ∷ [])) ∙ ap (map granted) (sym (take-suc output i 0 h)))
       ∙ ap (λ (k : ℕ). cut_first grant k output) (sym (add-one i))
-
-  pub length_cut : (n : ℕ) (output : List ℕ) → n ≤ length output → length (cut_first grant n output) ≡ length output
-  unfolding cut_first
-  length_cut n output h = length-append (map granted (take n output)) (drop n output) ∙ omega (arith, cut_length n output h, length-drop n output)
 
   -- samples that were copied, cut down
   cut_from : (s : ℕ → ℕ) (p n : ℕ) → map granted (list_from s p n) ≡ list_from (λ i. granted (s i)) p n

@@ -2,36 +2,29 @@
 #![tactic(auto)]
 
 ghost use Rattle.std.specs.Prelude.{◌≡◌, false, ◌≤◌, length};
-ghost use Rattle.rules.specs.Refusal.{most_samples, first_of, store_rows};
+ghost use Rattle.rules.specs.Refusal.{most_samples};
 ghost use Rattle.rules.specs.Mill.{mill_place, place_at, before_first, beyond};
-ghost use Rattle.node.specs.Memory.{level_of};
-ghost use Rattle.capture.specs.Record.{store_of, lent_of};
-ghost use Rattle.mill.specs.Reader.{origin_in, mill_rows, cut_first};
+ghost use Rattle.mill.specs.Reader.{origin_in, Passes, cut_first};
 
-use capture::{Capture, Mark};
+use answer::Refusal;
+use capture::Capture;
+use capture::stored::Stored;
 use lines::Mask;
+use node::Memory;
 use number::{difference, magnitude};
 
 // The place that counts as 0: the mark, or the first sample.
 pub fn origin(c: Capture) -> usize
     ensures { result ≡ origin_in c }
 {
-    let mark = c.trigger;
-    match mark {
-        Mark::Absent => 0,
-        Mark::At(k) => k,
-    }
+    c.trigger.unwrap_or(0)
 }
 
 // Row 13: p lies before the first sample.
 pub fn lies_before(origin: usize, p: i64) -> bool
     ensures { result ≡ before_first origin p }
 {
-    let n = magnitude(p);
-    if p < 0 {
-        return origin <= n;
-    }
-    false
+    p < 0 && origin <= magnitude(p)
 }
 
 // The place of the run that p is.
@@ -40,10 +33,7 @@ pub fn place_at(origin: usize, p: i64) -> usize
     ensures { result ≡ place_at origin p }
 {
     let n = magnitude(p);
-    if p < 0 {
-        return origin - (n + 1);
-    }
-    origin + n
+    if p < 0 { origin - (n + 1) } else { origin + n }
 }
 
 // The place i of the run, as a mill counts it.
@@ -61,46 +51,35 @@ pub fn beyond(grant: Mask, mask: Mask) -> bool
     mask & grant != mask
 }
 
-// Rows 1, 2, 12 and 13 of a mill's call: the number of the first that holds, or 0. A call without a mask is never outside the grant, and one with
-// a single place gives 0 as the second, which is never before the first sample.
-pub fn refusal<'a>(
+// Rows 1, 2, 12 and 13 of a mill's call: what its capture stores, or the first row that holds. A call without a mask is never outside the grant,
+// and one with a single place gives 0 as the second, which is never before the first sample.
+pub fn check<'a>(
     c: Capture,
-    samples: &[u8],
-    l1: &'a [Mask],
-    l2: &'a [Mask],
-    l3: &'a [Mask],
-    l4: &'a [Mask],
+    memory: Memory<'a>,
     outside: bool,
     p: i64,
     q: i64,
-) -> u8
-    ensures { result ≡ first_of (store_rows (store_of c) (lent_of samples.now (level_of l1.now l2.now l3.now l4.now)) (mill_rows (store_of c) outside p q)) }
+) -> Result<Stored<'a>, Refusal>
+    ensures { Passes c memory.entry outside p q result }
 {
-    let number = capture::refusal(c, samples, l1, l2, l3, l4);
-    if number != 0 {
-        return number;
-    }
+    let stored = c.open(memory)?;
     if outside {
-        return 12;
+        return Err(Refusal::Grant);
     }
     let from = origin(c);
-    if lies_before(from, p) {
-        return 13;
+    if lies_before(from, p) || lies_before(from, q) {
+        return Err(Refusal::Before);
     }
-    if lies_before(from, q) {
-        return 13;
-    }
-    0
+    Ok(stored)
 }
 
 // The first n numbers of output show granted lines only.
+#[tactic(auto, using(crate::proofs::Cut::cut_none, crate::proofs::Cut::cut_turn))]
 pub fn cut_down(output: &mut [Mask], n: usize, grant: Mask)
     requires { n ≤ length output.old }
     ensures { output.new ≡ cut_first grant n output.old }
 {
-    let mut i = 0;
-    while i < n {
-        output[i] = output[i] & grant;
-        i += 1;
+    for i in 0..n {
+        output[i] &= grant;
     }
 }
