@@ -2,6 +2,6 @@ pub mod Node
 pub mod Going
 pub mod Way
 pub mod Line
-pub mod Part
+pub mod Parts
 pub mod Turn
 pub mod Samples

@@ -8,31 +8,30 @@ use native.Mathlib.Nat.{div-one}
 use native.Mathlib.Decide.{dec_lt, ℕ_discrete}
 use native.Mathlib.Omega.{arith}
 use borrow.Author.Tests.{eq-eqb, ne_eqb, lt-ltb, le-ltb}
-use Rattle.rules.specs.Sample.{sample_of}
-use Rattle.rules.specs.Node.{leaf, mirror, chunk, top_level}
+use Rattle.rules.specs.Node.{mirror, chunk, top_level}
 use Rattle.rules.specs.Walk.{Walked, nothing, walk_from}
-use Rattle.node.specs.Memory.{reader_of}
+use Rattle.node.specs.Lent.{levels_of}
 use Rattle.node.proofs.NodeMemory.{reads_sample}
-use Rattle.find.specs.Part.{Bytes}
-use Rattle.find.specs.Run.{node_at, nth_node, NthHeld, RunHeld, Run}
+use Rattle.capture.specs.Stored.{reader_in}
+use Rattle.capture.specs.declared.stored.Stored.{Stored}
+use Rattle.capture.proofs.Backed.{sample_held}
+use Rattle.find.specs.Run.{nth_node, NthHeld, RunHeld, Run}
 use Rattle.find.specs.Way.{way_in, moved, left_in, to_border}
-use Rattle.find.specs.Near.{few, few_stored, found_after, Near}
-use Rattle.find.proofs.Node.{at_sample}
+use Rattle.find.specs.Near.{few, few_stored, leaf_in, found_after, Near}
 use Rattle.find.proofs.Going.{told, going_starts}
 use Rattle.find.proofs.Way.{Placed, Stretch, best_within}
 use Rattle.find.proofs.Line.{run_found, stretch_line}
-use Rattle.find.proofs.Part.{bytes_held}
 
 -- ---- what `near` answers, m samples being asked
-module _ (unit len : ℕ) (samples level : List ℕ) (back : Bool) (p mask v m k u : ℕ) (em : m ≡ few_stored back len p) (r : Run (nth_node back (node_at unit samples level 0) p) mask v m k u) where
-  asked : Run (nth_node back (node_at unit samples level 0) p) mask v (few_stored back len p) k u
-  asked = subst (λ (x : ℕ). Run (nth_node back (node_at unit samples level 0) p) mask v x k u) em r
+module _ (s : Stored) (back : Bool) (p mask v m k u : ℕ) (em : m ≡ few_stored back s.len p) (r : Run (nth_node back (leaf_in s) p) mask v m k u) where
+  asked : Run (nth_node back (leaf_in s) p) mask v (few_stored back s.len p) k u
+  asked = subst (λ (x : ℕ). Run (nth_node back (leaf_in s) p) mask v x k u) em r
 
-  pub near_found : k < m → {q : ℕ} → q ≡ moved back p k → Near unit len samples level back mask p v (told (Some q) (k + 1))
-  near_found h eq = record { count = k; value = u; passed = asked; answer_is = ap (λ (x : ℕ). told (Some x) (k + 1)) eq ∙ sym (ap (λ (b : Bool). cond b (found_after back p k) nothing) (lt-ltb k (few_stored back len p) (omega arith))) }
+  pub near_found : k < m → {q : ℕ} → q ≡ moved back p k → Near s back mask p v (told (Some q) (k + 1))
+  near_found h eq = record { count = k; value = u; passed = asked; answer_is = ap (λ (x : ℕ). told (Some x) (k + 1)) eq ∙ sym (ap (λ (b : Bool). cond b (found_after back p k) nothing) (lt-ltb k (few_stored back s.len p) (omega arith))) }
 
-  pub near_none : m ≤ k → Near unit len samples level back mask p v nothing
-  near_none h = record { count = k; value = u; passed = asked; answer_is = sym (ap (λ (b : Bool). cond b (found_after back p k) nothing) (le-ltb k (few_stored back len p) (omega arith))) }
+  pub near_none : m ≤ k → Near s back mask p v nothing
+  near_none h = record { count = k; value = u; passed = asked; answer_is = sym (ap (λ (b : Bool). cond b (found_after back p k) nothing) (le-ltb k (few_stored back s.len p) (omega arith))) }
 
 -- ---- the walk
 -- what few says of n samples
@@ -47,28 +46,28 @@ free back p n h = go (ℕ_discrete (p % 32) 0)
     go (yes z) = let e : few back p ≡ 0 = ap (λ (b : Bool). cond b 0 (min (to_border back p) 8)) (eq-eqb _ _ z) in record { between = λ i _. omega arith; border = omega arith }
     go (no z) = let e : few back p ≡ min (to_border back p) 8 = ap (λ (b : Bool). cond b 0 (min (to_border back p) 8)) (ne_eqb _ _ z) in record { between = λ _. z; border = omega arith }
 
-module _ (unit len : ℕ) (samples level : List ℕ) (back : Bool) (p : ℕ) (hp : p ≤ len) where
+module _ (s : Stored) (back : Bool) (p : ℕ) (hp : p ≤ s.len) where
   abbrev n : ℕ
-  n = few_stored back len p
+  n = few_stored back s.len p
 
-  pub few_held : Bytes unit len samples → len < 18446744073709551616 → RunHeld unit samples level 0 back p n
-  few_held r m = record { each = λ k h. each k h back (omega arith) }
+  pub few_held : (level : List ℕ) → RunHeld s.unitsize s.memory.samples.now level 0 back p n
+  few_held level = record { each = λ k h. each k h back (omega arith) }
     where
-      each : (k : ℕ) → k < n → (b : Bool) → n ≤ left_in b 0 len p → NthHeld unit samples level 0 b p k
-      each k h true i = record { behind = λ _. omega arith; ahead = λ z. absurd (true≢false z); held = record { sample = λ _. bytes_held unit len (p - (k + 1)) samples r (omega arith); node = λ z. absurd (z refl) } }
-      each k h false i = record { behind = λ z. absurd (false≢true z); ahead = λ _. omega arith; held = record { sample = λ _. bytes_held unit len (p + k) samples r (omega arith); node = λ z. absurd (z refl) } }
+      each : (k : ℕ) → k < n → (b : Bool) → n ≤ left_in b 0 s.len p → NthHeld s.unitsize s.memory.samples.now level 0 b p k
+      each k h true i = record { behind = λ _. omega arith; ahead = λ z. absurd (true≢false z); held = record { sample = λ _. sample_held s.backed.bytes (p - (k + 1)) (omega arith); node = λ z. absurd (z refl) } }
+      each k h false i = record { behind = λ z. absurd (false≢true z); ahead = λ _. omega (arith, s.backed.most); held = record { sample = λ _. sample_held s.backed.bytes (p + k) (omega arith); node = λ z. absurd (z refl) } }
 
-  module _ (mask v k u : ℕ) (r : Run (nth_node back (node_at unit samples level 0) p) mask v n k u) (h : k < n) where
-    module _ (levels : ℕ → List ℕ) (c : ℕ) (low : c * chunk ≤ p) (high : p ≤ (c + 1) * chunk) where
+  module _ (mask v k u : ℕ) (r : Run (nth_node back (leaf_in s) p) mask v n k u) (h : k < n) where
+    module _ (c : ℕ) (low : c * chunk ≤ p) (high : p ≤ (c + 1) * chunk) where
       abbrev hi : ℕ
-      hi = min ((c + 1) * chunk) len
+      hi = min ((c + 1) * chunk) s.len
 
-      inside : (b : Bool) → n ≤ left_in b 0 len p → n ≤ to_border b p → n ≤ left_in b (c * chunk) hi p
+      inside : (b : Bool) → n ≤ left_in b 0 s.len p → n ≤ to_border b p → n ≤ left_in b (c * chunk) hi p
       inside true i j = let z : p % 32 ≡ 0 → ⊥ = (free back p n (omega arith)).between (omega arith) in omega arith
       inside false i j = let z : p % 32 ≡ 0 → ⊥ = (free back p n (omega arith)).between (omega arith) in omega arith
 
-      found_there : found_after back p k ≡ walk_from (way_in back (reader_of unit samples levels) (c * chunk) hi) mask p v
-      found_there = ap₂ (λ (x n : ℕ). told (Some (moved back p x)) n) place counts ∙ run_found (going_starts (way_in back (reader_of unit samples levels) (c * chunk) hi) mask p v) (stretch_line back (reader_of unit samples levels) (c * chunk) hi p (left_in back (c * chunk) hi p) top_level 0 1 n placed taken (nth_node back (node_at unit samples level 0) p) (λ j _. reads j back)) r h refl
+      found_there : found_after back p k ≡ walk_from (way_in back (reader_in s) (c * chunk) hi) mask p v
+      found_there = ap₂ (λ (x n : ℕ). told (Some (moved back p x)) n) place counts ∙ run_found (going_starts (way_in back (reader_in s) (c * chunk) hi) mask p v) (stretch_line back (reader_in s) (c * chunk) hi p (left_in back (c * chunk) hi p) top_level 0 1 n placed taken (nth_node back (leaf_in s) p) (λ j _. reads j back)) r h refl
         where
           place : k ≡ k * 1
           place = omega arith
@@ -90,18 +89,18 @@ module _ (unit len : ℕ) (samples level : List ℕ) (back : Bool) (p : ℕ) (hp
             fits = omega (arith, fits);
           }
 
-          reads : (j : ℕ) (b : Bool) → nth_node b (node_at unit samples level 0) p j ≡ (way_in b (reader_of unit samples levels) (c * chunk) hi).node 0 (moved b p (j * 1))
-          reads j true = ap mirror (at_sample unit samples level 0 (p - (j + 1)) refl ∙ ap (λ (x : ℕ). leaf (sample_of unit samples x)) (omega arith) ∙ sym (reads_sample unit samples levels 0 (p - j * 1 - 1) refl))
-          reads j false = at_sample unit samples level 0 (p + j) refl ∙ ap (λ (x : ℕ). leaf (sample_of unit samples x)) (omega arith) ∙ sym (reads_sample unit samples levels 0 (p + j * 1) refl)
+          reads : (j : ℕ) (b : Bool) → nth_node b (leaf_in s) p j ≡ (way_in b (reader_in s) (c * chunk) hi).node 0 (moved b p (j * 1))
+          reads j true = ap mirror (ap (leaf_in s) (omega arith) ∙ sym (reads_sample s.unitsize s.memory.samples.now (levels_of s.memory.levels) 0 (p - j * 1 - 1) refl))
+          reads j false = ap (leaf_in s) (omega arith) ∙ sym (reads_sample s.unitsize s.memory.samples.now (levels_of s.memory.levels) 0 (p + j * 1) refl)
 
-  -- what is found is what the walk in p's chunk finds, in as many steps, whatever levels hold
-  pub near_finds : {mask v : ℕ} {answer : Walked} → Near unit len samples level back mask p v answer → (answer.found ≡ None → ⊥) → (levels : ℕ → List ℕ) (c : ℕ) → c * chunk ≤ p → p ≤ (c + 1) * chunk
-      → answer ≡ walk_from (way_in back (reader_of unit samples levels) (c * chunk) (min ((c + 1) * chunk) len)) mask p v
-  near_finds {mask} {v} {answer} r t levels c low high = go (dec_lt r.count n)
+  -- what is found is what the walk in p's chunk finds, in as many steps, whatever memory holds
+  pub near_finds : {mask v : ℕ} {answer : Walked} → Near s back mask p v answer → (answer.found ≡ None → ⊥) → (c : ℕ) → c * chunk ≤ p → p ≤ (c + 1) * chunk
+      → answer ≡ walk_from (way_in back (reader_in s) (c * chunk) (min ((c + 1) * chunk) s.len)) mask p v
+  near_finds {mask} {v} {answer} r t c low high = go (dec_lt r.count n)
     where
       answers : Bool → Walked
       answers b = cond b (found_after back p r.count) nothing
 
-      go : Dec (r.count < n) → answer ≡ walk_from (way_in back (reader_of unit samples levels) (c * chunk) (min ((c + 1) * chunk) len)) mask p v
-      go (yes h) = r.answer_is ∙ ap answers (lt-ltb r.count n h) ∙ found_there mask v r.count r.value r.passed h levels c low high
+      go : Dec (r.count < n) → answer ≡ walk_from (way_in back (reader_in s) (c * chunk) (min ((c + 1) * chunk) s.len)) mask p v
+      go (yes h) = r.answer_is ∙ ap answers (lt-ltb r.count n h) ∙ found_there mask v r.count r.value r.passed h c low high
       go (no h) = absurd (t (ap (λ (w : Walked). w.found) (r.answer_is ∙ ap answers (le-ltb r.count n (omega arith)))))

@@ -12,20 +12,20 @@ use Rattle.rules.specs.Walk.{Walked, walk_from}
 use Rattle.rules.proofs.Walk.{span_pos}
 use Rattle.rules.proofs.Steps.{walk_steps_le}
 use Rattle.level.specs.Best.{Best}
-use Rattle.find.specs.Part.{reader_from, Part}
+use Rattle.find.specs.Part.{reader_from, PartBacked}
 use Rattle.find.specs.Run.{node_at, nth_node, RunHeld, Run}
 use Rattle.find.specs.Way.{way_in, moved, left_in, to_border, number_in}
 use Rattle.find.specs.Takes.{Takes}
 use Rattle.find.proofs.Going.{told, Going, going_starts, going_counts, going_end}
 use Rattle.find.proofs.Way.{Placed, room_most, placed_moved, moves_fit, Stretch, stretch_of, stretch_some, left_is}
 use Rattle.find.proofs.Line.{Line, run_past, run_found, run_lower, stretch_line}
-use Rattle.find.proofs.Part.{run_reads, run_held}
+use Rattle.find.proofs.Parts.{run_reads, run_held}
 
 -- ---- taking a level
 -- what `take` knows before it asks n nodes, from number `from` of the level's list on
 module _ (back : Bool) (unit base hi : ℕ) (part : List ℕ) (levels : ℕ → List ℕ) (pos room cap l s n from : ℕ) (level : List ℕ)
     (e : room ≡ left_in back base hi pos) (b : Best pos room cap l) (es : s ≡ span l) (en : n ≡ min (to_border back (pos / s)) (room / s)) (ef : from ≡ number_in base l s pos) (el : level ≡ levels l) where
-  pub take_held : Part unit base hi part levels → base ≤ pos → pos ≤ hi → cap ≤ top_level → hi < 18446744073709551616 → RunHeld unit part level l back from n
+  pub take_held : PartBacked unit base hi part levels → base ≤ pos → pos ≤ hi → cap ≤ top_level → hi < 18446744073709551616 → RunHeld unit part level l back from n
   take_held r low high top m =
       subst₂ (λ (t : List ℕ) (f : ℕ). RunHeld unit part t l back f n) (sym el) (sym ef)
       (run_held back base hi pos room cap l s n (record { low = low; high = high; room_is = e }) (stretch_of back pos room cap l s n b es en) unit part levels r (omega (arith, b.below)) m)

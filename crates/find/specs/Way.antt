@@ -1,20 +1,12 @@
 -- The two ways of a search within a chunk that is stored from base to hi, by whether it goes back.
 use Rattle.std.specs.Prelude.{Bool, true, false, cond, ℕ, ◌+◌, ◌-◌, ◌/◌, ◌%◌, eqb}
-use Rattle.std.specs.Prelude.{None, Some}
 use Rattle.rules.specs.Node.{Node}
-use Rattle.rules.specs.Walk.{Walked, Way, forward, backward, all_levels}
-use Rattle.find.specs.declared.Place.{Place}
-use Rattle.find.specs.declared.Place.TheVariants.{At, Nothing}
+use Rattle.rules.specs.Walk.{Way, forward, backward, all_levels}
 
 -- 01's walk
 abbrev pub way_in : Bool → (ℕ → ℕ → Node) → ℕ → ℕ → Way
 way_in true reader base hi = backward all_levels reader base
 way_in false reader base hi = forward all_levels reader hi
-
--- a chunk's answer: what is found, and "the count of nodes read, samples at level 0 included, equal to the steps of 01's walk" (02, CR 3)
-abbrev pub place_of : Place → Walked
-place_of (At i n) = record { found = Some i; steps = n }
-place_of (Nothing n) = record { found = None; steps = n }
 
 -- the place d samples on
 abbrev pub moved : Bool → ℕ → ℕ → ℕ

@@ -3,28 +3,25 @@
 // `back` says which way: forward and backward are one loop, the source's find_fwd and find_back.
 #![tactic(auto)]
 
+pub mod part;
+
 ghost use Rattle.std.specs.Prelude.{◌≡◌, true, false, ◌+◌, ◌-◌, ◌*◌, ◌/◌, ◌≤◌, ◌<◌};
 ghost use Rattle.rules.specs.Node.{mirror, top_level, chunk};
 ghost use Rattle.rules.specs.Walk.{walk_from};
-ghost use Rattle.node.specs.Memory.{as_node, level_of};
-ghost use Rattle.find.specs.Part.{reader_from, Bytes, Part};
-ghost use Rattle.find.specs.Run.{node_at, nth_node, NodeHeld, NthHeld, RunHeld, Run};
-ghost use Rattle.find.specs.Way.{moved, left_in, to_border, number_in, way_in, place_of};
-ghost use Rattle.find.specs.Takes.{Takes};
+ghost use Rattle.answer.specs.Answered.{counted_of};
+ghost use Rattle.node.specs.Memory.{as_node};
+ghost use Rattle.find.specs.Run.{nth_node, Run};
+ghost use Rattle.find.specs.Row.{row_node, NodeIn, NthIn, RunIn};
+ghost use Rattle.find.specs.Way.{moved, left_in, to_border, number_in};
+ghost use Rattle.find.specs.Takes.{walk_in, Took};
 ghost use Rattle.find.specs.Near.{few, Near};
 
-use level::FAN;
+use answer::Counted;
+use capture::stored::Stored;
+use level::{FAN, LEVELS};
 use lines::Mask;
 use node::Node;
-use number::lesser;
-
-// The answer of a chunk: a place and the nodes read, or these alone.
-// 02, CR 3: "Every forward and backward search returns the count of nodes read, samples at level 0 included".
-#[derive(Clone, Copy)]
-pub enum Place {
-    At(usize, usize),
-    Nothing(usize),
-}
+use part::Part;
 
 // Nodes passed: how many, and the value that the last of them ends with.
 #[derive(Clone, Copy)]
@@ -33,15 +30,13 @@ struct Passed {
     value: Mask,
 }
 
-// Node i of a level; of level 0 it is sample i of the part.
-fn node_at(part: &[u8], level: &[Mask], unitsize: usize, l: usize, i: usize) -> Node
-    requires { NodeHeld unitsize part.now level.now l i }
-    ensures { as_node result ≡ node_at unitsize part.now level.now l i }
-{
-    if l == 0 {
-        return Node::leaf(lines::get(part, unitsize, i));
-    }
-    node::node_in(level, i)
+// The nodes of one level; those of level 0 are the samples, of a part or of a whole capture, and then `level` is any level's slice.
+#[derive(Clone, Copy)]
+pub struct Row<'a> {
+    pub unitsize: usize,
+    pub samples: &'a [u8],
+    pub level: &'a [Mask],
+    pub l: usize,
 }
 
 // The node read from its other end.
@@ -51,58 +46,50 @@ fn mirror(n: Node) -> Node
     Node {
         first: n.last,
         last: n.first,
-        mask: n.mask,
-        count: n.count,
+        ..n
     }
 }
 
-// The node after k others from number `from` on, or before k others from there down; its near end is its first.
-pub fn nth(
-    part: &[u8],
-    level: &[Mask],
-    unitsize: usize,
-    l: usize,
-    back: bool,
-    from: usize,
-    k: usize,
-) -> Node
-    requires { NthHeld unitsize part.now level.now l back from k }
-    ensures { as_node result ≡ nth_node back (node_at unitsize part.now level.now l) from k }
-{
-    if back {
-        return mirror(node_at(part, level, unitsize, l, from - (k + 1)));
-    }
-    node_at(part, level, unitsize, l, from + k)
-}
-
-// How many of n nodes can be passed, up to the first that is not quiet; before is the value before them.
-// One loop for samples and nodes, forward and backward: what does not change in it is asked once, outside.
-fn run(
-    part: &[u8],
-    level: &[Mask],
-    unitsize: usize,
-    l: usize,
-    back: bool,
-    from: usize,
-    n: usize,
-    before: Mask,
-    mask: Mask,
-) -> Passed
-    requires { RunHeld unitsize part.now level.now l back from n }
-    ensures { Run (nth_node back (node_at unitsize part.now level.now l) from) mask before n result.count result.value }
-{
-    let mut value = before;
-    let mut k = 0;
-    while k < n {
-        let m = nth(part, level, unitsize, l, back, from, k);
-        if m.quiet(value, mask) {
-            value = m.last;
-            k += 1;
-        } else {
-            return Passed { count: k, value };
+impl<'a> Row<'a> {
+    // Node i.
+    #[tactic(auto, unfolding(crate::specs::Run::node_at))]
+    fn node(&self, i: usize) -> Node
+        requires { NodeIn self.now i }
+        ensures { as_node result ≡ row_node self.now i }
+    {
+        if self.l == 0 {
+            return Node::leaf(lines::get(self.samples, self.unitsize, i));
         }
+        node::node_in(self.level, i)
     }
-    Passed { count: k, value }
+
+    // The node after k others from number `from` on, or before k others from there down; its near end is its first.
+    pub fn nth(&self, back: bool, from: usize, k: usize) -> Node
+        requires { NthIn self.now back from k }
+        ensures { as_node result ≡ nth_node back (row_node self.now) from k }
+    {
+        if back {
+            return mirror(self.node(from - (k + 1)));
+        }
+        self.node(from + k)
+    }
+
+    // How many of n nodes can be passed, up to the first that is not quiet; before is the value before them.
+    // One loop for samples and nodes, forward and backward: what does not change in it is asked once, outside.
+    fn run(&self, back: bool, from: usize, n: usize, before: Mask, mask: Mask) -> Passed
+        requires { RunIn self.now back from n }
+        ensures { Run (nth_node back (row_node self.now) from) mask before n result.count result.value }
+    {
+        let mut value = before;
+        for k in 0..n {
+            let m = self.nth(back, from, k);
+            if !m.quiet(value, mask) {
+                return Passed { count: k, value };
+            }
+            value = m.last;
+        }
+        Passed { count: n, value }
+    }
 }
 
 // The place d samples on.
@@ -113,7 +100,7 @@ pub fn moved(back: bool, pos: usize, d: usize) -> usize
     if back { pos - d } else { pos + d }
 }
 
-// How many samples of the part are left to look at.
+// How many samples of a part are left to look at.
 fn left(back: bool, base: usize, hi: usize, pos: usize) -> usize
     requires { (base ≤ pos) × (pos ≤ hi) }
     ensures { result ≡ left_in back base hi pos }
@@ -151,31 +138,22 @@ pub struct Taken {
 }
 
 // At pos, takes the highest level up to maxl that fits, and passes what can be passed of a run of its nodes.
-pub fn take<'a>(
-    part: &[u8],
-    l1: &'a [Mask],
-    l2: &'a [Mask],
-    l3: &'a [Mask],
-    l4: &'a [Mask],
-    unitsize: usize,
-    base: usize,
-    hi: usize,
-    back: bool,
-    mask: Mask,
-    pos: usize,
-    maxl: usize,
-    before: Mask,
-) -> Taken
-    requires { Part unitsize base hi part.now (level_of l1.now l2.now l3.now l4.now) × (base ≤ pos) × (pos ≤ hi) × (1 ≤ left_in back base hi pos) × (maxl ≤ top_level) }
-    ensures { Takes back unitsize base hi part.now (level_of l1.now l2.now l3.now l4.now) mask pos maxl before result.l result.s result.n result.count result.value }
+pub fn take(part: &Part<'_>, back: bool, mask: Mask, pos: usize, maxl: usize, before: Mask) -> Taken
+    requires { (part.now.base ≤ pos) × (pos ≤ part.now.hi) × (1 ≤ left_in back part.now.base part.now.hi pos) × (maxl ≤ top_level) }
+    ensures { Took part.now back mask pos maxl before result }
 {
-    let room = left(back, base, hi, pos);
+    let room = left(back, part.base, part.hi, pos);
     let l = level::best_level(pos, room, maxl);
     let s = level::span(l);
-    let n = lesser(to_border(back, pos / s), room / s);
-    let from = number(base, l, s, pos);
-    let level = node::level_of(l1, l2, l3, l4, l);
-    let r = run(part, level, unitsize, l, back, from, n, before, mask);
+    let n = to_border(back, pos / s).min(room / s);
+    let from = number(part.base, l, s, pos);
+    let row = Row {
+        unitsize: part.unitsize,
+        samples: part.samples,
+        level: part.levels.level(l),
+        l,
+    };
+    let r = row.run(back, from, n, before, mask);
     Taken {
         l,
         s,
@@ -187,32 +165,17 @@ pub fn take<'a>(
 
 // The first place of the part from start on at which a masked line changes, before being the value before it;
 // backward the last one up to start and above base, before being the value at start. The part is a chunk's, so the count fits.
-pub fn find<'a>(
-    part: &[u8],
-    l1: &'a [Mask],
-    l2: &'a [Mask],
-    l3: &'a [Mask],
-    l4: &'a [Mask],
-    unitsize: usize,
-    base: usize,
-    hi: usize,
-    back: bool,
-    mask: Mask,
-    start: usize,
-    before: Mask,
-) -> Place
-    requires { Part unitsize base hi part.now (level_of l1.now l2.now l3.now l4.now) × (base ≤ start) × (start ≤ hi) × (hi ≤ base + chunk) }
-    ensures { place_of result ≡ walk_from (way_in back (reader_from base unitsize part.now (level_of l1.now l2.now l3.now l4.now)) base hi) mask start before }
+pub fn find(part: &Part<'_>, back: bool, mask: Mask, start: usize, before: Mask) -> Counted<usize>
+    requires { (part.now.base ≤ start) × (start ≤ part.now.hi) × (part.now.hi ≤ part.now.base + chunk) }
+    ensures { counted_of result ≡ walk_from (walk_in part.now back) mask start before }
 {
     let mut pos = start;
-    let mut room = left(back, base, hi, start);
-    let mut maxl = level::LEVELS;
+    let mut room = left(back, part.base, part.hi, start);
+    let mut maxl = LEVELS;
     let mut value = before;
     let mut count = 0;
     while 0 < room {
-        let t = take(
-            part, l1, l2, l3, l4, unitsize, base, hi, back, mask, pos, maxl, value,
-        );
+        let t = take(part, back, mask, pos, maxl, value);
         let d = t.count * t.s;
         pos = moved(back, pos, d);
         room -= d;
@@ -221,12 +184,18 @@ pub fn find<'a>(
         if t.count < t.n {
             count += 1; // the node that stopped the run was read too
             if t.l == 0 {
-                return Place::At(pos, count);
+                return Counted {
+                    found: Some(pos),
+                    steps: count,
+                };
             }
             maxl = t.l - 1; // never raised again in this chunk
         }
     }
-    Place::Nothing(count)
+    Counted {
+        found: None,
+        steps: count,
+    }
 }
 
 // How many samples are looked at before anything else.
@@ -239,30 +208,38 @@ fn few(back: bool, pos: usize) -> usize
     if pos % FAN == 0 {
         return 0;
     }
-    lesser(to_border(back, pos), FEW)
+    to_border(back, pos).min(FEW)
 }
 
-// The find of a capture of len samples, where it is one of the next few: with dense changes nothing more is looked at.
+// The find of a capture, where it is one of the next few samples: with dense changes nothing more is looked at.
 // What it finds is the walk's, and so is the count (proofs/Samples.antt, near_finds); where it finds nothing the walk starts anew, and it
-// counts nothing. level is any level's slice.
+// counts nothing.
 pub fn near(
-    samples: &[u8],
-    level: &[Mask],
-    unitsize: usize,
-    len: usize,
+    stored: &Stored<'_>,
     back: bool,
     mask: Mask,
     start: usize,
     before: Mask,
-) -> Place
-    requires { Bytes unitsize len samples.now × (start ≤ len) }
-    ensures { Near unitsize len samples.now level.now back mask start before (place_of result) }
+) -> Counted<usize>
+    requires { start ≤ stored.now.len }
+    ensures { Near stored.now back mask start before (counted_of result) }
 {
-    let n = lesser(few(back, start), left(back, 0, len, start));
-    let r = run(samples, level, unitsize, 0, back, start, n, before, mask);
+    let row = Row {
+        unitsize: stored.unitsize,
+        samples: stored.memory.samples,
+        level: stored.memory.levels.l1,
+        l: 0,
+    };
+    let n = few(back, start).min(left(back, 0, stored.len, start));
+    let r = row.run(back, start, n, before, mask);
     if r.count < n {
-        let count = r.count + 1; // the sample that is found was read too
-        return Place::At(moved(back, start, r.count), count);
+        return Counted {
+            found: Some(moved(back, start, r.count)),
+            steps: r.count + 1, // the sample that is found was read too
+        };
     }
-    Place::Nothing(0)
+    Counted {
+        found: None,
+        steps: 0,
+    }
 }

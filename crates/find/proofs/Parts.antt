@@ -12,9 +12,10 @@ use lib.ListN.{length}
 use Rattle.rules.specs.Sample.{sample_of}
 use Rattle.rules.specs.Node.{leaf, mirror, span, top_level}
 use Rattle.rules.specs.Refusal.{node_size}
-use Rattle.lines.specs.Held.{Held}
 use Rattle.node.specs.Memory.{node_in}
-use Rattle.find.specs.Part.{reader_from, Bytes, Part}
+use Rattle.capture.specs.Backed.{Bytes}
+use Rattle.capture.proofs.Backed.{sample_held}
+use Rattle.find.specs.Part.{reader_from, PartBacked}
 use Rattle.find.specs.Run.{node_at, nth_number, nth_node, NodeHeld, NthHeld, RunHeld}
 use Rattle.find.specs.Way.{way_in, moved, left_in, number_in}
 use Rattle.find.proofs.Way.{Placed, Stretch, some_samples, room_for, place_after}
@@ -38,10 +39,7 @@ module _ (base unit : ℕ) (part : List ℕ) (levels : ℕ → List ℕ) (l p : 
       go true = refl
       go false = refl
 
--- samples within bytes, n of them
-pub bytes_held : (unit n p : ℕ) (bytes : List ℕ) → Bytes unit n bytes → p < n → Held unit p (length bytes)
-bytes_held unit n p bytes b h = record { unit_size = b.unit_size; room = omega (arith, mul-le-mul_right unit h, b.room) }
-
+-- bytes of n samples hold fewer
 pub bytes_less : (unit n k : ℕ) (bytes : List ℕ) → Bytes unit n bytes → k ≤ n → Bytes unit k bytes
 bytes_less unit n k bytes b h = record { unit_size = b.unit_size; room = omega (arith, mul-le-mul_right unit h, b.room) }
 
@@ -69,9 +67,9 @@ module _ (base l s : ℕ) (e : s ≡ span l) (some : 1 ≤ s) where
       go (no z) = omega (arith, number_above p z, div-le_self p s)
 
   -- the node at p lies in memory
-  number_held : (unit hi p : ℕ) (part : List ℕ) (levels : ℕ → List ℕ) → Part unit base hi part levels → l ≤ top_level → base ≤ p → p + s ≤ hi → NodeHeld unit part (levels l) l (number_in base l s p)
+  number_held : (unit hi p : ℕ) (part : List ℕ) (levels : ℕ → List ℕ) → PartBacked unit base hi part levels → l ≤ top_level → base ≤ p → p + s ≤ hi → NodeHeld unit part (levels l) l (number_in base l s p)
   number_held unit hi p part levels r top low high = record {
-    sample = λ z. bytes_held unit (hi - base) (number_in base l s p) part r.bytes (omega (arith, number_zero p z));
+    sample = λ z. sample_held r.bytes (number_in base l s p) (omega (arith, number_zero p z));
     node = λ z. subst (λ (x : ℕ). x * node_size + node_size ≤ length (levels l)) (sym (number_above p z)) (r.nodes.inside l (p / s) (omega arith) top (subst (λ (x : ℕ). p / s * x < hi) e (omega (arith, div-add-mod' p s))));
   }
 
@@ -115,7 +113,7 @@ module _ (back : Bool) (base hi pos room cap l s n : ℕ) (p : Placed back base 
           go true e = ap mirror (at _ (pos - k * s - s) (number_nth true p.low e) ∙ ap (λ (x : ℕ). reader_from base unit part levels l (pos - k * s - x)) t.span_is)
           go false e = at _ (pos + k * s) (number_nth false p.low e)
 
-      nth_held : Part unit base hi part levels → l ≤ top_level → hi < 18446744073709551616 → NthHeld unit part (levels l) l back (number_in base l s pos) k
+      nth_held : PartBacked unit base hi part levels → l ≤ top_level → hi < 18446744073709551616 → NthHeld unit part (levels l) l back (number_in base l s pos) k
       nth_held r top m = record {
         behind = λ z. omega (arith, number_back (p.room_is ∙ ap (λ (b : Bool). left_in b base hi pos) z));
         ahead = λ z. before (p.room_is ∙ ap (λ (b : Bool). left_in b base hi pos) z);
@@ -129,5 +127,5 @@ module _ (back : Bool) (base hi pos room cap l s n : ℕ) (p : Placed back base 
       → nth_node back (node_at unit part (levels l) l) (number_in base l s pos) k ≡ (way_in back (reader_from base unit part levels) base hi).node l (place_after back base hi pos room cap l s n p t k)
   run_reads unit part levels k h = nth_reads k h unit part levels
 
-  pub run_held : (unit : ℕ) (part : List ℕ) (levels : ℕ → List ℕ) → Part unit base hi part levels → l ≤ top_level → hi < 18446744073709551616 → RunHeld unit part (levels l) l back (number_in base l s pos) n
+  pub run_held : (unit : ℕ) (part : List ℕ) (levels : ℕ → List ℕ) → PartBacked unit base hi part levels → l ≤ top_level → hi < 18446744073709551616 → RunHeld unit part (levels l) l back (number_in base l s pos) n
   run_held unit part levels r top m = record { each = λ k h. nth_held k h unit part levels r top m }
