@@ -1,15 +1,17 @@
--- Laws of a range taken part by part: what a loop over the parts knows, that other parts with the same nodes give the same, and that true nodes give the range's node.
+-- Laws of a range taken part by part: what a loop over the parts knows, and that true nodes give the range's node.
 use Prim.Native.Nat.{ℕ, zero, suc, ◌-◌, ◌≤◌, ◌<◌}
-use mathlib.Core.Path.{◌≡◌, refl, sym, ap, ap₂, ◌∙◌}
+use mathlib.Core.Path.{◌≡◌, refl, sym, ap, ap₂, ◌∙◌, subst}
 use mathlib.Core.Bool.{Bool, cond}
-use native.Mathlib.Nat.{le_refl}
 use native.Mathlib.Decide.{dec_lt}
 use native.Mathlib.Omega.{arith}
-use lib.Dec.{ltb}
 use borrow.Author.Tests.{lt-ltb, le-ltb}
+use Rattle.std.specs.Prelude.{Option, None, Some}
+use Rattle.std.specs.Option.{option_map}
 use Rattle.rules.specs.Node.{Node, join, node_of}
 use Rattle.rules.proofs.Node.{node_join}
+use Rattle.node.specs.Memory.{as_node}
 use Rattle.node.specs.Told.{Told}
+use Rattle.node.specs.declared.Node as own
 use Rattle.node.proofs.Told.{told_is, told_on, told_trans, told_join}
 use Rattle.summary.specs.Gather.{gather, gathered, joined}
 
@@ -55,29 +57,20 @@ module _ (node : ℕ → ℕ → Node) (past : ℕ → ℕ → ℕ) where
     gather_ends b whole acc p g h = told_on c acc g.sum whole g.told (sym (gather_done g.fuel g.sum p b h) ∙ g.is)
 
     -- a loop that starts at a with nothing gathered
-    pub record Gathered (a b : ℕ) (acc : Node) (p : ℕ) : Type 0 where
-      pub from : a ≤ p
-      pub some : a < p → Gathering b (joined node past a b) acc p
-
-    pub gathered_none : (a b : ℕ) (acc : Node) → Gathered a b acc a
-    gathered_none a b acc = record { from = le_refl a; some = λ h. absurd (omega arith) }
+    abbrev pub Gathered : ℕ → ℕ → Option Node → ℕ → Type 0
+    Gathered a b None p = p ≡ a
+    Gathered a b (Some acc) p = Gathering b (joined node past a b) acc p
 
     -- the next part
-    pub gathered_on : (a b : ℕ) (acc : Node) (p : ℕ) (n acc' : Node) (e : ℕ) → Gathered a b acc p → p < b → Told c n (node p b) → e ≡ past p b → p < e → e ≤ b → acc' ≡ gathered (ltb a p) acc n → Gathered a b acc' e
-    gathered_on a b acc p n acc' e g h en ee l k ea = record { from = omega (arith, g.from); some = λ _. go (dec_lt a p) }
-      where
-        go : Dec (a < p) → Gathering b (joined node past a b) acc' e
-        go (yes d) = gather_turn b (joined node past a b) acc p n acc' e (g.some d) h en ee l k (told_is c _ _ (ea ∙ ap (λ (t : Bool). gathered t acc n) (lt-ltb a p d)))
-        go (no d) =
-            gather_starts a b acc' e
-            (told_trans c acc' n (node a b) (told_is c _ _ (ea ∙ ap (λ (t : Bool). gathered t acc n) (le-ltb a p (omega arith)))) (told_on c n (node p b) (node a b) en (ap (λ (x : ℕ). node x b) here)))
-            (ee ∙ ap (λ (x : ℕ). past x b) here) (omega arith) k
-          where
-            here : p ≡ a
-            here = omega (arith, g.from)
+    pub gathered_on : (a b : ℕ) (o : Option Node) (p : ℕ) (n acc' : Node) (e : ℕ) → Gathered a b o p → p < b → Told c n (node p b) → e ≡ past p b → p < e → e ≤ b → acc' ≡ gathered o n → Gathered a b (Some acc') e
+    gathered_on a b None p n acc' e g h en ee l k ea =
+        gather_starts a b acc' e
+        (told_trans c acc' n (node a b) (told_is c _ _ ea) (told_on c n (node p b) (node a b) en (ap (λ (x : ℕ). node x b) g)))
+        (ee ∙ ap (λ (x : ℕ). past x b) g) (omega arith) k
+    gathered_on a b (Some acc) p n acc' e g h en ee l k ea = gather_turn b (joined node past a b) acc p n acc' e g h en ee l k (told_is c _ _ ea)
 
-    pub gathered_ends : (a b : ℕ) (acc : Node) (p : ℕ) → a < b → Gathered a b acc p → b ≤ p → Told c acc (joined node past a b)
-    gathered_ends a b acc p h g k = gather_ends b (joined node past a b) acc p (g.some (omega arith)) k
+    pub gathered_ends : (a b : ℕ) (o : Option own.Node) (n : own.Node) (p : ℕ) → o ≡ Some n → Gathered a b (option_map as_node o) p → b ≤ p → Told c (as_node n) (joined node past a b)
+    gathered_ends a b o n p e g k = gather_ends b (joined node past a b) (as_node n) p (subst (λ (x : Option own.Node). Gathered a b (option_map as_node x) p) e g) k
 
   -- ---- true parts
   pub record Step (s : ℕ → ℕ) (p b : ℕ) : Type 0 where
@@ -101,22 +94,3 @@ module _ (node : ℕ → ℕ → Node) (past : ℕ → ℕ → ℕ) where
     pub joined_node : (a b : ℕ) → a < b → b ≤ hi → joined node past a b ≡ node_of s a b
     unfolding joined
     joined_node a b h l = let t = step a b h l in gather_node (b - a) (node a b) a (past a b) b t.more t.upto l (omega (arith, t.more)) t.is
-
--- ---- parts with the same nodes
-module _ (node node' : ℕ → ℕ → Node) (past : ℕ → ℕ → ℕ) (lo b : ℕ) (on : (p : ℕ) → p < b → p ≤ past p b) (same : (p : ℕ) → lo ≤ p → p < b → node p b ≡ node' p b) where
-  gather_same : (f : ℕ) (acc : Node) (p : ℕ) → lo ≤ p → gather node past f acc p b ≡ gather node' past f acc p b
-  unfolding gather
-  gather_same zero acc p h = refl
-  gather_same (suc f) acc p h = go (gather_same f) (dec_lt p b)
-    where
-      go : ((acc : Node) (p : ℕ) → lo ≤ p → gather node past f acc p b ≡ gather node' past f acc p b) → Dec (p < b) → gather node past (suc f) acc p b ≡ gather node' past (suc f) acc p b
-      go ih (yes d) =
-          gather_more node past f acc p b d
-          ∙ ih (join acc (node p b)) (past p b) (omega (arith, on p d))
-          ∙ ap (λ (n : Node). gather node' past f (join acc n) (past p b) b) (same p h d)
-          ∙ sym (gather_more node' past f acc p b d)
-      go ih (no d) = gather_done node past (suc f) acc p b (omega arith) ∙ sym (gather_done node' past (suc f) acc p b (omega arith))
-
-  pub joined_same : lo < b → joined node past lo b ≡ joined node' past lo b
-  unfolding joined
-  joined_same h = gather_same (b - lo) (node lo b) (past lo b) (on lo h) ∙ ap (λ (n : Node). gather node' past (b - lo) n (past lo b) b) (same lo (le_refl lo) h)

@@ -1,4 +1,4 @@
--- The summary by levels: its parts, the room that they need, and that on right levels it is the rule's node.
+-- The summary by levels: its parts, the room that they have, and that on right levels it is the rule's node.
 use Prim.Native.Nat.{ℕ, zero, suc, ◌+◌, ◌-◌, ◌*◌, ◌/◌, ◌%◌, ◌≤◌, ◌<◌, min}
 use mathlib.Core.Path.{◌≡◌, refl, sym, ap, ap₂, ◌∙◌, subst}
 use mathlib.Core.Bool.{Bool, true, false, cond}
@@ -9,29 +9,27 @@ use native.Mathlib.Nat.{mul-le-mul_right, le-div_iff_mul-le, lt_of_mul-lt-mul_ri
 use native.Mathlib.Decide.{dec_lt}
 use native.Mathlib.Omega.{arith}
 use lib.Dec.{ltb, leb}
-use lib.ListN.{length, length-take, length-drop}
-use borrow.Author.Tests.{le-ltb}
-use Rattle.rules.specs.Sample.{sample_of}
+use lib.ListN.{length}
+use borrow.Author.Tests.{le-ltb, le-leb, lt-leb}
 use Rattle.rules.specs.Node.{Node, node_of, span, top_level}
 use Rattle.rules.specs.Search.{summary}
-use Rattle.rules.specs.Refusal.{Store, Lent, node_size}
-use Rattle.rules.proofs.Node.{node_same}
+use Rattle.rules.specs.Refusal.{node_size, most_samples}
 use Rattle.rules.proofs.Walk.{span_pos, best_le, best_taken}
-use Rattle.rules.proofs.Refusal.{Sound}
 use Rattle.node.specs.Memory.{node_in, Right}
 use Rattle.node.specs.Told.{Told}
 use Rattle.node.proofs.Told.{told_on}
 use Rattle.level.specs.Best.{fits_at, Best}
 use Rattle.level.proofs.Best.{Fits, fits_sample, fitting}
-use Rattle.range.specs.Part.{NodesIn, part_sample}
+use Rattle.range.specs.Part.{RangeIn, NodesIn}
 use Rattle.range.specs.Join.{join_over}
-use Rattle.range.proofs.Part.{part_sample_lem}
 use Rattle.range.proofs.Right.{join_true}
-use Rattle.capture.specs.Record.{lent_of}
-use Rattle.rules.specs.Reading.{part_of}
-use Rattle.capture.proofs.Calls.{stored}
-use Rattle.summary.specs.Summary.{level_at, run_end, part_node, step_node, step_end, chunk_node, Part, cut_at, by_levels, summed, summary_of, ChunkRoom}
-use Rattle.summary.proofs.Gather.{Step, joined_node, joined_same}
+use Rattle.capture.specs.Backed.{Bytes, Nodes}
+use Rattle.summary.specs.Summary.{level_at, run_end, part_node, step_node, step_end, chunk_node, Part, cut_at, by_levels, summed, summary_of}
+use Rattle.summary.proofs.Gather.{Step, joined_node}
+
+-- ---- a range of stored samples
+pub range_stored : {unit len : ℕ} {bytes : List ℕ} → Bytes unit len bytes → (a b : ℕ) → a < b → b ≤ len → RangeIn unit a b (length bytes)
+range_stored {unit} {len} h a b some upto = record { unit_size = h.unit_size; some = some; room = omega (arith, h.room, mul-le-mul_right {m = b} {n = len} unit upto) }
 
 -- ---- a run of nodes of w samples from p on
 module _ (w p b : ℕ) (hw : 1 ≤ w) (aligned : p % w ≡ 0) (fits : w ≤ b - p) (h : p < b) where
@@ -82,12 +80,12 @@ module _ (p b l w end : ℕ) (h : p < b) (t : Best p (b - p) top_level l) (ew : 
   end_inside = (omega (arith, end_is, end_more p b h), omega (arith, end_is, end_upto p b h))
 
   -- its nodes lie in their level
-  pub piece_room : (levels : ℕ → List ℕ) → (l ≡ 0 → ⊥) → (unit base part : ℕ) → ChunkRoom unit base b part levels → (level : List ℕ) → level ≡ levels l → (p / w < end / w) × NodesIn (p / w) (end / w) (length level)
-  piece_room levels z unit base part r level el = (
+  pub piece_room : (levels : ℕ → List ℕ) → (l ≡ 0 → ⊥) → (len : ℕ) → b ≤ len → len ≤ most_samples → Nodes len levels → (level : List ℕ) → level ≡ levels l → (p / w < end / w) × NodesIn (p / w) (end / w) (length level)
+  piece_room levels z len inner most nodes level el = (
     first,
     record {
-      few = omega (arith, div-le_self end w, end_inside.1, r.most);
-      room = subst (λ (x : List ℕ). end / w * node_size ≤ length x) (sym el) (omega (arith, first, r.level l (end / w - 1) (omega arith) t.below inside));
+      few = omega (arith, div-le_self end w, end_inside.1);
+      room = subst (λ (x : List ℕ). end / w * node_size ≤ length x) (sym el) (omega (arith, first, nodes.inside l (end / w - 1) (omega arith) t.below inside));
     },
   )
     where
@@ -106,8 +104,8 @@ module _ (p b l w end : ℕ) (h : p < b) (t : Best p (b - p) top_level l) (ew : 
       first : p / w < end / w
       first = subst (λ (x : ℕ). p / w < x / w) (sym ee) (run_numbers w p b hw al fi h)
 
-      inside : (end / w - 1) * span l < b
-      inside = subst (λ (x : ℕ). (end / w - 1) * x < b) ew (omega (arith, border, hw, first, ee, run_upto w p b hw al fi h, mul-le-mul_right {m = end / w - 1 + 1} {n = end / w} w (omega (arith, first))))
+      inside : (end / w - 1) * span l < len
+      inside = subst (λ (x : ℕ). (end / w - 1) * x < len) ew (omega (arith, border, hw, first, ee, run_upto w p b hw al fi h, mul-le-mul_right {m = end / w - 1 + 1} {n = end / w} w (omega (arith, first))))
 
   module _ (levels : ℕ → List ℕ) (s : ℕ → ℕ) (c : Bool) (n : Node) where
     part_of_lem : Told c n (part_node levels s l p end) → Part levels s c p b n end
@@ -130,6 +128,16 @@ module _ (p b l w end : ℕ) (h : p < b) (t : Best p (b - p) top_level l) (ew : 
         go : (l : ℕ) → (l ≡ 0 → ⊥) → join_over (node_in (levels l)) (p / span l) (end / span l - 1 - p / span l) ≡ part_node levels s l p end
         go zero z = absurd (z refl)
         go (suc l) z = refl
+
+-- ---- a range, by its samples or by the levels
+module _ (levels : ℕ → List ℕ) (s : ℕ → ℕ) (a b : ℕ) (c : Bool) (n : Node) where
+  pub summed_short : b - a ≤ 64 → Told c n (node_of s a b) → Told c n (summed levels s a b)
+  unfolding summed
+  summed_short h e = rw (le-leb (b - a) 64 h) e
+
+  pub summed_long : 64 < b - a → Told c n (by_levels levels s a b) → Told c n (summed levels s a b)
+  unfolding summed
+  summed_long h e = rw (lt-leb (b - a) 64 h) e
 
 -- ---- true nodes
 module _ (levels : ℕ → List ℕ) (s : ℕ → ℕ) (len : ℕ) (right : Right s len levels) where
@@ -187,35 +195,3 @@ module _ (levels : ℕ → List ℕ) (s : ℕ → ℕ) (len : ℕ) (right : Righ
       go (no h) =
           ap (λ (t : Bool). cond t (Some (summed levels s a (min b len))) None) (le-ltb a (min b len) (omega arith))
           ∙ sym (ap (λ (t : Bool). cond t (Some (node_of s a (min b len))) None) (le-ltb a (min b len) (omega arith)))
-
--- ---- room
--- a node that covers stored samples lies in its level
-pub node_room : (st : Store) (lent : Lent) → Sound st lent → (l j : ℕ) → 1 ≤ l → l ≤ top_level → j * span l < st.len → j * node_size + node_size ≤ lent.level l
-node_room st lent h l j a k p = omega (arith, h.level l a k, (le-div_iff_mul-le {k = span l} {x = j + 1} {y = st.capacity + (span l - 1)} (span_pos l)).1 (omega (arith, h.len_most, span_pos l)))
-
-module _ (st : Store) (samples : List ℕ) (levels : ℕ → List ℕ) (h : Sound st (lent_of samples levels)) (base pos end : ℕ) (hb : base ≤ pos) (hp : pos < end) (he : end ≤ st.len) where
-  part_length : length (part_of st.unit samples base end) ≡ end * st.unit - base * st.unit
-  unfolding part_of
-  part_length = simp (length-take, length-drop) (omega (arith, stored st samples levels h end he))
-
-  pub chunk_room : ChunkRoom st.unit base end (length (part_of st.unit samples base end)) levels
-  chunk_room = record {
-    unit_size = h.unit_size;
-    most = omega (arith, h.len_most, h.capacity_most);
-    samples = omega (arith, part_length, mul-le-mul_right {m = base} {n = end} st.unit (omega arith));
-    level = λ l j a k p. node_room st (lent_of samples levels) h l j a k (omega arith);
-  }
-
-  pub chunk_part : chunk_node levels (part_sample st.unit (part_of st.unit samples base end) base) pos end ≡ chunk_node levels (sample_of st.unit samples) pos end
-  unfolding chunk_node part_node part_of
-  chunk_part = joined_same (step_node levels part) (step_node levels all) step_end pos end (λ p k. omega (arith, end_more p end k)) (λ p a k. go p a k (level_at p end) (step_end p end) (end_more p end k) (end_upto p end k)) hp
-    where
-      part : ℕ → ℕ
-      part = part_sample st.unit (part_of st.unit samples base end) base
-
-      all : ℕ → ℕ
-      all = sample_of st.unit samples
-
-      go : (p : ℕ) → pos ≤ p → p < end → (l e : ℕ) → p < e → e ≤ end → part_node levels part l p e ≡ part_node levels all l p e
-      go p a k zero e x y = node_same part all p e x (λ i u v. part_sample_lem st.unit samples base end i (omega arith) (omega arith))
-      go p a k (suc l) e x y = refl

@@ -1,19 +1,21 @@
 -- The node of a range as the code takes it, over any levels and samples: chunk by chunk, in each by runs of the highest level that fits.
-use Rattle.std.specs.Prelude.{◌≡◌, Bool, cond, List, ℕ, zero, suc, ◌+◌, ◌-◌, ◌*◌, ◌/◌, ◌≤◌, ◌<◌, min, ltb, leb, length}
-use Rattle.std.specs.Prelude.{Option, None, Some}
-use Rattle.rules.specs.Sample.{UnitSize}
+use Rattle.std.specs.Prelude.{◌≡◌, Bool, cond, List, ℕ, zero, suc, ◌+◌, ◌-◌, ◌*◌, ◌/◌, ◌≤◌, ◌<◌, min, ltb, leb}
+use Rattle.std.specs.Prelude.{Option, None, Some, Result}
+use Rattle.std.specs.Option.{option_map}
 use Rattle.rules.specs.Node.{Node, node_of, span, chunk, top_level}
 use Rattle.rules.specs.Walk.{best}
-use Rattle.rules.specs.Answer.{Answer, refused, given}
-use Rattle.rules.specs.Refusal.{Store, Lent, node_size, most_samples}
-use Rattle.rules.proofs.Refusal.{Sound}
+use Rattle.rules.specs.Answer.{Answer}
+use Rattle.answer.specs.Answered.{answer_of}
+use Rattle.answer.specs.declared.Refusal.{Refusal}
 use Rattle.node.specs.Memory.{as_node, node_in}
+use Rattle.node.specs.Lent.{levels_of}
 use Rattle.node.specs.Told.{Told}
+use Rattle.node.specs.declared.Node as own
+use Rattle.capture.specs.Stored.{sample_in}
+use Rattle.capture.specs.declared.stored.Stored.{Stored}
 use Rattle.level.specs.Best.{fits_at}
 use Rattle.range.specs.Join.{join_over}
 use Rattle.summary.specs.Gather.{joined}
-use Rattle.summary.specs.declared.Summed.{Summed}
-use Rattle.summary.specs.declared.Summed.TheVariants as summed-as
 
 -- ---- within a chunk
 -- the highest level that has a border at p and ends by b
@@ -63,21 +65,9 @@ module _ (levels : ℕ → List ℕ) (s : ℕ → ℕ) where
   abbrev pub summary_of : ℕ → ℕ → ℕ → Option Node
   summary_of len a b = cond (ltb a (min b len)) (Some (summed a (min b len))) None
 
-abbrev pub summed_of : Summed → Answer (Option Node)
-summed_of (summed-as.Refused n) = refused n
-summed_of (summed-as.Node n) = given (Some (as_node n))
-summed_of summed-as.Nothing = given None
+-- of what is stored
+abbrev pub summed_in : Stored → ℕ → ℕ → Node
+summed_in s = summed (levels_of s.memory.levels) (sample_in s)
 
--- ---- memory
--- the samples of [base, b) lie in the part, and nodes that start before b in the levels
-pub record ChunkRoom (unit base b part : ℕ) (levels : ℕ → List ℕ) : Type 0 where
-  pub unit_size : UnitSize unit
-  pub most : b ≤ most_samples
-  pub samples : b * unit ≤ base * unit + part
-  pub level : (l j : ℕ) → 1 ≤ l → l ≤ top_level → j * span l < b → j * node_size + node_size ≤ length (levels l)
-
--- a range of stored samples of a sound store
-pub record Within (st : Store) (lent : Lent) (a b : ℕ) : Type 0 where
-  pub sound : Sound st lent
-  pub order : a < b
-  pub stored : b ≤ st.len
+abbrev pub summed_of : Result (Option own.Node) Refusal → Answer (Option Node)
+summed_of r = answer_of (option_map as_node) r

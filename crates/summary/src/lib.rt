@@ -1,24 +1,25 @@
 // The node of any range of a capture, by the levels.
 #![tactic(auto)]
 
-ghost use Rattle.std.specs.Prelude.{◌≡◌, ◌≤◌, ◌<◌, length};
+ghost use Rattle.std.specs.Prelude.{◌≡◌, ◌≤◌, ◌<◌};
+ghost use Rattle.std.specs.Option.{option_map};
 ghost use Rattle.rules.specs.Sample.{sample_of};
 ghost use Rattle.rules.specs.Node.{chunk};
-ghost use Rattle.rules.specs.Answer.{given, unless};
+ghost use Rattle.rules.specs.Answer.{unless};
 ghost use Rattle.rules.specs.Refusal.{store_refusal, most_samples};
-ghost use Rattle.rules.proofs.Refusal.{Sound};
 ghost use Rattle.node.specs.Told.{Told};
-ghost use Rattle.node.specs.Memory.{as_node, level_of};
-ghost use Rattle.range.specs.Part.{part_sample};
-ghost use Rattle.capture.specs.Record.{store_of, lent_of};
+ghost use Rattle.node.specs.Memory.{as_node};
+ghost use Rattle.node.specs.Lent.{levels_of};
+ghost use Rattle.capture.specs.Record.{store_of, lent_in};
+ghost use Rattle.capture.specs.Stored.{sample_in};
 ghost use Rattle.summary.specs.Gather.{gathered};
-ghost use Rattle.summary.specs.Summary.{run_end, cut_at, Part, ChunkRoom, chunk_node, Within, by_levels, summed, summed_of, summary_of};
+ghost use Rattle.summary.specs.Summary.{run_end, cut_at, Part, chunk_node, by_levels, summed_in, summary_of, summed_of};
 
-use capture::{Capture, refusal};
+use answer::Refusal;
+use capture::Capture;
+use capture::stored::Stored;
 use level::{CHUNK, FAN, LEVELS, best_level, span};
-use lines::Mask;
-use node::{Node, level_of};
-use number::lesser;
+use node::{Memory, Node};
 use range::{join_count, join_lines, raw_node};
 
 // Nodes of s samples go on from pos to the next border of the level above, or to the last that ends by b.
@@ -27,7 +28,7 @@ fn run_end(pos: usize, b: usize, s: usize) -> usize
     ensures { result ≡ run_end s pos b }
 {
     let above = FAN * s;
-    lesser((pos / above + 1) * above, b / s * s)
+    ((pos / above + 1) * above).min(b / s * s)
 }
 
 // A part of a range: its node, and where it ends.
@@ -38,32 +39,21 @@ struct Piece {
 }
 
 // The part of [pos, b) that starts at pos: a run of nodes of the highest level that fits there, or of samples.
-// `part` holds the samples from place base on. Its node has its count only where it is counted: who draws does not pay for it.
-fn first_piece<'a>(
-    part: &[u8],
-    l1: &'a [Mask],
-    l2: &'a [Mask],
-    l3: &'a [Mask],
-    l4: &'a [Mask],
-    unitsize: usize,
-    base: usize,
-    pos: usize,
-    b: usize,
-    counted: bool,
-) -> Piece
-    requires { ChunkRoom unitsize base b (length part.now) (level_of l1.now l2.now l3.now l4.now) × (base ≤ pos) × (pos < b) }
-    ensures { Part (level_of l1.now l2.now l3.now l4.now) (part_sample unitsize part.now base) counted pos b (as_node result.node) result.end }
+// Its node has its count only where it is counted: who draws does not pay for it.
+fn first_piece(stored: &Stored<'_>, pos: usize, b: usize, counted: bool) -> Piece
+    requires { (pos < b) × (b ≤ stored.now.len) }
+    ensures { Part (levels_of stored.now.memory.levels) (sample_in stored.now) counted pos b (as_node result.node) result.end }
 {
     let l = best_level(pos, b - pos, LEVELS);
     let s = span(l);
     let end = run_end(pos, b, s);
     if l == 0 {
         return Piece {
-            node: raw_node(part, unitsize, pos - base, end - base, counted),
+            node: raw_node(stored.memory.samples, stored.unitsize, pos, end, counted),
             end,
         };
     }
-    let level = level_of(l1, l2, l3, l4, l);
+    let level = stored.memory.levels.level(l);
     let first = pos / s;
     let last = end / s;
     let lines = join_lines(level, first, last);
@@ -74,39 +64,28 @@ fn first_piece<'a>(
 }
 
 // What parts are together with the next one, n; the first one is the start. So each loop asks for a part at one place only, and the compiler puts its code there.
-fn gathered(started: bool, acc: Node, n: Node) -> Node
-    ensures { as_node result ≡ gathered started (as_node acc) (as_node n) }
+fn gathered(acc: Option<Node>, n: Node) -> Node
+    ensures { as_node result ≡ gathered (option_map as_node acc) (as_node n) }
 {
-    if started {
-        return acc.join(n);
+    match acc {
+        Some(acc) => acc.join(n),
+        None => n,
     }
-    n
 }
 
-// The node of [a, b) within a chunk, whose samples from place base on are `part`.
-fn chunk_summary<'a>(
-    part: &[u8],
-    l1: &'a [Mask],
-    l2: &'a [Mask],
-    l3: &'a [Mask],
-    l4: &'a [Mask],
-    unitsize: usize,
-    base: usize,
-    a: usize,
-    b: usize,
-    counted: bool,
-) -> Node
-    requires { ChunkRoom unitsize base b (length part.now) (level_of l1.now l2.now l3.now l4.now) × (base ≤ a) × (a < b) }
-    ensures { Told counted (as_node result) (chunk_node (level_of l1.now l2.now l3.now l4.now) (part_sample unitsize part.now base) a b) }
+// The node of [a, b) within a chunk.
+fn chunk_summary(stored: &Stored<'_>, a: usize, b: usize, counted: bool) -> Node
+    requires { (a < b) × (b ≤ stored.now.len) }
+    ensures { Told counted (as_node result) (chunk_node (levels_of stored.now.memory.levels) (sample_in stored.now) a b) }
 {
-    let mut acc = Node::leaf(0);
+    let mut acc = None;
     let mut pos = a;
     while pos < b {
-        let q = first_piece(part, l1, l2, l3, l4, unitsize, base, pos, b, counted);
-        acc = gathered(a < pos, acc, q.node);
+        let q = first_piece(stored, pos, b, counted);
+        acc = Some(gathered(acc, q.node));
         pos = q.end;
     }
-    acc
+    acc.unwrap()
 }
 
 // [pos, b) is cut at the end of its first chunk.
@@ -114,137 +93,55 @@ fn cut_at(pos: usize, b: usize) -> usize
     requires { (pos < b) × (b ≤ most_samples) }
     ensures { result ≡ cut_at pos b }
 {
-    lesser((pos / CHUNK + 1) * CHUNK, b)
+    ((pos / CHUNK + 1) * CHUNK).min(b)
 }
 
-// The node of [pos, end) within one chunk, whose samples are handed on as that part of sample memory.
-fn summary_of_chunk<'a>(
-    c: Capture,
-    samples: &[u8],
-    l1: &'a [Mask],
-    l2: &'a [Mask],
-    l3: &'a [Mask],
-    l4: &'a [Mask],
-    pos: usize,
-    end: usize,
-    counted: bool,
-) -> Node
-    requires { Within (store_of c) (lent_of samples.now (level_of l1.now l2.now l3.now l4.now)) pos end }
-    ensures { Told counted (as_node result) (chunk_node (level_of l1.now l2.now l3.now l4.now) (sample_of c.unitsize samples.now) pos end) }
+// The node of [a, b) by the levels, chunk by chunk.
+fn by_levels(stored: &Stored<'_>, a: usize, b: usize, counted: bool) -> Node
+    requires { (a < b) × (b ≤ stored.now.len) }
+    ensures { Told counted (as_node result) (by_levels (levels_of stored.now.memory.levels) (sample_in stored.now) a b) }
 {
-    let unitsize = c.unitsize;
-    let base = pos / CHUNK * CHUNK;
-    let from = base * unitsize;
-    let to = end * unitsize;
-    chunk_summary(
-        &samples[from..to],
-        l1,
-        l2,
-        l3,
-        l4,
-        unitsize,
-        base,
-        pos,
-        end,
-        counted,
-    )
-}
-
-// The node of [a, b), a < b ≤ len, by the levels, chunk by chunk.
-fn by_levels<'a>(
-    c: Capture,
-    samples: &[u8],
-    l1: &'a [Mask],
-    l2: &'a [Mask],
-    l3: &'a [Mask],
-    l4: &'a [Mask],
-    a: usize,
-    b: usize,
-    counted: bool,
-) -> Node
-    requires { Within (store_of c) (lent_of samples.now (level_of l1.now l2.now l3.now l4.now)) a b }
-    ensures { Told counted (as_node result) (by_levels (level_of l1.now l2.now l3.now l4.now) (sample_of c.unitsize samples.now) a b) }
-{
+    let mut acc = None;
     let mut pos = a;
-    let mut acc = Node::leaf(0);
     while pos < b {
         let end = cut_at(pos, b);
-        let n = summary_of_chunk(c, samples, l1, l2, l3, l4, pos, end, counted);
-        acc = gathered(a < pos, acc, n);
+        acc = Some(gathered(acc, chunk_summary(stored, pos, end, counted)));
         pos = end;
     }
-    acc
+    acc.unwrap()
 }
 
 // A range of up to this many samples is read sample by sample.
 const SHORT: usize = 64;
 
 // The node of [a, b), a < b ≤ len. By `Laws.summed_right` it is the rule's where levels are right.
-pub fn summary_in<'a>(
-    c: Capture,
-    samples: &[u8],
-    l1: &'a [Mask],
-    l2: &'a [Mask],
-    l3: &'a [Mask],
-    l4: &'a [Mask],
-    a: usize,
-    b: usize,
-    counted: bool,
-) -> Node
-    requires { Within (store_of c) (lent_of samples.now (level_of l1.now l2.now l3.now l4.now)) a b }
-    ensures { Told counted (as_node result) (summed (level_of l1.now l2.now l3.now l4.now) (sample_of c.unitsize samples.now) a b) }
+pub fn summary_in(stored: &Stored<'_>, a: usize, b: usize, counted: bool) -> Node
+    requires { (a < b) × (b ≤ stored.now.len) }
+    ensures { Told counted (as_node result) (summed_in stored.now a b) }
 {
     if b - a <= SHORT {
-        return raw_node(samples, c.unitsize, a, b, counted);
+        return raw_node(stored.memory.samples, stored.unitsize, a, b, counted);
     }
-    by_levels(c, samples, l1, l2, l3, l4, a, b, counted)
+    by_levels(stored, a, b, counted)
 }
 
-#[derive(Clone, Copy)]
-pub enum Summed {
-    Refused(u8),
-    Node(Node),
-    Nothing,
-}
-
-// The node of [a, min(b, len)), none where that is empty, of a capture that passed rows 1 and 2.
-pub fn summed_in<'a>(
-    c: Capture,
-    samples: &[u8],
-    l1: &'a [Mask],
-    l2: &'a [Mask],
-    l3: &'a [Mask],
-    l4: &'a [Mask],
-    a: usize,
-    b: usize,
-) -> Summed
-    requires { Sound (store_of c) (lent_of samples.now (level_of l1.now l2.now l3.now l4.now)) }
-    ensures { summed_of result ≡ given (summary_of (level_of l1.now l2.now l3.now l4.now) (sample_of c.unitsize samples.now) c.len a b) }
+// The node of [a, min(b, len)), none where that is empty.
+#[tactic(auto, using(node::proofs::Told::is_told))]
+pub fn summed_in(stored: &Stored<'_>, a: usize, b: usize) -> Option<Node>
+    ensures { option_map as_node result ≡ summary_of (levels_of stored.now.memory.levels) (sample_in stored.now) stored.now.len a b }
 {
-    let end = lesser(b, c.len);
+    let end = b.min(stored.len);
     if end <= a {
-        return Summed::Nothing;
+        return None;
     }
-    Summed::Node(summary_in(c, samples, l1, l2, l3, l4, a, end, true))
+    Some(summary_in(stored, a, end, true))
 }
 
 // 01's Summary(a, b): the node of [a, min(b, len)), none where that is empty, or 1 or 2.
 // By `Answers.summary_right` it is the rule's where levels are right.
-pub fn summary<'a>(
-    c: Capture,
-    samples: &[u8],
-    l1: &'a [Mask],
-    l2: &'a [Mask],
-    l3: &'a [Mask],
-    l4: &'a [Mask],
-    a: usize,
-    b: usize,
-) -> Summed
-    ensures { summed_of result ≡ unless (store_refusal (store_of c) (lent_of samples.now (level_of l1.now l2.now l3.now l4.now))) (summary_of (level_of l1.now l2.now l3.now l4.now) (sample_of c.unitsize samples.now) c.len a b) }
+pub fn summary(c: Capture, memory: Memory<'_>, a: usize, b: usize) -> Result<Option<Node>, Refusal>
+    ensures { summed_of result ≡ unless (store_refusal (store_of c) (lent_in memory.entry)) (summary_of (levels_of memory.entry.levels) (sample_of c.unitsize memory.entry.samples.now) c.len a b) }
 {
-    let n = refusal(c, samples, l1, l2, l3, l4);
-    if n != 0 {
-        return Summed::Refused(n);
-    }
-    summed_in(c, samples, l1, l2, l3, l4, a, b)
+    let stored = c.open(memory)?;
+    Ok(summed_in(&stored, a, b))
 }
