@@ -1,13 +1,12 @@
 -- A block's fields, put one after the other.
 use mathlib.Core.Path.{◌≡◌, refl, sym, ap, ap₂, ◌∙◌}
-use mathlib.Core.Bool.{Bool, true, false, not, ◌&&◌}
+use mathlib.Core.Bool.{Bool, true, false, ◌&&◌}
 use mathlib.Core.List.{List, ◌++◌, append_assoc, append-nil}
 use Prim.Native.Nat.{ℕ, ◌+◌, ◌-◌, ◌≤◌}
 use native.Mathlib.Nat.{add-sub_of_le}
 use native.Mathlib.Omega.{arith}
 use lib.ListN.{length, take, drop, length-append, length-take, length-drop, drop_of_length-le}
 use lib.Seq.{take_at, drop_at, drop-drop, length-take-le}
-use borrow.Author.Tests.{not-true, not-false}
 use Rattle.rules.specs.SampleBytes.{sample_bytes}
 use Rattle.rules.specs.Block.{block_size, payload_at, payload_most, zeros, check_of, body_of, block_of, same_bytes, field, good_block}
 use Rattle.rules.proofs.SampleBytes.{sample_bytes_length}
@@ -34,20 +33,11 @@ module _ (number count : ℕ) (b : List ℕ) where
   abbrev is_sealed : Bool
   is_sealed = same_bytes (field 0 2 b) (sample_bytes 2 (check_of (drop 2 b)))
 
-  grouped : good_block number count b ≡ (is_headed && (is_filled && is_sealed))
+  pub grouped : good_block number count b ≡ (is_headed && (is_filled && is_sealed))
   unfolding good_block
   grouped =
       regroup (same_bytes (field 2 4 b) (sample_bytes 2 count)) (same_bytes (field 4 8 b) (sample_bytes 4 number)) (same_bytes (field 8 payload_at b) (zeros 4))
       (same_bytes (field (payload_at + count) block_size b) (zeros (payload_most - count))) is_sealed
-
-  pub wrong_head : {x : Bool} → x ≡ is_headed → not x ≡ true → false ≡ good_block number count b
-  wrong_head {x} e f = sym (grouped ∙ ap (λ (y : Bool). y && (is_filled && is_sealed)) (sym e ∙ not-true x f))
-
-  pub wrong_fill : {x y : Bool} → x ≡ is_headed → not x ≡ false → y ≡ is_filled → not y ≡ true → false ≡ good_block number count b
-  wrong_fill {x} {y} e f g h = sym (grouped ∙ ap₂ (λ (p q : Bool). p && (q && is_sealed)) (sym e ∙ not-false x f) (sym g ∙ not-true y h))
-
-  pub last_check : {x y r : Bool} → x ≡ is_headed → not x ≡ false → y ≡ is_filled → not y ≡ false → r ≡ is_sealed → r ≡ good_block number count b
-  last_check {x} {y} e f g h t = sym (grouped ∙ ap₂ (λ (p q : Bool). p && (q && is_sealed)) (sym e ∙ not-false x f) (sym g ∙ not-false y h) ∙ sym t)
 
 -- what is left behind a payload
 pub padding : (count : ℕ) → sample_bytes (block_size - (payload_at + count)) 0 ≡ zeros (payload_most - count)
@@ -73,6 +63,15 @@ put_next s s' front r f a m e size e' =
     e'
     ∙ ap₂ (λ (x y : List ℕ). x ++ (f ++ y)) (ap (take a) e ∙ take_at front r a size) (sym (drop-drop m a s) ∙ ap (drop m) (ap (drop a) e ∙ drop_at front r a size))
     ∙ sym (append_assoc front f (drop m r))
+
+-- a part up to the end filled with zeros
+pub zeros_put : (s ys : List ℕ) (a : ℕ) → ys ≡ zeros (length (take (length s - a) (drop a s))) → take a s ++ (ys ++ drop (length s - a) (drop a s)) ≡ take a s ++ zeros (length s - a)
+zeros_put s ys a e =
+    ap₂ (λ (x y : List ℕ). take a s ++ (x ++ y)) (e ∙ ap zeros size) (drop_of_length-le (drop a s) (omega (arith, length-drop a s)))
+    ∙ ap (λ (x : List ℕ). take a s ++ x) (append-nil (zeros (length s - a)))
+  where
+    size : length (take (length s - a) (drop a s)) ≡ length s - a
+    size = simp (length-take, length-drop) (omega arith)
 
 -- the fields of a block, one after the other
 pub fields_put : (s s₁ s₂ s₃ : List ℕ) (number count : ℕ) → length s ≡ block_size
@@ -106,12 +105,11 @@ fields_put s s₁ s₂ s₃ number count size e₁ e₂ e₃ =
 -- the payload, and the zeros behind it
 pub payload_put : (s s₁ s₂ payload : List ℕ) → length s ≡ block_size → length payload ≤ payload_most
     → s₁ ≡ take payload_at s ++ (payload ++ drop (payload_at + length payload) s)
-    → s₂ ≡ take (payload_at + length payload) s₁ ++ (sample_bytes (block_size - (payload_at + length payload)) 0 ++ drop block_size s₁)
+    → s₂ ≡ take (payload_at + length payload) s₁ ++ zeros (length s₁ - (payload_at + length payload))
     → s₂ ≡ take payload_at s ++ (payload ++ zeros (payload_most - length payload))
 payload_put s s₁ s₂ payload size small e₁ e₂ =
     e₂
-    ∙ ap₂ (λ (x y : List ℕ). x ++ y) (ap (take (payload_at + length payload)) stands ∙ take_at (take payload_at s ++ payload) rest (payload_at + length payload) front_size)
-    (ap₂ (λ (x y : List ℕ). x ++ y) (padding (length payload)) (drop_of_length-le s₁ whole) ∙ append-nil (zeros (payload_most - length payload)))
+    ∙ ap₂ (λ (x : List ℕ) (n : ℕ). x ++ zeros n) (ap (take (payload_at + length payload)) stands ∙ take_at (take payload_at s ++ payload) rest (payload_at + length payload) front_size) room
     ∙ append_assoc (take payload_at s) payload (zeros (payload_most - length payload))
   where
     rest : List ℕ
@@ -123,11 +121,8 @@ payload_put s s₁ s₂ payload size small e₁ e₂ =
     front_size : length (take payload_at s ++ payload) ≡ payload_at + length payload
     front_size = length-append (take payload_at s) payload ∙ ap (λ (n : ℕ). n + length payload) (length-take-le payload_at s (omega (arith, size)))
 
-    rest_size : length rest ≡ payload_most - length payload
-    rest_size = simp length-drop (omega (arith, size, small))
-
-    whole : length s₁ ≤ block_size
-    whole = omega (arith, ap length stands, length-append (take payload_at s ++ payload) rest, front_size, rest_size, small)
+    room : length s₁ - (payload_at + length payload) ≡ payload_most - length payload
+    room = omega (arith, ap length stands, length-append (take payload_at s ++ payload) rest, front_size, length-drop (payload_at + length payload) s, size, small)
 
 -- the whole block
 pub block_put : (s s₁ s₂ s₃ : List ℕ) (number : ℕ) (payload : List ℕ) → length s ≡ block_size

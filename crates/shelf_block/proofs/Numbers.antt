@@ -5,7 +5,7 @@ use mathlib.Core.List.{List, [], ◌∷◌, ◌++◌, append-nil}
 use Prim.Native.Nat.{ℕ, suc, ◌+◌, ◌-◌, ◌/◌, ◌%◌, ◌≤◌, ◌<◌}
 use native.Mathlib.Omega.{arith}
 use lib.Dec.{eqb}
-use lib.ListN.{length, get_or, set, take, drop, length-set, drop_of_length-le}
+use lib.ListN.{length, get_or, set, take, drop, drop_of_length-le}
 use lib.Seq.{take-suc-set, append_snoc, take_all, drop-cons}
 use borrow.Author.Tests.{eq-eqb, ne_eqb}
 use Rattle.rules.specs.SampleBytes.{sample_bytes}
@@ -33,19 +33,15 @@ all_left n left = ap (λ (k : ℕ). sample_bytes k left) all
 
 -- ---- written: i bytes stand, and the rest of the number would follow
 pub record Writing (n value : ℕ) (part : List ℕ) (left i : ℕ) : Type 0 where
-  pub inside : i ≤ n
-  pub size : length part ≡ n
   pub stands : take i part ++ sample_bytes (n - i) left ≡ sample_bytes n value
 
-pub writing_starts : (n value : ℕ) (part : List ℕ) → length part ≡ n → Writing n value part value 0
-writing_starts n value part e = record { inside = omega arith; size = e; stands = all_left n value }
+pub writing_starts : (n value : ℕ) (part : List ℕ) → Writing n value part value 0
+writing_starts n value part = record { stands = all_left n value }
 
-pub writing_on : {n value left i : ℕ} {part : List ℕ} → Writing n value part left i → i < n → Writing n value (set part i (left % 256)) (left / 256) (i + 1)
-writing_on {n} {value} {left} {i} {part} w h = record {
-  inside = omega (arith, h);
-  size = length-set part i (left % 256) ∙ w.size;
+pub writing_on : {n value left i : ℕ} {part : List ℕ} → Writing n value part left i → i < n → length part ≡ n → Writing n value (set part i (left % 256)) (left / 256) (i + 1)
+writing_on {n} {value} {left} {i} {part} w h e = record {
   stands =
-      ap (λ (l : List ℕ). l ++ sample_bytes (n - (i + 1)) (left / 256)) (ap (λ (k : ℕ). take k (set part i (left % 256))) one ∙ take-suc-set part i (left % 256) (omega (arith, h, w.size)))
+      ap (λ (l : List ℕ). l ++ sample_bytes (n - (i + 1)) (left / 256)) (ap (λ (k : ℕ). take k (set part i (left % 256))) one ∙ take-suc-set part i (left % 256) (omega (arith, h, e)))
       ∙ append_snoc (take i part) (left % 256) (sample_bytes (n - (i + 1)) (left / 256))
       ∙ ap (λ (l : List ℕ). take i part ++ l) (sym (bytes_on n i left h))
       ∙ w.stands;
@@ -54,20 +50,19 @@ writing_on {n} {value} {left} {i} {part} w h = record {
     one : i + 1 ≡ suc i
     one = omega arith
 
-pub writing_ends : {n value left i : ℕ} {part : List ℕ} → Writing n value part left i → n ≤ i → part ≡ sample_bytes n value
-writing_ends {n} {value} {left} {i} {part} w h =
-    sym (take_all i part (omega (arith, h, w.size)))
+pub writing_ends : {n value left i : ℕ} {part : List ℕ} → Writing n value part left i → n ≤ i → length part ≡ n → part ≡ sample_bytes n value
+writing_ends {n} {value} {left} {i} {part} w h e =
+    sym (take_all i part (omega (arith, h, e)))
     ∙ sym (append-nil (take i part))
     ∙ ap (λ (l : List ℕ). take i part ++ l) (sym (none_left n i left h))
     ∙ w.stands
 
 -- ---- held against bytes: the first i are the number's
 pub record Holding (value : ℕ) (part : List ℕ) (left i : ℕ) : Type 0 where
-  pub inside : i ≤ length part
   pub same : same_bytes part (sample_bytes (length part) value) ≡ same_bytes (drop i part) (sample_bytes (length part - i) left)
 
 pub holding_starts : (value : ℕ) (part : List ℕ) → Holding value part value 0
-holding_starts value part = record { inside = omega arith; same = ap (same_bytes part) (sym (all_left (length part) value)) }
+holding_starts value part = record { same = ap (same_bytes part) (sym (all_left (length part) value)) }
 
 module _ {value left i : ℕ} {part : List ℕ} (w : Holding value part left i) (h : i < length part) where
   next : same_bytes part (sample_bytes (length part) value) ≡ (eqb (get_or part i 0) (left % 256) && same_bytes (drop (suc i) part) (sample_bytes (length part - (i + 1)) (left / 256)))
@@ -76,7 +71,6 @@ module _ {value left i : ℕ} {part : List ℕ} (w : Holding value part left i) 
 
   pub holding_on : get_or part i 0 ≡ left % 256 → Holding value part (left / 256) (i + 1)
   holding_on e = record {
-    inside = omega (arith, h);
     same =
         next
         ∙ ap (λ (b : Bool). b && same_bytes (drop (suc i) part) (sample_bytes (length part - (i + 1)) (left / 256))) (eq-eqb (get_or part i 0) (left % 256) e)

@@ -37,8 +37,7 @@ low_half block = take 256 block
 abbrev high_half : List ℕ → List ℕ
 high_half block = drop 256 block
 
-pub record Weighing (block : List ℕ) (half sum i : ℕ) : Type 0 where
-  pub inside : i ≤ half
+pub record Weighing (block : List ℕ) (sum i : ℕ) : Type 0 where
   pub most : sum ≤ 195330 * i
   pub left : sum + (weigh i (drop i (low_half block)) + weigh (256 + i) (drop i (high_half block))) ≡ weigh 0 block
 
@@ -49,9 +48,8 @@ module _ (block : List ℕ) (size : length block ≡ block_size) where
   high_size : length (high_half block) ≡ 256
   high_size = simp length-drop (omega (arith, size))
 
-  pub weighing_starts : (half : ℕ) → Weighing block half 0 0
-  weighing_starts half = record {
-    inside = omega arith;
+  pub weighing_starts : Weighing block 0 0
+  weighing_starts = record {
     most = omega arith;
     left = zero_left ∙ sym (ap (weigh 0) (sym (take-append-drop 256 block)) ∙ weigh_append 0 (low_half block) (high_half block) ∙ ap (λ (k : ℕ). weigh 0 (low_half block) + weigh (0 + k) (high_half block)) low_size);
   }
@@ -59,10 +57,8 @@ module _ (block : List ℕ) (size : length block ≡ block_size) where
       zero_left : 0 + (weigh 0 (low_half block) + weigh 256 (high_half block)) ≡ weigh 0 (low_half block) + weigh 256 (high_half block)
       zero_left = omega arith
 
-  pub weighing_on : {sum i low high r : ℕ} → Weighing block 256 sum i → i < 256 → low ≡ get_or block i 0 → high ≡ get_or block (256 + i) 0
-      → (r ≡ i * low + (256 + i) * high) × (r ≤ 195330) → Weighing block 256 (sum + r) (i + 1)
-  weighing_on {sum} {i} {low} {high} {r} w h l₁ l₂ t = record {
-    inside = omega (arith, h);
+  pub weighing_on : {sum i r : ℕ} → Weighing block sum i → i < 256 → (r ≡ i * get_or block i 0 + (256 + i) * get_or block (256 + i) 0) × (r ≤ 195330) → Weighing block (sum + r) (i + 1)
+  weighing_on {sum} {i} {r} w h t = record {
     most = omega (arith, w.most, t.1);
     left = omega (
       arith,
@@ -70,8 +66,8 @@ module _ (block : List ℕ) (size : length block ≡ block_size) where
       t.0,
       weigh_cons i (low_half block) i (omega (arith, h, low_size)),
       weigh_cons (256 + i) (high_half block) i (omega (arith, h, high_size)),
-      ap (λ (x : ℕ). i * x) (get_or-take 256 block i 0 h ∙ sym l₁),
-      ap (λ (x : ℕ). (256 + i) * x) (get_or-drop 256 block i 0 ∙ sym l₂),
+      ap (λ (x : ℕ). i * x) (get_or-take 256 block i 0 h),
+      ap (λ (x : ℕ). (256 + i) * x) (get_or-drop 256 block i 0),
       ap (λ (k : ℕ). weigh k (drop (i + 1) (high_half block))) next,
     );
   }
@@ -79,7 +75,7 @@ module _ (block : List ℕ) (size : length block ≡ block_size) where
       next : 256 + i + 1 ≡ 256 + (i + 1)
       next = omega arith
 
-  pub weighing_ends : {sum i : ℕ} → Weighing block 256 sum i → 256 ≤ i → sum ≡ weigh 0 block
+  pub weighing_ends : {sum i : ℕ} → Weighing block sum i → 256 ≤ i → sum ≡ weigh 0 block
   unfolding weigh
   weighing_ends {sum} {i} w h =
       omega (arith, w.left, ap (weigh i) (drop_of_length-le (low_half block) {i = i} (omega (arith, low_size, h))), ap (weigh (256 + i)) (drop_of_length-le (high_half block) {i = i} (omega (arith, high_size, h))))
@@ -88,5 +84,5 @@ module _ (block : List ℕ) (size : length block ≡ block_size) where
   pub weigh_two : weigh 0 block ≡ get_or block 1 0 + weigh 2 (drop 2 block)
   weigh_two = weigh_cons 0 block 0 (omega (arith, size)) ∙ omega (arith, weigh_cons 1 block 1 (omega (arith, size)))
 
-  pub without_one : {sum one : ℕ} → sum ≡ weigh 0 block → one ≡ get_or block 1 0 → sum - one ≡ weigh 2 (drop 2 block)
-  without_one e f = omega (arith, e, f, weigh_two)
+  pub without_one : {sum : ℕ} → sum ≡ weigh 0 block → sum - get_or block 1 0 ≡ weigh 2 (drop 2 block)
+  without_one e = omega (arith, e, weigh_two)

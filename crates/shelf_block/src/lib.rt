@@ -5,8 +5,6 @@ ghost use Rattle.std.specs.Prelude.{◌≡◌, Bool, ◌&&◌, ◌++◌, ◌+◌
 ghost use Rattle.rules.specs.SampleBytes.{sample_bytes};
 ghost use Rattle.rules.specs.Block.{block_size, payload_at, payload_most, zeros, weigh, check_of, block_of, same_bytes, field, good_block};
 
-use number::lesser;
-
 pub const BLOCK: usize = 512;
 
 pub const PAYLOAD_AT: usize = 12;
@@ -21,11 +19,9 @@ fn put_number(part: &mut [u8], value: usize)
     ensures { part.new ≡ sample_bytes (length part.old) value }
 {
     let mut left = value;
-    let mut i = 0;
-    while i < part.len() {
-        part[i] = (left % 256) as u8;
+    for byte in part.iter_mut() {
+        *byte = (left % 256) as u8;
         left /= 256;
-        i += 1;
     }
 }
 
@@ -34,31 +30,23 @@ fn is_number(part: &[u8], value: usize) -> bool
     ensures { result ≡ same_bytes part.now (sample_bytes (length part.now) value) }
 {
     let mut left = value;
-    let mut i = 0;
-    while i < part.len() {
-        if part[i] != (left % 256) as u8 {
+    for byte in part {
+        if *byte != (left % 256) as u8 {
             return false;
         }
         left /= 256;
-        i += 1;
     }
     true
 }
 
-// A byte as a number of 16 bits.
-fn short(x: u8) -> u16
-    ensures { (result ≡ x) × (result < 256) }
-{
-    x as u16
-}
-
 // What two bytes weigh that stand 256 places apart. A place below 256 times a byte has 16 bits, and short products are what vectors are quick at.
-fn pair(place: usize, low: u16, high: u16) -> u32
-    requires { (place < 256) × (low < 256) × (high < 256) }
+#[tactic(auto, using(crate::proofs::Weighed::short_product))]
+fn pair(place: usize, low: u8, high: u8) -> u32
+    requires { place < 256 }
     ensures { (result ≡ place * low + (256 + place) * high) × (result ≤ 195330) }
 {
     let p = place as u16;
-    (p * low) as u32 + (p * high) as u32 + 256 * (high as u32)
+    u32::from(p * u16::from(low)) + u32::from(p * u16::from(high)) + 256 * u32::from(high)
 }
 
 // The sum of place × byte over a whole block.
@@ -66,25 +54,21 @@ fn weigh_block(block: &[u8]) -> u32
     requires { length block.now ≡ block_size }
     ensures { result ≡ weigh 0 block.now }
 {
-    // 256, in a form that leaves the loop to be made of vectors.
-    let half = lesser(block.len(), 256);
-    let mut sum: u32 = 0;
-    let mut i = 0;
-    while i < half {
-        sum += pair(i, short(block[i]), short(block[256 + i]));
-        i += 1;
+    let mut sum = 0;
+    for i in 0..256 {
+        sum += pair(i, block[i], block[256 + i]);
     }
     sum
 }
 
 // The check that a block ought to have. Place 0 weighs nothing, and place 1 is taken off again.
+#[tactic(auto, using(crate::proofs::Weighed::weigh_two))]
 fn check(block: &[u8]) -> usize
     requires { length block.now ≡ block_size }
     ensures { result ≡ check_of (drop 2 block.now) }
 {
-    let sum = weigh_block(block);
-    let one = short(block[1]);
-    ((sum - one as u32) % MODULUS) as usize
+    let sum = weigh_block(block) - u32::from(block[1]);
+    (sum % MODULUS) as usize
 }
 
 // Whether the bytes from one place up to another are the number's.
@@ -100,35 +84,25 @@ fn is_headed(block: &[u8], number: usize, count: usize) -> bool
     requires { length block.now ≡ block_size }
     ensures { result ≡ (same_bytes (field 2 4 block.now) (sample_bytes 2 count) && same_bytes (field 4 8 block.now) (sample_bytes 4 number)) }
 {
-    if !is_at(block, 2, 4, count) {
-        return false;
-    }
-    is_at(block, 4, 8, number)
+    is_at(block, 2, 4, count) && is_at(block, 4, 8, number)
 }
 
 // The fixed zeros, and those behind the payload.
+#[tactic(auto, using(rules::proofs::Block::zeros_are, crate::proofs::Made::padding))]
 fn is_filled(block: &[u8], count: usize) -> bool
     requires { (length block.now ≡ block_size) × (count ≤ payload_most) }
     ensures { result ≡ (same_bytes (field 8 payload_at block.now) (zeros 4) && same_bytes (field (payload_at + count) block_size block.now) (zeros (payload_most - count))) }
 {
-    if !is_at(block, 8, PAYLOAD_AT, 0) {
-        return false;
-    }
-    is_at(block, PAYLOAD_AT + count, BLOCK, 0)
+    is_at(block, 8, PAYLOAD_AT, 0) && is_at(block, PAYLOAD_AT + count, BLOCK, 0)
 }
 
 // Whether 512 bytes are a good block with this number and so many bytes of payload.
+#[tactic(auto, using(crate::proofs::Made::grouped))]
 pub fn good(block: &[u8], number: usize, count: usize) -> bool
     requires { (length block.now ≡ block_size) × (count ≤ payload_most) }
     ensures { result ≡ good_block number count block.now }
 {
-    if !is_headed(block, number, count) {
-        return false;
-    }
-    if !is_filled(block, count) {
-        return false;
-    }
-    is_at(block, 0, 2, check(block))
+    is_headed(block, number, count) && is_filled(block, count) && is_at(block, 0, 2, check(block))
 }
 
 // The number goes to the bytes from one place up to another.
@@ -156,7 +130,7 @@ fn put_payload(block: &mut [u8], payload: &[u8])
 {
     let end = PAYLOAD_AT + payload.len();
     block[PAYLOAD_AT..end].copy_from_slice(payload);
-    put_at(block, end, BLOCK, 0);
+    block[end..].fill(0);
 }
 
 // The check, of what stands behind it.
@@ -164,7 +138,7 @@ fn seal(block: &mut [u8])
     requires { length block.old ≡ block_size }
     ensures { block.new ≡ sample_bytes 2 (check_of (drop 2 block.old)) ++ drop 2 block.old }
 {
-    let sum = check(&block[..]);
+    let sum = check(block);
     put_at(block, 0, 2, sum);
 }
 
