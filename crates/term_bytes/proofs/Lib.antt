@@ -1,2 +1,1 @@
-mod Fold
 pub mod ReadBack

@@ -1,5 +1,5 @@
 -- Terms written as bytes: a term's line, and the number of its condition. Conditions are numbered as 01 lists them.
-use Rattle.std.specs.Prelude.{cond, List, [], ◌∷◌, ℕ, ltb, eqb}
+use Rattle.std.specs.Prelude.{cond, List, [], ◌∷◌, ℕ, ltb, eqb, Option, None, Some}
 use Rattle.terms.specs.declared.Condition.{Condition}
 use Rattle.terms.specs.declared.Condition.TheVariants.{Rising, Falling, Edge, High, Low}
 use Rattle.terms.specs.declared.TriggerTerm.{TriggerTerm}
@@ -7,7 +7,11 @@ use Rattle.terms.specs.declared.TriggerTerm.{TriggerTerm}
 abbrev pub condition_in : ℕ → Condition
 condition_in n = cond (eqb n 0) Rising (cond (eqb n 1) Falling (cond (eqb n 2) Edge (cond (eqb n 3) High Low)))
 
--- there are five conditions; a term of another has a line above 15, which row 3 refuses
+-- there are five conditions
+abbrev pub condition_at : ℕ → Option Condition
+condition_at n = cond (ltb 4 n) None (Some (condition_in n))
+
+-- a term of another has a line above 15, which row 3 refuses
 abbrev pub no_condition : ℕ
 no_condition = 255
 
