@@ -20,16 +20,12 @@ use Rattle.node.specs.Told.{Told}
 use Rattle.node.proofs.Told.{told_on}
 use Rattle.level.specs.Best.{fits_at, Best}
 use Rattle.level.proofs.Best.{Fits, fits_sample, fitting}
-use Rattle.range.specs.Part.{RangeIn, NodesIn}
+use Rattle.range.specs.Part.{NodesIn}
 use Rattle.range.specs.Join.{join_over}
 use Rattle.range.proofs.Right.{join_true}
-use Rattle.capture.specs.Backed.{Bytes, Nodes}
+use Rattle.capture.specs.Backed.{Nodes}
 use Rattle.summary.specs.Summary.{level_at, run_end, part_node, step_node, step_end, chunk_node, Part, cut_at, by_levels, summed, summary_of}
 use Rattle.summary.proofs.Gather.{Step, joined_node}
-
--- ---- a range of stored samples
-pub range_stored : {unit len : ℕ} {bytes : List ℕ} → Bytes unit len bytes → (a b : ℕ) → a < b → b ≤ len → RangeIn unit a b (length bytes)
-range_stored {unit} {len} h a b some upto = record { unit_size = h.unit_size; some = some; room = omega (arith, h.room, mul-le-mul_right {m = b} {n = len} unit upto) }
 
 -- ---- a run of nodes of w samples from p on
 module _ (w p b : ℕ) (hw : 1 ≤ w) (aligned : p % w ≡ 0) (fits : w ≤ b - p) (h : p < b) where

@@ -13,18 +13,16 @@ use lib.ListN.{length}
 use borrow.Author.Tests.{eqb-true, eq-eqb, not-false}
 use Rattle.rules.specs.Node.{Node, node_of, span, nodes_for, top_level, level_node}
 use Rattle.rules.specs.Search.{seek, higher}
-use Rattle.rules.specs.Refusal.{Store, node_size}
+use Rattle.rules.specs.Refusal.{node_size, most_samples}
 use Rattle.rules.proofs.Search.{times, times_up, seek_none, seek_skip, seek_here, none_seek}
 use Rattle.rules.proofs.Walk.{span_pos}
 use Rattle.node.specs.Memory.{node_in, RightAt, Right}
 use Rattle.level.proofs.Best.{span_le}
 use Rattle.range.specs.Join.{join_over}
-use Rattle.range.specs.Part.{RangeIn}
+use Rattle.range.specs.Part.{NodesIn}
 use Rattle.range.proofs.Joins.{made_at}
 use Rattle.range.proofs.Right.{made_true}
-use Rattle.capture.specs.Record.{lent_of}
-use Rattle.capture.proofs.Calls.{stored}
-use Rattle.summary.proofs.Laws.{node_room}
+use Rattle.capture.specs.Backed.{Backed}
 use Rattle.rules.specs.Wrong.{same_node, NodeAt, or_above, wrong_at, first_wrong, whole_answer}
 use Rattle.whole.specs.Wrong.{held_in}
 use Rattle.whole.specs.Made.{made_node, Numbered}
@@ -72,10 +70,10 @@ same_is m n = (
 
 module _ (s : ℕ → ℕ) (len : ℕ) (levels : ℕ → List ℕ) where
   -- ---- a level with no wrong node
-  abbrev None : ℕ → ℕ → Type 0
-  None l n = (j : ℕ) → j < n → wrong_at s len (held_in levels) l j ≡ false
+  abbrev NoneWrong : ℕ → ℕ → Type 0
+  NoneWrong l n = (j : ℕ) → j < n → wrong_at s len (held_in levels) l j ≡ false
 
-  pub none_more : (l n : ℕ) → None l n → wrong_at s len (held_in levels) l n ≡ false → None l (n + 1)
+  pub none_more : (l n : ℕ) → NoneWrong l n → wrong_at s len (held_in levels) l n ≡ false → NoneWrong l (n + 1)
   none_more l n h e j k = go (dec_lt j n)
     where
       go : Dec (j < n) → wrong_at s len (held_in levels) l j ≡ false
@@ -85,13 +83,13 @@ module _ (s : ℕ → ℕ) (len : ℕ) (levels : ℕ → List ℕ) where
           same : j ≡ n
           same = omega arith
 
-  none_right : (l : ℕ) → None l (nodes_for len l) ↔ RightAt s len levels l
+  none_right : (l : ℕ) → NoneWrong l (nodes_for len l) ↔ RightAt s len levels l
   none_right l = (
     λ h j k. (same_is (node_in (levels l) j) (level_node s len l j)).0 (not-false _ (h j ((covering len l j).1 k))),
     λ r j k. ap not ((same_is (node_in (levels l) j) (level_node s len l j)).1 (r j ((covering len l j).0 k))),
   )
 
-  seek_is : (l n : ℕ) → None l n ↔ (seek higher (wrong_at s len (held_in levels) l) 0 n ≡ None)
+  seek_is : (l n : ℕ) → NoneWrong l n ↔ (seek higher (wrong_at s len (held_in levels) l) 0 n ≡ None)
   seek_is l n = (
     λ h. none_seek higher (wrong_at s len (held_in levels) l) 0 n (λ j k. h (times higher j 0) (omega (arith, times_up j 0))),
     λ e j k. ap (wrong_at s len (held_in levels) l) (sym (times_up j 0 ∙ omega arith)) ∙ seek_none higher (wrong_at s len (held_in levels) l) 0 n e j k,
@@ -111,7 +109,7 @@ module _ (s : ℕ → ℕ) (len : ℕ) (levels : ℕ → List ℕ) where
   unfolding first_wrong
   level_found l n o e = ap (λ (x : Option ℕ). or_above l x (first_wrong s len (held_in levels) (l + 1) n)) e
 
-  pub checking_on : (l : ℕ) → Checking l → l ≤ top_level → None l (nodes_for len l) → Checking (l + 1)
+  pub checking_on : (l : ℕ) → Checking l → l ≤ top_level → NoneWrong l (nodes_for len l) → Checking (l + 1)
   checking_on l c h n = record {
     low = omega arith;
     high = omega arith;
@@ -129,7 +127,7 @@ module _ (s : ℕ → ℕ) (len : ℕ) (levels : ℕ → List ℕ) where
           same : l ≡ k
           same = omega arith
 
-  pub checking_found : (l j : ℕ) → Checking l → l ≤ top_level → j < nodes_for len l → None l j → wrong_at s len (held_in levels) l j ≡ true → Some (record { level = l; number = j }) ≡ whole_answer s len (held_in levels)
+  pub checking_found : (l j : ℕ) → Checking l → l ≤ top_level → j < nodes_for len l → NoneWrong l j → wrong_at s len (held_in levels) l j ≡ true → Some (record { level = l; number = j }) ≡ whole_answer s len (held_in levels)
   checking_found l j c h k n e = sym (c.rest ∙ ap (first_wrong s len (held_in levels) l) left ∙ level_found l (top_level + 1 - (l + 1)) (Some j) found)
     where
       left : top_level + 1 - l ≡ suc (top_level + 1 - (l + 1))
@@ -196,34 +194,24 @@ module _ (s : ℕ → ℕ) (len : ℕ) (levels : ℕ → List ℕ) where
   right_is = (λ e k a b. levels_right 1 top_level e k a (omega arith), λ r. right_levels 1 top_level (λ k a b. r k a (omega arith)))
 
 -- ---- room
-module _ (st : Store) (samples : List ℕ) (levels : ℕ → List ℕ) (l j : ℕ) (n : Numbered st (lent_of samples levels) l j) where
-  pub number_small : j * 32 < 67108864
-  number_small = omega (arith, n.covers, n.sound.len_most, n.sound.capacity_most, mul-le-mul_left {m = 32} {n = span l} j (span_le {l = 1} {k = l} n.low))
+module _ (unit len : ℕ) (samples : List ℕ) (levels : ℕ → List ℕ) (b : Backed unit len samples levels) (l j : ℕ) (n : Numbered len l j) where
+  pub number_small : j * 32 < most_samples
+  number_small = omega (arith, n.covers, b.most, mul-le-mul_left {m = 32} {n = span l} j (span_le {l = 1} {k = l} n.low))
 
-  pub samples_room : (e : ℕ) → l ≡ 1 → e ≡ min (j * 32 + 32) st.len → RangeIn st.unit (j * 32) e (length samples)
-  samples_room e z ee = record {
-    unit_size = n.sound.unit_size;
-    Some = omega (arith, covers);
-    room = stored st samples levels n.sound e (omega arith);
-  }
-    where
-      covers : j * 32 < st.len
-      covers = subst (λ (k : ℕ). j * span k < st.len) z n.covers
-
-  pub join_room : (e : ℕ) (below : List ℕ) → 2 ≤ l → e ≡ min (j * 32 + 32) (nodes_for st.len (l - 1)) → below ≡ levels (l - 1) → (j * 32 < e) × (e * node_size ≤ length below)
-  join_room e below h ee el = (first, subst (λ (x : List ℕ). e * node_size ≤ length x) (sym el) (omega (arith, first, room)))
+  pub join_room : (e : ℕ) (below : List ℕ) → 2 ≤ l → e ≡ min (j * 32 + 32) (nodes_for len (l - 1)) → below ≡ levels (l - 1) → (j * 32 < e) × NodesIn (j * 32) e (length below)
+  join_room e below h ee el = (first, record { few = omega (arith, ee); room = subst (λ (x : List ℕ). e * node_size ≤ length x) (sym el) (omega (arith, first, room)) })
     where
       wide : span l ≡ span (l - 1) * 32
       wide = ap span (omega arith) ∙ pow-suc 32 (l - 1)
 
-      inside : j * 32 < nodes_for st.len (l - 1)
-      inside = (covering st.len (l - 1) (j * 32)).1 (omega (arith, subst (λ (x : ℕ). j * x < st.len) wide n.covers))
+      inside : j * 32 < nodes_for len (l - 1)
+      inside = (covering len (l - 1) (j * 32)).1 (omega (arith, subst (λ (x : ℕ). j * x < len) wide n.covers))
 
       first : j * 32 < e
       first = omega (arith, inside)
 
       room : (e - 1) * node_size + node_size ≤ length (levels (l - 1))
-      room = node_room st (lent_of samples levels) n.sound (l - 1) (e - 1) (omega arith) (omega (arith, n.high)) ((covering st.len (l - 1) (e - 1)).0 (omega (arith, first)))
+      room = b.nodes.inside (l - 1) (e - 1) (omega arith) (omega (arith, n.high)) ((covering len (l - 1) (e - 1)).0 (omega (arith, first)))
 
 pub made_samples : (s : ℕ → ℕ) (len : ℕ) (levels : ℕ → List ℕ) (l j e : ℕ) → l ≡ 1 → e ≡ min (j * 32 + 32) len → node_of s (j * 32) e ≡ made_node s len levels l j
 unfolding made_node
