@@ -1,10 +1,10 @@
 -- A recorder's start: each of its answers is the definition's; over a list of terms the definition is 01's; and a fresh recorder is within the bounds that a push asks.
 use mathlib.Core.Path.{◌≡◌, refl, sym, ap, ◌∙◌, subst}
-use mathlib.Core.Bool.{Bool, true, false, cond}
+use mathlib.Core.Bool.{Bool, true, false, cond, or-true}
+use mathlib.Core.Logic.{◌⊎◌, inl, inr}
 use mathlib.Core.List.{List, [], ◌∷◌}
-use Rattle.std.specs.Prelude.{None}
-use Prim.Native.Nat.{ℕ, zero, suc, ◌*◌, ◌≤◌, ◌<◌, ◌^◌}
-use native.Mathlib.Nat.{mul-le-mul}
+use Rattle.std.specs.Prelude.{None, Ok}
+use Prim.Native.Nat.{ℕ, zero, suc, ◌*◌, ◌≤◌, ◌<◌}
 use native.Mathlib.Omega.{arith}
 use lib.Dec.{ltb, leb}
 use borrow.Author.Tests.{ltb-false, lt-ltb, le-ltb, leb-false, le-leb, lt-leb}
@@ -15,18 +15,20 @@ use Rattle.rules.specs.Trigger as trigger
 use Rattle.rules.specs.Selection.{Settings, pre_of}
 use Rattle.rules.specs.Refusal.{Store, Lent, Row, first_of, store_refusal, fresh, ring_need, wish_wrong, number_wrong, start_refusal, start_rows, settings_rows, pre_row}
 use Rattle.rules.specs.Answer.{refused, given, unless}
-use Rattle.rules.proofs.Refusal.{neither, Sound, SoundRecorder}
-use Rattle.capture.proofs.Answer.{refused_is, unless_given, stopped, rows_refuse, rows_decide}
+use Rattle.rules.proofs.Refusal.{neither, SoundRecorder}
+use Rattle.answer.specs.declared.Refusal.{Refusal}
+use Rattle.answer.specs.Answered.{number}
+use Rattle.answer.proofs.Answered.{number_least, stops}
+use Rattle.capture.proofs.Answer.{unless_given, stopped, rows_refuse}
 use Rattle.terms.specs.declared.Terms.{Terms}
 use Rattle.terms.specs.declared.TriggerTerm.{TriggerTerm}
 use Rattle.terms.specs.Terms.{terms_of, armed_by}
 use Rattle.terms.proofs.Fold.{terms_wrong, terms_armed}
 use Rattle.feeder.specs.declared.Pretrigger.{Pretrigger}
-use Rattle.feeder.specs.declared.Feeder.{Feeder}
-use Rattle.feeder.specs.declared.Started.TheVariants.{Fresh}
+use Rattle.feeder.specs.declared.Fresh.{Fresh}
 use Rattle.feeder.specs.Record.{wish_of, recorder_of}
-use Rattle.feeder.specs.Start.{fresh_of, started_of, answer_of, start_of, settings_of, Workable}
-use Rattle.feeder.proofs.Rows.{Numbered, Passed, all_passed, rows_then, store_passed}
+use Rattle.feeder.specs.Start.{fresh_of, begun_of, started_of, answer_of, start_of, settings_of, Workable}
+use Rattle.feeder.proofs.Rows.{Numbered, all_passed, rows_then, store_passed}
 
 -- ---- refusals as answers
 -- where a row holds, the record does not matter
@@ -34,87 +36,72 @@ unless_same : (n : ℕ) (a b : Begun) → (n ≡ 0 → a ≡ b) → unless n a �
 unless_same zero a b h = ap given (h refl)
 unless_same (suc n) a b h = refl
 
--- ---- rows 1 to 6; n is the number of the first of rows 1 and 2
-module _ (st : Store) (lent : Lent) (limit : ℕ) (wrong : Bool) (wish : rule.Pretrigger) (rate : ℕ) {n : ℕ} (told : n ≡ store_refusal st lent) where
-  abbrev four : List Row
-  four =
-      record { number = 3; holds = wrong }
-      ∷ record { number = 4; holds = ltb st.capacity limit }
-      ∷ record { number = 5; holds = wish_wrong wish limit }
-      ∷ record { number = 6; holds = number_wrong wish rate }
-      ∷ []
+-- ---- rows 1 to 6: 1 or 2 comes before the others
+pub settings_shut : (st : Store) (lent : Lent) (limit : ℕ) (wrong : Bool) (wish : rule.Pretrigger) (rate : ℕ) (r : Refusal) → number r ≡ store_refusal st lent → number r ≡ first_of (settings_rows st lent limit wrong wish rate [])
+settings_shut st lent limit wrong wish rate r e = rows_refuse st lent four e (λ z. omega (arith, number_least r))
+  where
+    four : List Row
+    four =
+        record { number = 3; holds = wrong }
+        ∷ record { number = 4; holds = ltb st.capacity limit }
+        ∷ record { number = 5; holds = wish_wrong wish limit }
+        ∷ record { number = 6; holds = number_wrong wish rate }
+        ∷ []
 
-  pub store_row : (n ≡ 0 → ⊥) → n ≡ first_of (settings_rows st lent limit wrong wish rate [])
-  store_row h = rows_refuse st lent four told h
-
-  pub row_by : n ≡ 0 → (c3 c4 c5 c6 : Bool) → wrong ≡ c3 → ltb st.capacity limit ≡ c4 → wish_wrong wish limit ≡ c5 → number_wrong wish rate ≡ c6
-      → cond {A = ℕ} c3 3 (cond c4 4 (cond c5 5 (cond c6 6 0))) ≡ first_of (settings_rows st lent limit wrong wish rate [])
-  row_by h c3 c4 c5 c6 e3 e4 e5 e6 =
-      rows_decide st lent four told h _ (go wrong (ltb st.capacity limit) (wish_wrong wish limit) (number_wrong wish rate) e3 e4 e5 e6)
-    where
-      go : (a b c d : Bool) → a ≡ c3 → b ≡ c4 → c ≡ c5 → d ≡ c6 → cond {A = ℕ} c3 3 (cond c4 4 (cond c5 5 (cond c6 6 0))) ≡ cond a 3 (cond b 4 (cond c 5 (cond d 6 0)))
-      go a b c d e3 e4 e5 e6 = cc
-
--- ---- the call; u is the unit, as the code works it out
-module _ (channels capacity limit : ℕ) (terms : Terms) (wish : Pretrigger) (rate : ℕ) (lent : Lent) (ring u : ℕ) (unit : u ≡ unit_of channels) where
-  abbrev store : Store
-  store = record { unit = u; capacity = capacity; len = 0; mark = None }
-
+-- ---- the call; st is its store, as the code makes it
+module _ (channels capacity limit : ℕ) (terms : Terms) (wish : Pretrigger) (rate : ℕ) (lent : Lent) (ring : ℕ) {st : Store} (is : st ≡ fresh channels capacity) where
   abbrev rows : List Row
-  rows = settings_rows store lent limit terms.wrong (wish_of wish) rate []
+  rows = settings_rows st lent limit terms.wrong (wish_of wish) rate []
 
-  start_is : (k : rule.Pre) → k ≡ rule.pre_for (wish_of wish) limit rate u → answer_of store lent limit terms (wish_of wish) rate k ring ≡ start_of channels capacity limit terms wish rate lent ring
+  start_is : (k : rule.Pre) → k ≡ rule.pre_for (wish_of wish) limit rate st.unit → answer_of st lent limit terms (wish_of wish) rate k ring ≡ start_of channels capacity limit terms wish rate lent ring
   unfolding start_of
   start_is k e =
-      ap (λ (x : rule.Pre). answer_of store lent limit terms (wish_of wish) rate x ring) e
-      ∙ ap (λ (x : ℕ). answer_of (record { unit = x; capacity = capacity; len = 0; mark = None }) lent limit terms (wish_of wish) rate (rule.pre_for (wish_of wish) limit rate x) ring) unit
+      ap (λ (x : rule.Pre). answer_of st lent limit terms (wish_of wish) rate x ring) e
+      ∙ ap (λ (s : Store). answer_of s lent limit terms (wish_of wish) rate (rule.pre_for (wish_of wish) limit rate s.unit) ring) is
 
   numbered : Numbered rows
   numbered = (omega arith, (omega arith, (omega arith, (omega arith, (omega arith, (omega arith, tt))))))
 
-  module _ {n : ℕ} (told : n ≡ first_of rows) where
-    -- one of the rows 1 to 6
-    pub start_refused : (n ≡ 0 → ⊥) → refused n ≡ start_of channels capacity limit terms wish rate lent ring
-    start_refused h =
-        let kept = rule.pre_for (wish_of wish) limit rate u in
-        refused_is (fresh_of u capacity limit (armed_by terms) kept) (told ∙ sym (stopped rows (pre_row store kept.samples ring ∷ []) (λ z. h (told ∙ z)))) h
-        ∙ start_is kept refl
+  -- one of the rows 1 to 6
+  pub start_stops : (r : Refusal) → number r ≡ first_of rows → refused (number r) ≡ start_of channels capacity limit terms wish rate lent ring
+  start_stops r told =
+      let kept = rule.pre_for (wish_of wish) limit rate st.unit in
+      let least = number_least r in
+      stops r _ (fresh_of st.unit st.capacity limit (armed_by terms) kept) (told ∙ sym (stopped rows (pre_row st kept.samples ring ∷ []) (λ z. omega (arith, told ∙ z))))
+      ∙ start_is kept refl
 
-    module _ (none_holds : n ≡ 0) where
-      passed : Passed rows
-      passed = all_passed rows numbered (sym told ∙ none_holds)
+  module _ (none_holds : 0 ≡ first_of rows) where
+    pub workable : Workable (wish_of wish) limit rate st.unit
+    workable =
+        let passed = all_passed rows numbered (sym none_holds) in
+        let sound = (store_passed st lent passed.0 passed.1.0).0 in
+        let l = ltb-false st.capacity limit passed.1.1.1.0 in
+        record { limit_most = omega (arith, sound.capacity_most); number = passed.1.1.1.1.1.0; unit_least = sound.unit_size.least }
 
-      sound : Sound store lent
-      sound = (store_passed store lent passed.0 passed.1.0).0
+    module _ {k : rule.Pre} (kept : k ≡ rule.pre_for (wish_of wish) limit rate st.unit) where
+      by : (b : Bool) → (pre_row st k.samples ring).holds ≡ b → unless (cond b 7 0) (fresh_of st.unit st.capacity limit (armed_by terms) k) ≡ start_of channels capacity limit terms wish rate lent ring
+      by b e =
+          ap (λ (x : ℕ). unless x (fresh_of st.unit st.capacity limit (armed_by terms) k))
+          (ap (λ (x : Bool). cond {A = ℕ} x 7 0) (sym e) ∙ sym (rows_then rows (pre_row st k.samples ring ∷ []) numbered (sym none_holds)))
+          ∙ start_is k kept
 
-      pub workable : Workable (wish_of wish) limit rate u
-      workable =
-          let l = ltb-false capacity limit passed.1.1.1.0 in
-          record { limit_most = omega (arith, l, sound.capacity_most); number = passed.1.1.1.1.1.0; unit_least = sound.unit_size.least }
+      -- row 7
+      pub no_room : (st.capacity ≤ k.samples) ⊎ (ring < k.samples * st.unit) → refused 7 ≡ start_of channels capacity limit terms wish rate lent ring
+      no_room (inl h) = by true (rw (le-leb st.capacity k.samples h))
+      no_room (inr h) = by true (rw (lt-ltb ring (k.samples * st.unit) h) (or-true (leb st.capacity k.samples)))
 
-      pub pre_fits : (pre : ℕ) → pre < capacity → pre * u < 2 ^ 64
-      pre_fits pre h =
-          let most : pre ≤ 67108864 = omega (arith, sound.capacity_most) in
-          omega (arith, mul-le-mul most sound.unit_size.most)
+      abbrev begun_with : Store → trigger.Armed → Begun
+      begun_with s a = record {
+        recorder = record { store = s; limit = limit; pre = k.samples; armed = a; previous = None; place = 0; kept = 0 };
+        was_cut = k.was_cut;
+      }
 
-      module _ (k : rule.Pre) (kept : k ≡ rule.pre_for (wish_of wish) limit rate u) where
-        by : (b : Bool) → (pre_row store k.samples ring).holds ≡ b → unless (cond b 7 0) (fresh_of u capacity limit (armed_by terms) k) ≡ start_of channels capacity limit terms wish rate lent ring
-        by b e =
-            ap (λ (x : ℕ). unless x (fresh_of u capacity limit (armed_by terms) k))
-            (ap (λ (x : Bool). cond {A = ℕ} x 7 0) (sym e) ∙ sym (rows_then rows (pre_row store k.samples ring ∷ []) numbered (sym told ∙ none_holds)))
-            ∙ start_is k kept
-
-        -- row 7
-        pub too_many : capacity ≤ k.samples → refused 7 ≡ start_of channels capacity limit terms wish rate lent ring
-        too_many h = by true (rw (le-leb capacity k.samples h))
-
-        pub ring_short_lem : k.samples < capacity → ring < k.samples * u → refused 7 ≡ start_of channels capacity limit terms wish rate lent ring
-        ring_short_lem h g = by true (rw (lt-leb capacity k.samples h, lt-ltb ring (k.samples * u) g))
-
-        pub accepted : k.samples < capacity → k.samples * u ≤ ring → (a : trigger.Armed) → a ≡ armed_by terms → given (fresh_of u capacity limit a k) ≡ start_of channels capacity limit terms wish rate lent ring
-        accepted h g a e =
-            ap (λ (x : trigger.Armed). given (fresh_of u capacity limit x k)) e
-            ∙ by false (rw (lt-leb capacity k.samples h, le-ltb ring (k.samples * u) g))
+      pub accepted : k.samples < st.capacity → k.samples * st.unit ≤ ring → (a : trigger.Armed) → a ≡ armed_by terms → given (begun_with st a) ≡ start_of channels capacity limit terms wish rate lent ring
+      accepted h g a e =
+          ap (λ (s : Store). given (begun_with s a)) is
+          ∙ sym (ap (λ (s : Store). given (fresh_of s.unit s.capacity limit a k)) is)
+          ∙ ap (λ (x : trigger.Armed). given (fresh_of st.unit st.capacity limit x k)) e
+          ∙ by false (rw (lt-leb st.capacity k.samples h, le-ltb ring (k.samples * st.unit) g))
 
 -- ---- over a list of terms, start is 01's
 seven : (st : Settings) (lent : Lent) (ring : ℕ) → Numbered (start_rows st lent ring)
@@ -155,7 +142,7 @@ begun_sound st lent ring e =
     }
 
 -- the record that the call gives
-pub fresh_sound : (st : Settings) (lent : Lent) (ring : ℕ) (f : Feeder) (cut : Bool) → started_of (Fresh f cut) ≡ start_rule st lent ring → SoundRecorder (recorder_of f) lent ring
-fresh_sound st lent ring f cut e =
-    let t = unless_given (begun st) (start_refusal st lent ring) (record { recorder = recorder_of f; was_cut = cut }) (sym e) in
+pub fresh_sound : (st : Settings) (lent : Lent) (ring : ℕ) (x : Fresh) → started_of (Ok x) ≡ start_rule st lent ring → SoundRecorder (recorder_of x.feeder) lent ring
+fresh_sound st lent ring x e =
+    let t = unless_given (begun st) (start_refusal st lent ring) (begun_of x) (sym e) in
     subst (λ (b : Begun). SoundRecorder b.recorder lent ring) t.1 (begun_sound st lent ring t.0)

@@ -1,18 +1,18 @@
 -- The code's record as 01's recorder.
+use Rattle.std.specs.Prelude.{Option, None, Some}
 use Rattle.rules.specs.Pretrigger as rule
 use Rattle.rules.specs.Trigger as trigger
 use Rattle.rules.specs.Refusal.{Recorder}
 use Rattle.capture.specs.Record.{store_of}
-use Rattle.terms.specs.Terms.{as_masks, previous_of}
-use Rattle.feeder.specs.declared.Armed.{Armed}
-use Rattle.feeder.specs.declared.Armed.TheVariants.{Unarmed, Waiting}
+use Rattle.terms.specs.Terms.{as_masks}
+use Rattle.terms.specs.declared.Masks.{Masks}
 use Rattle.feeder.specs.declared.Pretrigger.{Pretrigger}
 use Rattle.feeder.specs.declared.Pretrigger.TheVariants.{Fraction, Seconds}
 use Rattle.feeder.specs.declared.Feeder.{Feeder}
 
-abbrev pub armed_as : Armed → trigger.Armed
-armed_as Unarmed = trigger.unarmed
-armed_as (Waiting m) = trigger.waiting (as_masks m)
+abbrev pub armed_as : Option Masks → trigger.Armed
+armed_as None = trigger.unarmed
+armed_as (Some m) = trigger.waiting (as_masks m)
 
 abbrev pub wish_of : Pretrigger → rule.Pretrigger
 wish_of (Fraction p) = rule.fraction p
@@ -24,7 +24,7 @@ recorder_of f = record {
   limit = f.limit;
   pre = f.pre;
   armed = armed_as f.masks;
-  previous = previous_of f.prev;
+  previous = f.prev;
   place = f.place;
   kept = f.kept;
 }

@@ -1,25 +1,28 @@
 -- A recorder's start: its answer, refusals included.
-use Rattle.std.specs.Prelude.{◌≡◌, false, List, [], ◌∷◌, map, ℕ, ◌≤◌, ◌<◌}
+use Rattle.std.specs.Prelude.{◌≡◌, false, List, [], ◌∷◌, map, ℕ, ◌≤◌, ◌<◌, Result}
 use Rattle.rules.specs.Sample.{unit_of}
 use Rattle.rules.specs.Pretrigger as rule
 use Rattle.rules.specs.Trigger as trigger
 use Rattle.rules.specs.Selection.{Settings}
 use Rattle.rules.specs.Refusal.{Store, Lent, most_samples, first_of, fresh, number_wrong, settings_rows, pre_row}
 use Rattle.rules.specs.Start.{fresh_recorder, Begun}
-use Rattle.rules.specs.Answer.{Answer, refused, given, unless}
+use Rattle.rules.specs.Answer.{Answer, unless}
+use Rattle.answer.specs.Answered as answered
+use Rattle.answer.specs.declared.Refusal.{Refusal}
 use Rattle.terms.specs.declared.Terms.{Terms}
 use Rattle.terms.specs.declared.TriggerTerm.{TriggerTerm}
 use Rattle.terms.specs.Terms.{term_of, armed_by}
 use Rattle.feeder.specs.declared.Pretrigger.{Pretrigger}
-use Rattle.feeder.specs.declared.Started.{Started}
-use Rattle.feeder.specs.declared.Started.TheVariants.{Refused, Fresh}
+use Rattle.feeder.specs.declared.Fresh.{Fresh}
 use Rattle.feeder.specs.Record.{wish_of, recorder_of}
 
 -- ---- the call, over terms that are summed up
--- 01's answer for each of the call's
-abbrev pub started_of : Started → Answer Begun
-started_of (Refused n) = refused n
-started_of (Fresh f cut) = given (record { recorder = recorder_of f; was_cut = cut })
+-- 01's record and flag, and 01's answer, for each of the call's
+abbrev pub begun_of : Fresh → Begun
+begun_of x = record { recorder = recorder_of x.feeder; was_cut = x.cut }
+
+abbrev pub started_of : Result Fresh Refusal → Answer Begun
+started_of r = answered.answer_of begun_of r
 
 -- the record that start gives, by the unit and the samples kept before the trigger
 abbrev pub fresh_of : ℕ → ℕ → ℕ → trigger.Armed → rule.Pre → Begun

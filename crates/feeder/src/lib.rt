@@ -4,24 +4,19 @@
 ghost use Rattle.std.specs.Prelude.{◌≡◌, Bool, [], length};
 ghost use Rattle.rules.specs.Pretrigger.{pre_for};
 ghost use Rattle.rules.specs.Refusal.{first_of, wish_wrong, number_wrong, place_wrong, setting_wrong, recorder_refusal, settings_rows};
+ghost use Rattle.answer.specs.Answered.{refusal_of};
 ghost use Rattle.terms.specs.Terms.{armed_by};
 ghost use Rattle.float.specs.Samples.{kept_as};
-ghost use Rattle.node.specs.Memory.{level_of};
-ghost use Rattle.capture.specs.Record.{store_of, lent_of};
+ghost use Rattle.capture.specs.Record.{store_of, lent_in};
 ghost use Rattle.feeder.specs.Record.{wish_of, armed_as, recorder_of};
 ghost use Rattle.feeder.specs.Start.{Workable, started_of, start_of};
 
-use capture::{Capture, Mark, unit_of};
+use answer::Refusal;
+use capture::Capture;
 use float::Kept;
 use lines::Mask;
-use terms::{Masks, Previous, Terms};
-
-// 01's "armed with five masks or unarmed".
-#[derive(Clone, Copy)]
-pub enum Armed {
-    Unarmed,
-    Waiting(Masks),
-}
+use node::Memory;
+use terms::{Masks, Terms};
 
 // 01's wish: the samples to keep before the trigger.
 #[derive(Clone, Copy)]
@@ -36,232 +31,160 @@ pub struct Feeder {
     pub capture: Capture,
     pub limit: usize,
     pub pre: usize,
-    pub masks: Armed,
-    pub prev: Previous,
+    // 01's "armed with five masks or unarmed"
+    pub masks: Option<Masks>,
+    // the sample before the next one, once there is one
+    pub prev: Option<Mask>,
     pub place: usize,
     pub kept: usize,
 }
 
-// What start answers: the number of a refusal, or the record and whether the cap cut its samples before the trigger.
+// What start gives: the record, and whether the cap cut its samples before the trigger.
 #[derive(Clone, Copy)]
-pub enum Started {
-    Refused(u8),
-    Fresh(Feeder, bool),
+pub struct Fresh {
+    pub feeder: Feeder,
+    pub cut: bool,
 }
 
 // ---- the check of a recorder after start
 
-// Row 1, the recorder's own half: a number of the record is outside its range.
-fn setting_wrong(f: Feeder) -> bool
-    ensures { result ≡ setting_wrong (recorder_of f) }
-{
-    let capture = f.capture;
-    if capture.capacity < f.limit {
-        return true;
+impl Feeder {
+    // The ring's next slot is not below pre, unless both are 0.
+    fn is_place_wrong(&self) -> bool
+        ensures { result ≡ place_wrong self.now.pre self.now.place }
+    {
+        self.pre <= self.place && (self.pre != 0 || self.place != 0)
     }
-    if capture.capacity <= f.pre {
-        return true;
-    }
-    if f.pre < f.kept {
-        return true;
-    }
-    if place_wrong(f.pre, f.place) {
-        return true;
-    }
-    if f.limit == 0 {
-        return false;
-    }
-    f.limit < capture.len
-}
 
-// The ring's next slot is not below pre, unless both are 0.
-fn place_wrong(pre: usize, place: usize) -> bool
-    ensures { result ≡ place_wrong pre place }
-{
-    if place < pre {
-        return false;
+    // Row 1, the recorder's own half: a number of the record is outside its range.
+    fn is_wrong(&self) -> bool
+        ensures { result ≡ setting_wrong (recorder_of self.now) }
+    {
+        self.capture.capacity < self.limit
+            || self.capture.capacity <= self.pre
+            || self.pre < self.kept
+            || self.is_place_wrong()
+            || self.limit != 0 && self.limit < self.capture.len
     }
-    if pre != 0 {
-        return true;
-    }
-    place != 0
-}
 
-// Rows 1 and 2 of push: the number of the first that holds, or 0.
-pub fn refusal_of<'a>(
-    f: Feeder,
-    samples: &[u8],
-    l1: &'a [Mask],
-    l2: &'a [Mask],
-    l3: &'a [Mask],
-    l4: &'a [Mask],
-    ring: &[u8],
-) -> u8
-    ensures { result ≡ recorder_refusal (recorder_of f) (lent_of samples.now (level_of l1.now l2.now l3.now l4.now)) (length ring.now) }
-{
-    let capture = f.capture;
-    let first = capture::refusal(capture, samples, l1, l2, l3, l4);
-    if first == 1 {
-        return 1;
+    // Rows 1 and 2 of push.
+    pub fn check(&self, memory: &Memory<'_>, ring: &[u8]) -> Result<(), Refusal>
+        ensures { refusal_of result ≡ recorder_refusal (recorder_of self.now) (lent_in memory.now) (length ring.now) }
+    {
+        if self.capture.is_wrong() || self.is_wrong() {
+            return Err(Refusal::Record);
+        }
+        if self.capture.is_short(memory) || ring.len() < self.pre * self.capture.unitsize {
+            return Err(Refusal::Memory);
+        }
+        Ok(())
     }
-    if setting_wrong(f) {
-        return 1;
-    }
-    if first != 0 {
-        return first;
-    }
-    if ring.len() < f.pre * capture.unitsize {
-        return 2;
-    }
-    0
 }
 
 // ---- a recorder's start
 
-// Row 5: a fraction of no limit, or seconds beside a limit.
-fn wish_wrong(wish: Pretrigger, limit: usize) -> bool
-    ensures { result ≡ wish_wrong (wish_of wish) limit }
-{
-    match wish {
-        Pretrigger::Fraction(_) => limit == 0,
-        Pretrigger::Seconds(_) => limit != 0,
-    }
-}
-
 const MOST_RATE: usize = 1000000000;
 
-// Row 6: the wish is not a number, or its rate is too high.
-fn number_wrong(wish: Pretrigger, rate: usize) -> bool
-    ensures { result ≡ number_wrong (wish_of wish) rate }
-{
-    match wish {
-        Pretrigger::Fraction(p) => float::is_nan(p),
-        Pretrigger::Seconds(t) => {
-            if float::is_nan(t) {
-                return true;
-            }
-            MOST_RATE < rate
+impl Pretrigger {
+    // Row 5: a fraction of no limit, or seconds beside a limit.
+    fn is_wrong(self, limit: usize) -> bool
+        ensures { result ≡ wish_wrong (wish_of self) limit }
+    {
+        match self {
+            Pretrigger::Fraction(_) => limit == 0,
+            Pretrigger::Seconds(_) => limit != 0,
         }
     }
-}
 
-// The samples kept before the trigger, and whether the cap cut them.
-fn pretrigger_samples(wish: Pretrigger, limit: usize, rate: usize, unit: usize) -> Kept
-    requires { Workable (wish_of wish) limit rate unit }
-    ensures { kept_as result ≡ pre_for (wish_of wish) limit rate unit }
-{
-    match wish {
-        Pretrigger::Fraction(p) => {
-            let samples = float::fraction_samples(limit as u64, p);
-            Kept {
-                samples,
+    // Row 6: the wish is not a number, or its rate is too high.
+    fn is_no_number(self, rate: usize) -> bool
+        ensures { result ≡ number_wrong (wish_of self) rate }
+    {
+        match self {
+            Pretrigger::Fraction(p) => float::is_nan(p),
+            Pretrigger::Seconds(t) => float::is_nan(t) || MOST_RATE < rate,
+        }
+    }
+
+    // The samples kept before the trigger, and whether the cap cut them.
+    fn samples(self, limit: usize, rate: usize, unit: usize) -> Kept
+        requires { Workable (wish_of self) limit rate unit }
+        ensures { kept_as result ≡ pre_for (wish_of self) limit rate unit }
+    {
+        match self {
+            Pretrigger::Fraction(p) => Kept {
+                samples: float::fraction_samples(limit as u64, p),
                 cut: false,
-            }
+            },
+            Pretrigger::Seconds(t) => float::seconds_samples(t, rate as u64, unit as u64),
         }
-        Pretrigger::Seconds(t) => float::seconds_samples(t, rate as u64, unit as u64),
     }
 }
 
-// Rows 1 to 6: the number of the first that holds, or 0.
-fn settings_refusal<'a>(
-    fresh: Capture,
+// Rows 1 to 6.
+fn check_settings(
+    capture: &Capture,
+    memory: &Memory<'_>,
     limit: usize,
     wrong: bool,
     wish: Pretrigger,
     rate: usize,
-    samples: &[u8],
-    l1: &'a [Mask],
-    l2: &'a [Mask],
-    l3: &'a [Mask],
-    l4: &'a [Mask],
-) -> u8
-    ensures { result ≡ first_of (settings_rows (store_of fresh) (lent_of samples.now (level_of l1.now l2.now l3.now l4.now)) limit wrong (wish_of wish) rate []) }
+) -> Result<(), Refusal>
+    ensures { refusal_of result ≡ first_of (settings_rows (store_of capture.now) (lent_in memory.now) limit wrong (wish_of wish) rate []) }
 {
-    let first = capture::refusal(fresh, samples, l1, l2, l3, l4);
-    if first != 0 {
-        return first;
-    }
+    capture.check(memory)?;
     if wrong {
-        return 3;
+        return Err(Refusal::Line);
     }
-    if fresh.capacity < limit {
-        return 4;
+    if capture.capacity < limit {
+        return Err(Refusal::Limit);
     }
-    if wish_wrong(wish, limit) {
-        return 5;
+    if wish.is_wrong(limit) {
+        return Err(Refusal::Wish);
     }
-    if number_wrong(wish, rate) {
-        return 6;
+    if wish.is_no_number(rate) {
+        return Err(Refusal::Number);
     }
-    0
+    Ok(())
 }
 
 // Armed where there is a term; a line with both Rising and Falling becomes one with Edge here.
-fn armed_by(terms: Terms) -> Armed
+fn armed_by(terms: Terms) -> Option<Masks>
     ensures { armed_as result ≡ armed_by terms }
 {
-    if terms.any {
-        let masks = terms.masks;
-        return Armed::Waiting(masks.both_as_edge());
-    }
-    Armed::Unarmed
+    terms.masks.map(|masks| masks.both_as_edge())
 }
 
 // 01's start of a recorder, over terms that are summed up. proofs/Begun: start_rule_lem, for terms that come of a list; begun_sound, of the record.
-pub fn start<'a>(
+pub fn start(
     channels: usize,
     capacity: usize,
     limit: usize,
     terms: Terms,
     wish: Pretrigger,
     rate: usize,
-    samples: &[u8],
-    l1: &'a [Mask],
-    l2: &'a [Mask],
-    l3: &'a [Mask],
-    l4: &'a [Mask],
+    memory: Memory<'_>,
     ring: &[u8],
-) -> Started
-    ensures { started_of result ≡ start_of channels capacity limit terms wish rate (lent_of samples.now (level_of l1.now l2.now l3.now l4.now)) (length ring.now) }
+) -> Result<Fresh, Refusal>
+    ensures { started_of result ≡ start_of channels capacity limit terms wish rate (lent_in memory.entry) (length ring.now) }
 {
-    let unitsize = unit_of(channels);
-    let fresh = Capture {
-        unitsize,
-        capacity,
-        len: 0,
-        trigger: Mark::Absent,
-    };
-    let number = settings_refusal(
-        fresh,
-        limit,
-        terms.wrong,
-        wish,
-        rate,
-        samples,
-        l1,
-        l2,
-        l3,
-        l4,
-    );
-    if number != 0 {
-        return Started::Refused(number);
-    }
-    let kept = pretrigger_samples(wish, limit, rate, unitsize);
+    let capture = Capture::empty(channels, capacity);
+    check_settings(&capture, &memory, limit, terms.wrong, wish, rate)?;
+    let kept = wish.samples(limit, rate, capture.unitsize);
     let pre = kept.samples as usize;
-    if capacity <= pre {
-        return Started::Refused(7);
+    if capacity <= pre || ring.len() < pre * capture.unitsize {
+        return Err(Refusal::Ring);
     }
-    if ring.len() < pre * unitsize {
-        return Started::Refused(7);
-    }
-    let feeder = Feeder {
-        capture: fresh,
-        limit,
-        pre,
-        masks: armed_by(terms),
-        prev: Previous::Nothing,
-        place: 0,
-        kept: 0,
-    };
-    Started::Fresh(feeder, kept.cut)
+    Ok(Fresh {
+        feeder: Feeder {
+            capture,
+            limit,
+            pre,
+            masks: armed_by(terms),
+            prev: None,
+            place: 0,
+            kept: 0,
+        },
+        cut: kept.cut,
+    })
 }

@@ -3,30 +3,27 @@
 
 ghost use Rattle.std.specs.Prelude.{◌≡◌, length};
 ghost use Rattle.rules.specs.Start.{start_rule};
-ghost use Rattle.node.specs.Memory.{level_of};
-ghost use Rattle.capture.specs.Record.{lent_of};
+ghost use Rattle.capture.specs.Record.{lent_in};
 ghost use Rattle.feeder.specs.Start.{started_of, settings_of};
 
-use feeder::{Pretrigger, Started};
-use lines::Mask;
+use answer::Refusal;
+use feeder::{Fresh, Pretrigger};
+use node::Memory;
 use terms::TriggerTerm;
 
 // 01's start of a recorder. Its answer is 01's for the settings: feeder/proofs/Begun, start_rule_lem.
-pub fn start_list<'a>(
+#[tactic(auto, using(feeder::proofs::Begun::start_rule_lem))]
+pub fn start_list(
     channels: usize,
     capacity: usize,
     limit: usize,
     terms: &[TriggerTerm],
     wish: Pretrigger,
     rate: usize,
-    samples: &[u8],
-    l1: &'a [Mask],
-    l2: &'a [Mask],
-    l3: &'a [Mask],
-    l4: &'a [Mask],
+    memory: Memory<'_>,
     ring: &[u8],
-) -> Started
-    ensures { started_of result ≡ start_rule (settings_of channels capacity limit terms.now wish rate) (lent_of samples.now (level_of l1.now l2.now l3.now l4.now)) (length ring.now) }
+) -> Result<Fresh, Refusal>
+    ensures { started_of result ≡ start_rule (settings_of channels capacity limit terms.now wish rate) (lent_in memory.entry) (length ring.now) }
 {
     feeder::start(
         channels,
@@ -35,11 +32,7 @@ pub fn start_list<'a>(
         term_list::terms_of(terms),
         wish,
         rate,
-        samples,
-        l1,
-        l2,
-        l3,
-        l4,
+        memory,
         ring,
     )
 }
