@@ -1,7 +1,8 @@
 -- The walk over chunks, in either direction: what a loop that follows it knows before each chunk.
 use Prim.Native.Nat.{ℕ, suc, ◌+◌, ◌-◌, ◌/◌, ◌≤◌, ◌<◌}
 use mathlib.Core.Path.{◌≡◌, refl, sym, ap, ◌∙◌}
-use mathlib.Core.Bool.{Bool, cond}
+use mathlib.Core.Bool.{Bool, true, false, cond, true≢false, false≢true}
+use Rattle.std.specs.Option.{is_some}
 use Rattle.std.specs.Prelude.{Option, None, Some}
 use Rattle.rules.proofs.Options.{none-ne-some}
 use native.Mathlib.Omega.{arith}
@@ -26,6 +27,15 @@ none_first (Some i) n rest z = absurd (none-ne-some i (sym z))
 steps_first : (x : Option ℕ) (n rest : ℕ) → n ≤ or_steps x n rest
 steps_first None n rest = omega arith
 steps_first (Some i) n rest = omega arith
+
+-- what is_some says of a find
+pub some_there : (x : Option ℕ) (b : Bool) → b ≡ is_some x → b ≡ true → x ≡ None → ⊥
+some_there None b e h z = absurd (false≢true (sym e ∙ h))
+some_there (Some i) b e h z = none-ne-some i (sym z)
+
+pub none_there : (x : Option ℕ) (b : Bool) → b ≡ is_some x → b ≡ false → x ≡ None
+none_there None b e h = refl
+none_there (Some i) b e h = absurd (true≢false (sym e ∙ h))
 
 -- ---- a course
 -- the walk over n chunks from chunk c on, its steps counted on from those before, is the whole walk; v is the value before place p

@@ -14,10 +14,12 @@ use Rattle.rules.specs.Walk.{forward, backward, walk_from, all_levels}
 use Rattle.rules.proofs.Steps.{walk_alike}
 use Rattle.node.specs.Memory.{reader_of}
 use Rattle.node.proofs.NodeMemory.{reads_sample, reads_node}
-use Rattle.find.specs.Part.{reader_from, Part}
+use Rattle.node.specs.Lent.{levels_of}
+use Rattle.capture.specs.Stored.{sample_in, reader_in}
+use Rattle.capture.specs.declared.stored.Stored.{Stored}
+use Rattle.find.specs.Part.{reader_from, PartBacked}
 use Rattle.find.specs.Way.{way_in}
-use Rattle.find.proofs.Part.{from_sample, from_node, bytes_less}
-use Rattle.search.specs.Part.{Stored}
+use Rattle.find.proofs.Parts.{from_sample, from_node, bytes_less}
 
 -- ---- the part and the whole
 -- u bytes of a part are those of the whole
@@ -72,16 +74,16 @@ module _ (base hi unit : ℕ) (samples : List ℕ) (levels : ℕ → List ℕ) w
   part_way false mask p v low high = part_ahead all_levels mask p v low
 
 -- ---- a capture in memory
-module _ (unit len : ℕ) (samples : List ℕ) (levels : ℕ → List ℕ) (s : Stored unit len samples levels) where
-  pub stored_value : (p v : ℕ) → v ≡ sample_of unit samples p → v ≡ (reader_of unit samples levels 0 p).first
-  stored_value p v e = e ∙ sym (ap (λ (n : Node). n.first) (reads_sample unit samples levels 0 p refl))
+module _ (s : Stored) where
+  pub stored_value : (p v : ℕ) → v ≡ sample_in s p → v ≡ (reader_in s 0 p).first
+  stored_value p v e = e ∙ sym (ap (λ (n : Node). n.first) (reads_sample s.unitsize s.memory.samples.now (levels_of s.memory.levels) 0 p refl))
 
   -- the part of it from base to hi
-  pub stored_part : (base hi : ℕ) → base ≤ hi → hi ≤ len → Part unit base hi (part_of base hi unit samples levels) levels
+  pub stored_part : (base hi : ℕ) → base ≤ hi → hi ≤ s.len → PartBacked s.unitsize base hi (part_of base hi s.unitsize s.memory.samples.now (levels_of s.memory.levels)) (levels_of s.memory.levels)
   stored_part base hi a b = record {
-    bytes = record { unit_size = s.bytes.unit_size; room = simp (length-take, length-drop) (omega (arith, sum, (bytes_less unit len hi samples s.bytes b).room)) };
-    nodes = record { inside = λ l j k m h. s.nodes.inside l j k m (omega arith) };
+    bytes = record { unit_size = s.backed.bytes.unit_size; room = simp (length-take, length-drop) (omega (arith, sum, (bytes_less s.unitsize s.len hi s.memory.samples.now s.backed.bytes b).room)) };
+    nodes = record { inside = λ l j k m h. s.backed.nodes.inside l j k m (omega arith) };
   }
     where
-      sum : hi * unit ≡ base * unit + (hi - base) * unit
-      sum = ap (λ (x : ℕ). x * unit) (omega arith) ∙ add-mul base (hi - base) unit
+      sum : hi * s.unitsize ≡ base * s.unitsize + (hi - base) * s.unitsize
+      sum = ap (λ (x : ℕ). x * s.unitsize) (omega arith) ∙ add-mul base (hi - base) s.unitsize

@@ -2,23 +2,22 @@
 use Prim.Native.Nat.{ℕ, zero, suc, ◌+◌, ◌-◌, ◌*◌, ◌/◌, ◌%◌, ◌≤◌, ◌<◌}
 use mathlib.Core.Path.{◌≡◌, refl, sym, ap, ap₂, ◌∙◌, subst, subst₂}
 use mathlib.Core.Bool.{Bool, true, false, true≢false, false≢true, ◌&&◌}
-use mathlib.Core.List.{List}
 use Rattle.std.specs.Prelude.{None}
 use native.Mathlib.Omega.{arith}
 use borrow.Author.Tests.{eq-eqb, le-leb}
-use Rattle.rules.specs.Sample.{sample_of}
 use Rattle.rules.specs.Node.{Node, mirror, quiet, span, top_level, chunk}
-use Rattle.rules.specs.Walk.{Walked, Way, Course, ahead, behind, walk_from, all_levels}
+use Rattle.rules.specs.Walk.{Walked, Way, Course, ahead, behind, walk_from, chunks_for, all_levels}
 use Rattle.rules.proofs.Walk.{counted, best_top, walk_past, walk_ended}
-use Rattle.node.specs.Memory.{node_in, reader_of}
+use Rattle.node.specs.Memory.{node_in}
+use Rattle.node.specs.Lent.{levels_of}
+use Rattle.capture.specs.Stored.{sample_in, reader_in}
+use Rattle.capture.specs.declared.stored.Stored.{Stored}
 use Rattle.node.proofs.NodeMemory.{reads_sample, reads_node}
 use Rattle.find.specs.Run.{node_at}
 use Rattle.find.specs.Way.{moved}
 use Rattle.find.proofs.Going.{told}
 use Rattle.find.proofs.Node.{at_node}
-use Rattle.find.proofs.Part.{bytes_held}
-use Rattle.search.specs.Part.{Stored}
-use Rattle.search.specs.Quiet.{beside, quiet_nth, QuietChunks, ChunkHeld, ChunksHeld}
+use Rattle.search.specs.Quiet.{beside, tops, quiet_nth, QuietChunks, ChunkHeld, ChunksHeld}
 use Rattle.search.proofs.Chunks.{Coursing, coursing_on}
 
 -- ---- one chunk
@@ -89,37 +88,49 @@ module _ (reader : ℕ → ℕ → Node) (len mask : ℕ) where
       next false = omega arith
 
 -- ---- in memory
-module _ (unit len : ℕ) (samples : List ℕ) (levels : ℕ → List ℕ) where
-  node_reads : (i p : ℕ) → i ≡ p / span top_level → node_at unit samples (levels top_level) top_level i ≡ reader_of unit samples levels top_level p
-  node_reads i p e = at_node unit samples (levels top_level) top_level i (λ z. omega arith) ∙ ap (node_in (levels top_level)) e ∙ sym (reads_node unit samples levels top_level p (λ z. omega arith))
+module _ (s : Stored) where
+  node_reads : (i p : ℕ) → i ≡ p / span top_level → node_at s.unitsize s.memory.samples.now (tops s) top_level i ≡ reader_in s top_level p
+  node_reads i p e = at_node s.unitsize s.memory.samples.now (tops s) top_level i (λ z. omega arith) ∙ ap (node_in (tops s)) e ∙ sym (reads_node s.unitsize s.memory.samples.now (levels_of s.memory.levels) top_level p (λ z. omega arith))
 
-  value_reads : (p : ℕ) → sample_of unit samples p ≡ (reader_of unit samples levels 0 p).first
-  value_reads p = sym (ap (λ (n : Node). n.first) (reads_sample unit samples levels 0 p refl))
+  value_reads : (p : ℕ) → sample_in s p ≡ (reader_in s 0 p).first
+  value_reads p = sym (ap (λ (n : Node). n.first) (reads_sample s.unitsize s.memory.samples.now (levels_of s.memory.levels) 0 p refl))
 
-  nth_reads : (mask : ℕ) (back : Bool) (b j : ℕ) → quiet_nth unit samples (levels top_level) back mask b j ≡ quiet_at (reader_of unit samples levels) len mask back (moved back b j)
+  nth_reads : (mask : ℕ) (back : Bool) (b j : ℕ) → quiet_nth s back mask b j ≡ quiet_at (reader_in s) s.len mask back (moved back b j)
   nth_reads mask true b j = ap₂ (λ (n : Node) (v : ℕ). quiet (mirror n) v mask) (node_reads (b - (j + 1)) ((b - j) * chunk - span top_level) (omega arith)) (value_reads ((b - j) * chunk))
   nth_reads mask false b j = ap₂ (λ (n : Node) (v : ℕ). quiet n v mask) (node_reads (b + j) ((b + j) * chunk) (omega arith)) (value_reads ((b + j) * chunk - 1))
 
   -- of n whole chunks the walk passes those that quiet_chunks passes, with m left after them
-  pub quiet_passes : {mask : ℕ} {whole : Walked} {back : Bool} {count left b n k : ℕ} → AtBorder (reader_of unit samples levels) len mask whole back count left b
-      → n ≤ wholes_from back len b → QuietChunks unit samples (levels top_level) back mask b n k → (m : ℕ) → left ≡ k + m → AtBorder (reader_of unit samples levels) len mask whole back (count + k) m (moved back b k)
+  pub quiet_passes : {mask : ℕ} {whole : Walked} {back : Bool} {count left b n k : ℕ} → AtBorder (reader_in s) s.len mask whole back count left b
+      → n ≤ wholes_from back s.len b → QuietChunks s back mask b n k → (m : ℕ) → left ≡ k + m → AtBorder (reader_in s) s.len mask whole back (count + k) m (moved back b k)
   quiet_passes {mask} {whole} {back} {count} {left} {b} {n} {k} g h r m e =
-      border_passes (reader_of unit samples levels) len mask back count m b k (same_border (reader_of unit samples levels) len mask back g refl e refl) (omega (arith, r.most)) (λ j i. sym (nth_reads mask back b j) ∙ r.each j i)
+      border_passes (reader_in s) s.len mask back count m b k (same_border (reader_in s) s.len mask back g refl e refl) (omega (arith, r.most)) (λ j i. sym (nth_reads mask back b j) ∙ r.each j i)
+
+  -- past a chunk without a find, and the quiet ones behind it
+  pub back_on : {mask : ℕ} {whole : Walked} {count left at v k : ℕ} → Coursing (behind all_levels (reader_in s)) mask whole count left (left - 1) at v → 0 < left
+      → (r : Walked) → r ≡ walk_from ((behind all_levels (reader_in s)).way (left - 1)) mask at v → r.found ≡ None
+      → QuietChunks s true mask (left - 1) (left - 1) k → AtBorder (reader_in s) s.len mask whole true (count + r.steps + k) (left - 1 - k) (left - 1 - k)
+  back_on {mask} {whole} {count} {left} {at} {v} {k} g h r e z q = quiet_passes {back = true} {b = left - 1} (coursing_on g (left - 1) (omega arith) r e z) (omega arith) q (left - 1 - k) (omega (arith, q.most))
+
+  pub ahead_on : {mask : ℕ} {whole : Walked} {count ci at v n k : ℕ} → Coursing (ahead all_levels (reader_in s) s.len) mask whole count (chunks_for s.len - ci) ci at v → ci < chunks_for s.len
+      → (r : Walked) → r ≡ walk_from ((ahead all_levels (reader_in s) s.len).way ci) mask at v → r.found ≡ None
+      → n ≤ s.len / chunk - (ci + 1) → QuietChunks s false mask (ci + 1) n k → AtBorder (reader_in s) s.len mask whole false (count + r.steps + k) (chunks_for s.len - (ci + 1 + k)) (ci + 1 + k)
+  ahead_on {mask} {whole} {count} {ci} {at} {v} {n} {k} g h r e z i q =
+      quiet_passes {back = false} {b = ci + 1} (coursing_on g (chunks_for s.len - (ci + 1)) (omega arith) r e z) i q (chunks_for s.len - (ci + 1 + k)) (omega (arith, q.most))
 
   -- and they lie in memory
-  pub chunks_held : Stored unit len samples levels → (back : Bool) (b n : ℕ) → n ≤ wholes_from back len b → (back ≡ true → b * chunk < len) → (back ≡ false → 1 ≤ b) → ChunksHeld unit samples (levels top_level) back b n
-  chunks_held s back b n h t f = record { each = λ k i. each k i back h t f }
+  pub chunks_held : (back : Bool) (b n : ℕ) → n ≤ wholes_from back s.len b → (back ≡ true → b * chunk < s.len) → (back ≡ false → 1 ≤ b) → ChunksHeld s back b n
+  chunks_held back b n h t f = record { each = λ k i. each k i back h t f }
     where
-      each : (k : ℕ) → k < n → (back : Bool) → n ≤ wholes_from back len b → (back ≡ true → b * chunk < len) → (back ≡ false → 1 ≤ b) → ChunkHeld unit samples (levels top_level) back b k
+      each : (k : ℕ) → k < n → (back : Bool) → n ≤ wholes_from back s.len b → (back ≡ true → b * chunk < s.len) → (back ≡ false → 1 ≤ b) → ChunkHeld s back b k
       each k i true h t f = let z = t refl in record {
-        node = record { behind = λ _. omega arith; ahead = λ z. absurd (true≢false z); held = record { sample = λ z. absurd (omega arith); node = λ _. s.nodes.inside top_level (b - (k + 1)) (omega arith) (omega arith) (omega arith) } };
-        place = omega (arith, s.most);
+        node = record { behind = λ _. omega arith; ahead = λ z. absurd (true≢false z); held = record { sample = λ z. absurd (omega arith); node = λ _. s.backed.nodes.inside top_level (b - (k + 1)) (omega arith) (omega arith) (omega arith) } };
+        place = omega (arith, s.backed.most);
         past = λ z. absurd (true≢false z);
-        sample = bytes_held unit len ((b - k) * chunk) samples s.bytes (omega arith);
+        sample = omega arith;
       }
       each k i false h t f = record {
-        node = record { behind = λ z. absurd (false≢true z); ahead = λ _. omega (arith, s.most); held = record { sample = λ z. absurd (omega arith); node = λ _. s.nodes.inside top_level (b + k) (omega arith) (omega arith) (omega arith) } };
-        place = omega (arith, s.most);
+        node = record { behind = λ z. absurd (false≢true z); ahead = λ _. omega (arith, s.backed.most); held = record { sample = λ z. absurd (omega arith); node = λ _. s.backed.nodes.inside top_level (b + k) (omega arith) (omega arith) (omega arith) } };
+        place = omega (arith, s.backed.most);
         past = λ z. omega (arith, f z);
-        sample = bytes_held unit len ((b + k) * chunk - 1) samples s.bytes (omega (arith, f refl));
+        sample = omega (arith, f refl);
       }

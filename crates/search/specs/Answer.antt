@@ -1,20 +1,18 @@
 -- What next_change and prev_change answer: 01's refusals, else the walk over memory's own nodes.
-use Rattle.std.specs.Prelude.{List, ℕ}
-use Rattle.std.specs.Prelude.{None, Some}
-use Rattle.rules.specs.Answer.{Answer, refused, given, unless}
+use Rattle.std.specs.Prelude.{List, ℕ, Result}
+use Rattle.rules.specs.Answer.{Answer, unless}
 use Rattle.rules.specs.Refusal.{store_refusal}
 use Rattle.rules.specs.Walk.{Walked, next_walk, previous_walk, all_levels}
+use Rattle.answer.specs.Answered.{answer_of, counted_of}
+use Rattle.answer.specs.declared.Counted.{Counted}
+use Rattle.answer.specs.declared.Refusal.{Refusal}
 use Rattle.node.specs.Memory.{reader_of}
 use Rattle.capture.specs.declared.Capture.{Capture}
 use Rattle.capture.specs.Record.{store_of, lent_of}
-use Rattle.search.specs.declared.Found.{Found}
-use Rattle.search.specs.declared.Found.TheVariants.{Refused, At, Nothing}
 
--- 01's number or place for each case, and "the count of nodes read, samples at level 0 included, equal to the steps of 01's walk" (02, CR 3)
-abbrev pub found_of : Found → Answer Walked
-found_of (Refused n) = refused n
-found_of (At i n) = given (record { found = Some i; steps = n })
-found_of (Nothing n) = given (record { found = None; steps = n })
+-- 01's number, or the place with the nodes read
+abbrev pub found_of : Result (Counted ℕ) Refusal → Answer Walked
+found_of r = answer_of counted_of r
 
 -- what is asked, unless row 1 or 2 refuses
 abbrev pub asked : Capture → List ℕ → (ℕ → List ℕ) → Walked → Answer Walked

@@ -1,3 +1,3 @@
-pub mod Part
+pub mod Entered
 pub mod Quiet
 pub mod Answer

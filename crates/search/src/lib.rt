@@ -5,74 +5,55 @@ ghost use Rattle.std.specs.Prelude.{◌≡◌, false, ◌+◌, ◌-◌, ◌*◌,
 ghost use Rattle.rules.specs.Node.{chunk};
 ghost use Rattle.rules.specs.Refusal.{most_samples};
 ghost use Rattle.rules.specs.Walk.{walk_from, next_walk, previous_from, previous_walk, all_levels};
-ghost use Rattle.rules.specs.Answer.{given};
-ghost use Rattle.node.specs.Memory.{level_of, reader_of};
-ghost use Rattle.find.specs.Way.{way_in, place_of};
-ghost use Rattle.search.specs.Part.{Stored, Entered};
+ghost use Rattle.answer.specs.Answered.{counted_of};
+ghost use Rattle.node.specs.Lent.{levels_of};
+ghost use Rattle.capture.specs.Stored.{reader_in};
+ghost use Rattle.find.specs.Way.{way_in};
+ghost use Rattle.search.specs.Entered.{Entered};
 ghost use Rattle.search.specs.Quiet.{beside, quiet_nth, ChunkHeld, ChunksHeld, QuietChunks};
 ghost use Rattle.search.specs.Answer.{found_of, next_of, previous_of};
 
+use answer::{Counted, Refusal};
 use capture::Capture;
-use find::{Place, find, moved, near, nth};
+use capture::stored::Stored;
+use find::part::Part;
+use find::{Row, find, moved, near};
 use level::{CHUNK, LEVELS};
 use lines::Mask;
-use number::lesser;
-
-// The answer: the number of a refusal, a place and the nodes read, or these alone.
-// 02, CR 3: "Every forward and backward search returns the count of nodes read, samples at level 0 included".
-#[derive(Clone, Copy)]
-pub enum Found {
-    Refused(u8),
-    At(usize, usize),
-    Nothing(usize),
-}
+use node::Memory;
 
 // Where the stored part of chunk ci ends.
 pub fn chunk_end(ci: usize, len: usize) -> usize
     requires { (ci * chunk ≤ len) × (len ≤ most_samples) }
     ensures { result ≡ min ((ci + 1) * chunk) len }
 {
-    lesser((ci + 1) * CHUNK, len)
+    ((ci + 1) * CHUNK).min(len)
 }
 
 // The search in chunk ci from `at` on, or back from there, with the sample at `seen` as the value next to it. Backward that is
 // the sample at `at`, which may be the next chunk's first.
-fn in_chunk<'a>(
-    samples: &[u8],
-    l1: &'a [Mask],
-    l2: &'a [Mask],
-    l3: &'a [Mask],
-    l4: &'a [Mask],
-    unitsize: usize,
-    len: usize,
+fn in_chunk(
+    stored: &Stored<'_>,
     back: bool,
     mask: Mask,
     ci: usize,
     at: usize,
     seen: usize,
-) -> Place
-    requires { Stored unitsize len samples.now (level_of l1.now l2.now l3.now l4.now) × Entered len ci at seen }
-    ensures { place_of result ≡ walk_from (way_in back (reader_of unitsize samples.now (level_of l1.now l2.now l3.now l4.now)) (ci * chunk) (min ((ci + 1) * chunk) len)) mask at (reader_of unitsize samples.now (level_of l1.now l2.now l3.now l4.now) 0 seen).first }
+) -> Counted<usize>
+    requires { Entered stored.now.len ci at seen }
+    ensures { counted_of result ≡ walk_from (way_in back (reader_in stored.now) (ci * chunk) (min ((ci + 1) * chunk) stored.now.len)) mask at (reader_in stored.now 0 seen).first }
 {
     let base = ci * CHUNK;
-    let hi = chunk_end(ci, len);
-    let value = lines::get(samples, unitsize, seen);
-    let a = base * unitsize;
-    let e = hi * unitsize;
-    find(
-        &samples[a..e],
-        l1,
-        l2,
-        l3,
-        l4,
-        unitsize,
+    let hi = chunk_end(ci, stored.len);
+    let value = stored.sample(seen);
+    let part = Part {
+        unitsize: stored.unitsize,
         base,
         hi,
-        back,
-        mask,
-        at,
-        value,
-    )
+        samples: &stored.memory.samples[base * stored.unitsize..hi * stored.unitsize],
+        levels: stored.memory.levels,
+    };
+    find(&part, back, mask, at, value)
 }
 
 // The place next to a border of chunks on the side that a search comes from: a chunk's first sample, or forward the one before it.
@@ -89,296 +70,154 @@ fn beside(back: bool, border: usize) -> usize
 
 // Whether the whole chunk after k others from a border on, or from there down, can be passed: it is one node of level 4, and the
 // value before it is the sample, read anew.
-fn quiet_nth(
-    samples: &[u8],
-    l4: &[Mask],
-    unitsize: usize,
-    back: bool,
-    mask: Mask,
-    border: usize,
-    k: usize,
-) -> bool
-    requires { ChunkHeld unitsize samples.now l4.now back border k }
-    ensures { result ≡ quiet_nth unitsize samples.now l4.now back mask border k }
+fn quiet_nth(stored: &Stored<'_>, back: bool, mask: Mask, border: usize, k: usize) -> bool
+    requires { ChunkHeld stored.now back border k }
+    ensures { result ≡ quiet_nth stored.now back mask border k }
 {
-    let value = lines::get(samples, unitsize, beside(back, moved(back, border, k)));
-    let m = nth(samples, l4, unitsize, LEVELS, back, border, k);
-    m.quiet(value, mask)
+    let value = stored.sample(beside(back, moved(back, border, k)));
+    let row = Row {
+        unitsize: stored.unitsize,
+        samples: stored.memory.samples,
+        level: stored.memory.levels.level(LEVELS),
+        l: LEVELS,
+    };
+    row.nth(back, border, k).quiet(value, mask)
 }
 
 // How many of n whole chunks can be passed. With nothing else in the loop a chunk costs what its two reads cost.
-fn quiet_chunks(
-    samples: &[u8],
-    l4: &[Mask],
-    unitsize: usize,
-    back: bool,
-    mask: Mask,
-    border: usize,
-    n: usize,
-) -> usize
-    requires { ChunksHeld unitsize samples.now l4.now back border n }
-    ensures { QuietChunks unitsize samples.now l4.now back mask border n result }
+fn quiet_chunks(stored: &Stored<'_>, back: bool, mask: Mask, border: usize, n: usize) -> usize
+    requires { ChunksHeld stored.now back border n }
+    ensures { QuietChunks stored.now back mask border n result }
 {
-    let mut k = 0;
-    while k < n {
-        if !quiet_nth(samples, l4, unitsize, back, mask, border, k) {
+    for k in 0..n {
+        if !quiet_nth(stored, back, mask, border, k) {
             return k;
         }
-        k += 1;
     }
-    k
+    n
 }
 
 // The next change after from, chunk after chunk.
-fn chunks_fwd<'a>(
-    samples: &[u8],
-    l1: &'a [Mask],
-    l2: &'a [Mask],
-    l3: &'a [Mask],
-    l4: &'a [Mask],
-    unitsize: usize,
-    len: usize,
-    mask: Mask,
-    from: usize,
-) -> Place
-    requires { Stored unitsize len samples.now (level_of l1.now l2.now l3.now l4.now) × (from + 1 < len) }
-    ensures { place_of result ≡ next_walk all_levels (reader_of unitsize samples.now (level_of l1.now l2.now l3.now l4.now)) len mask from }
+// Forward and backward are two loops: where a chunk is entered, the border behind it, the chunks left and the end differ, so that one loop
+// would ask `back` at all lines but the two searches.
+fn chunks_fwd(stored: &Stored<'_>, mask: Mask, from: usize) -> Counted<usize>
+    requires { from + 1 < stored.now.len }
+    ensures { counted_of result ≡ next_walk all_levels (reader_in stored.now) stored.now.len mask from }
 {
-    let end = (len + (CHUNK - 1)) / CHUNK;
-    let whole = len / CHUNK;
+    let end = stored.len.div_ceil(CHUNK);
+    let whole = stored.len / CHUNK;
     let mut lo = from + 1;
     let mut ci = lo / CHUNK;
     let mut count = 0;
     while ci < end {
-        let p = in_chunk(
-            samples,
-            l1,
-            l2,
-            l3,
-            l4,
-            unitsize,
-            len,
-            false,
-            mask,
-            ci,
-            lo,
-            lo - 1,
-        );
-        match p {
-            Place::At(i, n) => {
-                count += n;
-                return Place::At(i, count); // with those of the chunks before
-            }
-            Place::Nothing(n) => {
-                count += n;
-            }
+        let p = in_chunk(stored, false, mask, ci, lo, lo - 1);
+        count += p.steps; // with those of the chunks before
+        if p.found.is_some() {
+            return Counted {
+                found: p.found,
+                steps: count,
+            };
         }
         ci += 1;
-        let passed = quiet_chunks(
-            samples,
-            l4,
-            unitsize,
-            false,
-            mask,
-            ci,
-            whole - lesser(ci, whole),
-        );
+        let passed = quiet_chunks(stored, false, mask, ci, whole.saturating_sub(ci));
         count += passed; // a step each
         ci += passed;
         lo = ci * CHUNK;
     }
-    Place::Nothing(count)
-}
-
-// The next change after from. Where changes are dense it is one of the next few samples.
-fn next_from<'a>(
-    samples: &[u8],
-    l1: &'a [Mask],
-    l2: &'a [Mask],
-    l3: &'a [Mask],
-    l4: &'a [Mask],
-    unitsize: usize,
-    len: usize,
-    mask: Mask,
-    from: usize,
-) -> Place
-    requires { Stored unitsize len samples.now (level_of l1.now l2.now l3.now l4.now) × (from + 1 < len) }
-    ensures { place_of result ≡ next_walk all_levels (reader_of unitsize samples.now (level_of l1.now l2.now l3.now l4.now)) len mask from }
-{
-    let value = lines::get(samples, unitsize, from);
-    let p = near(samples, l1, unitsize, len, false, mask, from + 1, value);
-    let Place::At(i, n) = p else {
-        return chunks_fwd(samples, l1, l2, l3, l4, unitsize, len, mask, from);
-    };
-    Place::At(i, n)
+    Counted {
+        found: None,
+        steps: count,
+    }
 }
 
 // The last change up to start, chunk before chunk; an earlier chunk is entered at its length.
-fn chunks_back<'a>(
-    samples: &[u8],
-    l1: &'a [Mask],
-    l2: &'a [Mask],
-    l3: &'a [Mask],
-    l4: &'a [Mask],
-    unitsize: usize,
-    len: usize,
-    mask: Mask,
-    start: usize,
-) -> Place
-    requires { Stored unitsize len samples.now (level_of l1.now l2.now l3.now l4.now) × (start < len) }
-    ensures { place_of result ≡ previous_from all_levels (reader_of unitsize samples.now (level_of l1.now l2.now l3.now l4.now)) mask start }
+fn chunks_back(stored: &Stored<'_>, mask: Mask, start: usize) -> Counted<usize>
+    requires { start < stored.now.len }
+    ensures { counted_of result ≡ previous_from all_levels (reader_in stored.now) mask start }
 {
     let mut at = start;
     let mut left = start / CHUNK + 1;
     let mut count = 0;
     while 0 < left {
         let ci = left - 1;
-        let p = in_chunk(
-            samples, l1, l2, l3, l4, unitsize, len, true, mask, ci, at, at,
-        );
-        match p {
-            Place::At(i, n) => {
-                count += n;
-                return Place::At(i, count);
-            }
-            Place::Nothing(n) => {
-                count += n;
-            }
+        let p = in_chunk(stored, true, mask, ci, at, at);
+        count += p.steps;
+        if p.found.is_some() {
+            return Counted {
+                found: p.found,
+                steps: count,
+            };
         }
-        let passed = quiet_chunks(samples, l4, unitsize, true, mask, ci, ci);
+        let passed = quiet_chunks(stored, true, mask, ci, ci);
         count += passed;
         left = ci - passed;
         at = left * CHUNK;
     }
-    Place::Nothing(count)
+    Counted {
+        found: None,
+        steps: count,
+    }
 }
 
-// The last change up to start. Where changes are dense it is one of the few samples before it.
-fn prev_from<'a>(
-    samples: &[u8],
-    l1: &'a [Mask],
-    l2: &'a [Mask],
-    l3: &'a [Mask],
-    l4: &'a [Mask],
-    unitsize: usize,
-    len: usize,
-    mask: Mask,
-    start: usize,
-) -> Place
-    requires { Stored unitsize len samples.now (level_of l1.now l2.now l3.now l4.now) × (start < len) }
-    ensures { place_of result ≡ previous_from all_levels (reader_of unitsize samples.now (level_of l1.now l2.now l3.now l4.now)) mask start }
+// The next change after any place. Where changes are dense it is one of the next few samples.
+pub fn next_in(stored: &Stored<'_>, mask: Mask, from: usize) -> Counted<usize>
+    ensures { counted_of result ≡ next_walk all_levels (reader_in stored.now) stored.now.len mask from }
 {
-    let value = lines::get(samples, unitsize, start);
-    let p = near(samples, l1, unitsize, len, true, mask, start, value);
-    let Place::At(i, n) = p else {
-        return chunks_back(samples, l1, l2, l3, l4, unitsize, len, mask, start);
-    };
-    Place::At(i, n)
+    if stored.len <= from.saturating_add(1) {
+        return Counted {
+            found: None,
+            steps: 0,
+        };
+    }
+    let p = near(stored, false, mask, from + 1, stored.sample(from));
+    if p.found.is_some() {
+        return p;
+    }
+    chunks_fwd(stored, mask, from)
 }
 
-// The next change after any place, of a capture that passed rows 1 and 2.
-pub fn next_in<'a>(
-    samples: &[u8],
-    l1: &'a [Mask],
-    l2: &'a [Mask],
-    l3: &'a [Mask],
-    l4: &'a [Mask],
-    unitsize: usize,
-    len: usize,
-    mask: Mask,
-    from: usize,
-) -> Place
-    requires { Stored unitsize len samples.now (level_of l1.now l2.now l3.now l4.now) }
-    ensures { place_of result ≡ next_walk all_levels (reader_of unitsize samples.now (level_of l1.now l2.now l3.now l4.now)) len mask from }
+// The last change up to any place. Where changes are dense it is one of the few samples before it.
+pub fn prev_in(stored: &Stored<'_>, mask: Mask, from: usize) -> Counted<usize>
+    ensures { counted_of result ≡ previous_walk all_levels (reader_in stored.now) stored.now.len mask from }
 {
-    if len <= from {
-        return Place::Nothing(0);
+    if stored.len == 0 {
+        return Counted {
+            found: None,
+            steps: 0,
+        };
     }
-    if len <= from + 1 {
-        return Place::Nothing(0);
+    let start = from.min(stored.len - 1);
+    let p = near(stored, true, mask, start, stored.sample(start));
+    if p.found.is_some() {
+        return p;
     }
-    next_from(samples, l1, l2, l3, l4, unitsize, len, mask, from)
-}
-
-// The last change up to any place, of a capture that passed rows 1 and 2.
-pub fn prev_in<'a>(
-    samples: &[u8],
-    l1: &'a [Mask],
-    l2: &'a [Mask],
-    l3: &'a [Mask],
-    l4: &'a [Mask],
-    unitsize: usize,
-    len: usize,
-    mask: Mask,
-    from: usize,
-) -> Place
-    requires { Stored unitsize len samples.now (level_of l1.now l2.now l3.now l4.now) }
-    ensures { place_of result ≡ previous_walk all_levels (reader_of unitsize samples.now (level_of l1.now l2.now l3.now l4.now)) len mask from }
-{
-    if len == 0 {
-        return Place::Nothing(0);
-    }
-    prev_from(
-        samples,
-        l1,
-        l2,
-        l3,
-        l4,
-        unitsize,
-        len,
-        mask,
-        lesser(from, len - 1),
-    )
-}
-
-// A search's answer where no row refuses.
-fn given(place: Place) -> Found
-    ensures { found_of result ≡ given (place_of place) }
-{
-    match place {
-        Place::At(i, n) => Found::At(i, n),
-        Place::Nothing(n) => Found::Nothing(n),
-    }
+    chunks_back(stored, mask, start)
 }
 
 // 01's Next: the smallest place after from, and below len, at which a masked line changes; and the nodes read.
 // Theorems, in proofs/Change.antt: next_right, that on right levels it is the rules' next, in the steps of 01's walk; next_range, on any memory.
-pub fn next_change<'a>(
+pub fn next_change(
     c: Capture,
-    samples: &[u8],
-    l1: &'a [Mask],
-    l2: &'a [Mask],
-    l3: &'a [Mask],
-    l4: &'a [Mask],
+    memory: Memory<'_>,
     mask: Mask,
     from: usize,
-) -> Found
-    ensures { found_of result ≡ next_of c samples.now (level_of l1.now l2.now l3.now l4.now) mask from }
+) -> Result<Counted<usize>, Refusal>
+    ensures { found_of result ≡ next_of c memory.entry.samples.now (levels_of memory.entry.levels) mask from }
 {
-    let number = capture::refusal(c, samples, l1, l2, l3, l4);
-    if number != 0 {
-        return Found::Refused(number);
-    }
-    given(next_in(samples, l1, l2, l3, l4, c.unitsize, c.len, mask, from))
+    let stored = c.open(memory)?;
+    Ok(next_in(&stored, mask, from))
 }
 
 // 01's Previous: the largest place up to from, from 1 on and below len, at which a masked line changes; and the nodes read.
 // Theorems, in proofs/Change.antt: previous_right, that on right levels it is the rules' previous, in the steps of 01's walk; previous_range, on any memory.
-pub fn prev_change<'a>(
+pub fn prev_change(
     c: Capture,
-    samples: &[u8],
-    l1: &'a [Mask],
-    l2: &'a [Mask],
-    l3: &'a [Mask],
-    l4: &'a [Mask],
+    memory: Memory<'_>,
     mask: Mask,
     from: usize,
-) -> Found
-    ensures { found_of result ≡ previous_of c samples.now (level_of l1.now l2.now l3.now l4.now) mask from }
+) -> Result<Counted<usize>, Refusal>
+    ensures { found_of result ≡ previous_of c memory.entry.samples.now (levels_of memory.entry.levels) mask from }
 {
-    let number = capture::refusal(c, samples, l1, l2, l3, l4);
-    if number != 0 {
-        return Found::Refused(number);
-    }
-    given(prev_in(samples, l1, l2, l3, l4, c.unitsize, c.len, mask, from))
+    let stored = c.open(memory)?;
+    Ok(prev_in(&stored, mask, from))
 }
