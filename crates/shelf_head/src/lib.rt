@@ -10,29 +10,30 @@ ghost use Rattle.rules.specs.ShelfCalls.{length_answer, says_answer};
 ghost use Rattle.capture.specs.Record.{store_of};
 ghost use Rattle.shelf_head.specs.Head.{heading_as, length_of, said_of};
 
-use capture::{
-    Capture, Mark, mark_flag, mark_in, mark_place, mark_wrong, record_wrong, unit_wrong,
-};
+use answer::Refusal;
+use capture::{Capture, mark_in, mark_wrong, unit_wrong};
 use number::MOST_SAMPLES;
 use shelf_block::{BLOCK, PAYLOAD, good, is_at, put_at, put_block};
+
+// How many bytes block 0 holds.
+const HEAD: usize = 18;
 
 // What block 0 says of a capture.
 #[derive(Clone, Copy)]
 pub struct Heading {
     pub unitsize: usize,
     pub len: usize,
-    pub trigger: Mark,
+    pub trigger: Option<usize>,
 }
 
 // What a record says of it.
 pub fn heading_of(c: Capture) -> Heading
     ensures { heading_as result ≡ heading_of (store_of c) }
 {
-    let trigger = c.trigger;
     Heading {
         unitsize: c.unitsize,
         len: c.len,
-        trigger,
+        trigger: c.trigger,
     }
 }
 
@@ -41,7 +42,7 @@ pub fn blocks_for(n: usize) -> usize
     requires { n < 2 ^ 32 }
     ensures { result ≡ blocks_for n }
 {
-    (n + (PAYLOAD - 1)) / PAYLOAD
+    n.div_ceil(PAYLOAD)
 }
 
 // How long the file of so many bytes of samples is.
@@ -52,23 +53,17 @@ pub fn file_size(n: usize) -> usize
     BLOCK * (1 + blocks_for(n))
 }
 
-#[derive(Clone, Copy)]
-pub enum FileLength {
-    Refused(u8),
-    Bytes(usize),
-}
-
 // How long a capture's file is, or 1.
-pub fn file_len(c: Capture) -> FileLength
+pub fn file_len(c: Capture) -> Result<usize, Refusal>
     ensures { length_of result ≡ length_answer (store_of c) }
 {
-    if record_wrong(c) {
-        return FileLength::Refused(1);
+    if c.is_wrong() {
+        return Err(Refusal::Record);
     }
-    FileLength::Bytes(file_size(c.len * c.unitsize))
+    Ok(file_size(c.len * c.unitsize))
 }
 
-// The eighteen bytes that block 0 holds.
+// The bytes that block 0 holds.
 fn put_numbers(head: &mut [u8], unit: u8, flag: u8, len: usize, place: usize)
     requires { length head.old ≡ head_size }
     ensures { head.new ≡ unit ∷ flag ∷ (sample_bytes 8 len ++ sample_bytes 8 place) }
@@ -80,26 +75,21 @@ fn put_numbers(head: &mut [u8], unit: u8, flag: u8, len: usize, place: usize)
 }
 
 // 512 bytes become block 0.
+#[tactic(auto, unfolding(rules::specs::Shelf::head_bytes))]
 pub fn put_head(block: &mut [u8], h: Heading)
     requires { (length block.old ≡ block_size) × (h.unitsize < 256) }
     ensures { block.new ≡ block_of 0 (head_bytes (heading_as h)) }
 {
     let mark = h.trigger;
-    let mut head = [0u8; 18];
+    let mut head = [0; HEAD];
     put_numbers(
         &mut head,
         h.unitsize as u8,
-        mark_flag(mark) as u8,
+        u8::from(mark.is_some()),
         h.len,
-        mark_place(mark),
+        mark.unwrap_or(0),
     );
     put_block(block, 0, &head);
-}
-
-fn wide(x: u8) -> usize
-    ensures { (result ≡ x) × (result < 256) }
-{
-    x as usize
 }
 
 // The number in eight bytes.
@@ -107,13 +97,7 @@ fn number_in(part: &[u8]) -> usize
     requires { length part.now ≡ 8 }
     ensures { result ≡ little 8 part.now 0 }
 {
-    let mut value: usize = 0;
-    let mut i = 8;
-    while 0 < i {
-        i -= 1;
-        value = value * 256 + wide(part[i]);
-    }
-    value
+    usize::from_le_bytes(part.try_into().unwrap())
 }
 
 // What block 0 says, whatever it holds.
@@ -122,9 +106,9 @@ pub fn heading_in(file: &[u8]) -> Heading
     ensures { heading_as result ≡ heading_in file.now }
 {
     Heading {
-        unitsize: wide(file[12]),
+        unitsize: usize::from(file[12]),
         len: number_in(&file[14..22]),
-        trigger: mark_in(wide(file[13]), number_in(&file[22..30])),
+        trigger: mark_in(usize::from(file[13]), number_in(&file[22..30])),
     }
 }
 
@@ -132,55 +116,39 @@ pub fn heading_in(file: &[u8]) -> Heading
 fn heading_wrong(h: Heading) -> bool
     ensures { result ≡ heading_wrong (heading_as h) }
 {
-    if unit_wrong(h.unitsize) {
-        return true;
-    }
-    if MOST_SAMPLES < h.len {
-        return true;
-    }
-    let mark = h.trigger;
-    mark_wrong(mark, h.len)
+    unit_wrong(h.unitsize) || MOST_SAMPLES < h.len || mark_wrong(h.trigger, h.len)
 }
 
 // The flag is 0 and the mark's bytes are, or it is 1.
+#[tactic(auto, using(rules::proofs::Block::zeros_are))]
 fn mark_right(file: &[u8]) -> bool
     requires { block_size ≤ length file.now }
     ensures { result ≡ mark_bytes_right file.now }
 {
-    if file[13] == 0 {
-        return is_at(file, 22, 30, 0);
+    match file[13] {
+        0 => is_at(file, 22, 30, 0),
+        flag => flag == 1,
     }
-    file[13] == 1
 }
 
 // Whether the first 512 bytes are block 0 of some capture's file.
+#[tactic(auto, unfolding(rules::specs::Shelf::head_test))]
 pub fn head_good(file: &[u8]) -> bool
     ensures { result ≡ head_test file.now }
 {
-    if file.len() < BLOCK {
-        return false;
-    }
-    if !good(&file[0..512], 0, 18) {
-        return false;
-    }
-    if !mark_right(file) {
-        return false;
-    }
-    !heading_wrong(heading_in(file))
-}
-
-#[derive(Clone, Copy)]
-pub enum Says {
-    Refused(u8),
-    Capture(Heading),
+    BLOCK <= file.len()
+        && good(&file[..BLOCK], 0, HEAD)
+        && mark_right(file)
+        && !heading_wrong(heading_in(file))
 }
 
 // What block 0 of a file says, or 16 where no capture's file begins with these 512 bytes.
-pub fn file_says(file: &[u8]) -> Says
+#[tactic(auto, using(crate::proofs::Head::head_room))]
+pub fn file_says(file: &[u8]) -> Result<Heading, Refusal>
     ensures { said_of result ≡ says_answer file.now }
 {
     if !head_good(file) {
-        return Says::Refused(16);
+        return Err(Refusal::File);
     }
-    Says::Capture(heading_in(file))
+    Ok(heading_in(file))
 }
