@@ -2,30 +2,18 @@
 -- further out and stays below the most samples, so that an end makes no more of them than there are places.
 use Prim.Native.Nat.{ℕ, zero, suc, ◌+◌, ◌-◌, ◌*◌, ◌≤◌, ◌<◌, min, zero-le}
 use mathlib.Core.Path.{◌≡◌, refl}
-use mathlib.Core.Bool.{Bool, true, false, cond, ◌||◌}
-use mathlib.Core.List.{List}
+use mathlib.Core.Bool.{Bool, true, false, cond}
 use Rattle.std.specs.Prelude.{Option, None, Some}
 use native.Mathlib.Omega.{arith}
-use lib.Dec.{leb, ltb, eqb}
 use borrow.Author.Tests.{ltb-true}
-use Rattle.rules.specs.Burst.{Side, onward, jump_steps, sides_steps, pair_steps, grown_steps, steps_by}
+use Rattle.rules.specs.Burst.{onward, jump_steps}
 use Rattle.rules.specs.Refusal.{most_samples}
-use Rattle.rules.specs.Walk.{Counted, Walked, all_levels}
+use Rattle.rules.specs.Walk.{Walked, all_levels}
 use Rattle.rules.proofs.Steps.{next_steps, previous_steps}
-use Rattle.node.specs.Memory.{reader_of}
+use Rattle.capture.specs.declared.stored.Stored.{Stored}
+use Rattle.capture.specs.Stored.{reader_in}
 use Rattle.search.proofs.Within.{next_within, previous_within}
-use Rattle.burst.specs.Answer.{back, fore, reach_of, further_of, paired_by}
-
--- a search enters 64 chunks at most, and in each takes a step for each place and five more
-abbrev pub most_search : ℕ
-most_search = 67109184
-
-abbrev pub most_end : ℕ
-most_end = most_search * (most_samples + 1)
-
--- two searches around the place, one for each side, and two ends
-abbrev pub most_burst : ℕ
-most_burst = 4 * most_search + 2 * most_end
+use Rattle.burst.specs.Answer.{back_in, fore_in, reach_of, further_of, most_search, most_end}
 
 record Bounded (search : ℕ → Walked) : Type 0 where
   few : (from : ℕ) → (search from).steps ≤ most_search
@@ -62,73 +50,23 @@ module _ (reach : ℕ → Walked) (b : Bounded reach) (start : Bool) where
           by true f = omega (arith, b.few p, ih e, goes_out start p e (b.inside p e r) f)
           by false f = omega (arith, b.few p)
 
-  end_most : (budget p : ℕ) → jump_steps reach (further_of start) budget p ≤ most_end
-  end_most budget p = omega (arith, room_read budget p, room_most start p)
+-- ---- the searches of what is stored
+module _ (s : Stored) (mask : ℕ) where
+  pub previous_few : (from : ℕ) → (back_in s mask from).steps ≤ most_search
+  previous_few from = omega (arith, s.backed.most, previous_steps all_levels (reader_in s) s.len mask from)
 
-module _ (back fore : ℕ → Walked) (backs : Bounded back) (fores : Bounded fore) where
-  reaches : (gap : ℕ) (start : Bool) → Bounded (reach_of back fore gap start)
-  reaches gap true = record { few = λ p. fores.few _; inside = λ p. fores.inside _ }
-  reaches gap false = record { few = λ p. backs.few _; inside = λ p. backs.inside _ }
+  pub next_few : (from : ℕ) → (fore_in s mask from).steps ≤ most_search
+  next_few from = omega (arith, s.backed.most, next_steps all_levels (reader_in s) s.len mask from)
 
-  -- ---- a pair
-  test_most : (t : Bool) {n : ℕ} → n ≤ most_search → cond t n 0 ≤ most_search
-  test_most true h = h
-  test_most false h = zero-le
+  backs : Bounded (back_in s mask)
+  backs = record { few = previous_few; inside = λ from i e. omega (arith, s.backed.most, (previous_within all_levels (reader_in s) s.len mask from i e).below) }
 
-  module _ (tolerance sample : ℕ) where
-    sides_most : (p n : Option ℕ) → sides_steps back fore tolerance sample p n ≤ 2 * most_search
-    sides_most None None = zero-le
-    sides_most None (Some n) = omega (arith, test_most (leb (n - sample) tolerance) (fores.few n))
-    sides_most (Some p) None = omega (arith, test_most (leb (sample - p) tolerance) (backs.few (p - 1)))
-    sides_most (Some p) (Some n) = omega (arith, test_most (leb (sample - p) tolerance) (backs.few (p - 1)), test_most (leb (n - sample) tolerance) (fores.few n))
+  fores : Bounded (fore_in s mask)
+  fores = record { few = next_few; inside = λ from i e. omega (arith, s.backed.most, (next_within all_levels (reader_in s) s.len mask from i e).below) }
 
-    pair_most : (gap : ℕ) (p n : Option ℕ) → pair_steps back fore gap tolerance sample p n ≤ 2 * most_search
-    pair_most gap None n = sides_most None n
-    pair_most gap (Some p) None = sides_most (Some p) None
-    pair_most gap (Some p) (Some n) = by (ltb (n - p) gap)
-      where
-        by : (t : Bool) → cond t 0 (sides_steps back fore tolerance sample (Some p) (Some n)) ≤ 2 * most_search
-        by true = zero-le
-        by false = sides_most (Some p) (Some n)
+  reaches : (gap : ℕ) (start : Bool) → Bounded (reach_of (back_in s mask) (fore_in s mask) gap start)
+  reaches gap true = record { few = λ p. next_few _; inside = λ p. fores.inside _ }
+  reaches gap false = record { few = λ p. previous_few _; inside = λ p. backs.inside _ }
 
--- ---- the searches of a capture
-module _ (unit len : ℕ) (samples : List ℕ) (levels : ℕ → List ℕ) (mask : ℕ) (most : len ≤ most_samples) where
-  abbrev back_in : ℕ → Walked
-  back_in = back unit len samples levels mask
-
-  abbrev fore_in : ℕ → Walked
-  fore_in = fore unit len samples levels mask
-
-  backs : Bounded back_in
-  backs = record {
-    few = λ from. omega (arith, previous_steps all_levels (reader_of unit samples levels) len mask from);
-    inside = λ from i e. omega (arith, (previous_within all_levels (reader_of unit samples levels) len mask from i e).below);
-  }
-
-  fores : Bounded fore_in
-  fores = record {
-    few = λ from. omega (arith, next_steps all_levels (reader_of unit samples levels) len mask from);
-    inside = λ from i e. omega (arith, (next_within all_levels (reader_of unit samples levels) len mask from i e).below);
-  }
-
-  pub end_read : (gap : ℕ) (start : Bool) (budget p : ℕ) → jump_steps (reach_of back_in fore_in gap start) (further_of start) budget p ≤ most_end
-  end_read gap start = end_most (reach_of back_in fore_in gap start) (reaches back_in fore_in backs fores gap start) start
-
-  pub pair_read : (gap tolerance sample : ℕ) → (paired_by back_in fore_in gap tolerance sample).steps ≤ 4 * most_search
-  pair_read gap tolerance sample = omega (arith, backs.few sample, fores.few sample, pair_most back_in fore_in backs fores tolerance sample gap (back_in sample).found (fore_in sample).found)
-
-  -- a burst
-  pub burst_read : (sample gap tolerance budget : ℕ) → steps_by back_in fore_in len sample gap tolerance budget ≤ most_burst
-  unfolding steps_by
-  burst_read sample gap tolerance budget = by (eqb len 0 || ltb gap 2)
-    where
-      pair : Counted Side
-      pair = paired_by back_in fore_in gap (min tolerance (gap - 1)) sample
-
-      grown : (side : Option Side) → grown_steps back_in fore_in gap budget side ≤ 2 * most_end
-      grown None = zero-le
-      grown (Some side) = omega (arith, end_read gap false budget side.last, end_read gap true budget side.first)
-
-      by : (t : Bool) → cond t 0 (pair.steps + grown_steps back_in fore_in gap budget pair.found) ≤ most_burst
-      by true = zero-le
-      by false = omega (arith, pair_read gap (min tolerance (gap - 1)) sample, grown pair.found)
+  pub end_read : (gap : ℕ) (start : Bool) (budget p : ℕ) → jump_steps (reach_of (back_in s mask) (fore_in s mask) gap start) (further_of start) budget p ≤ most_end
+  end_read gap start budget p = omega (arith, room_read (reach_of (back_in s mask) (fore_in s mask) gap start) (reaches gap start) start budget p, room_most start p)

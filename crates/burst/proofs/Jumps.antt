@@ -27,18 +27,21 @@ module _ {reach : ℕ → Walked} {further : ℕ → ℕ → Bool} {budget start
   abbrev Ended : ℕ → Type 0
   Ended read = Jumped reach further budget start (record { place = p; jumps = n; read = read })
 
-  pub jumping_spent : budget ≤ n → Ended read
+  pub jumping_spent : budget ≤ n → Jumped reach further budget start (record { place = p; jumps = budget; read = read })
   unfolding jump jump_steps
   jumping_spent h = record {
-    end_is = sym (ap (λ (k : ℕ). jump (places reach) further k p n) spent) ∙ j.same;
+    end_is = ap (λ (k : ℕ). record { place = p; jumps = k }) all ∙ sym (ap (λ (k : ℕ). jump (places reach) further k p n) spent) ∙ j.same;
     read_is = let z : jump_steps reach further (budget - n) p ≡ 0 = ap (λ (k : ℕ). jump_steps reach further k p) spent in omega (arith, j.total);
   }
     where
       spent : budget - n ≡ 0
       spent = omega arith
 
+      all : budget ≡ n
+      all = omega (arith, j.within)
+
   -- one more try, by the search w
-  module _ {w : Walked} (h : n < budget) (sought : reach p ≡ w) where
+  module _ {w : Walked} (h : n < budget) (sought : w ≡ reach p) where
     abbrev rest : ℕ → End
     rest e = jump (places reach) further (budget - n - 1) e (suc n)
 
@@ -51,14 +54,14 @@ module _ {reach : ℕ → Walked} {further : ℕ → ℕ → Bool} {budget start
     tried : (o : Option ℕ) → w.found ≡ o → jumped further p n o rest ≡ jump (places reach) further budget start 0
     unfolding jump
     tried o found =
-        sym (ap (λ (x : Walked). jumped further p n x.found rest) sought ∙ ap (λ (x : Option ℕ). jumped further p n x rest) found)
+        sym (ap (λ (x : Walked). jumped further p n x.found rest) (sym sought) ∙ ap (λ (x : Option ℕ). jumped further p n x rest) found)
         ∙ ap (λ (k : ℕ). jump (places reach) further k p n) one
         ∙ j.same
 
     summed : (o : Option ℕ) → w.found ≡ o → read + w.steps + onward further p o rest_steps ≡ jump_steps reach further budget start
     unfolding jump_steps
     summed o found =
-        let x : (reach p).steps + onward further p (reach p).found rest_steps ≡ w.steps + onward further p o rest_steps = ap (λ (x : Walked). x.steps + onward further p x.found rest_steps) sought ∙ ap (λ (x : Option ℕ). w.steps + onward further p x rest_steps) found in
+        let x : (reach p).steps + onward further p (reach p).found rest_steps ≡ w.steps + onward further p o rest_steps = ap (λ (x : Walked). x.steps + onward further p x.found rest_steps) (sym sought) ∙ ap (λ (x : Option ℕ). w.steps + onward further p x rest_steps) found in
         let y : (reach p).steps + onward further p (reach p).found rest_steps ≡ jump_steps reach further (budget - n) p = ap (λ (k : ℕ). jump_steps reach further k p) one in
         omega (arith, j.total)
 

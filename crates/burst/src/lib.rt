@@ -1,17 +1,17 @@
 // Bursts: a run of changes whose gaps are all below a bound, found by searches and grown by jumps, with the nodes read for it.
 #![tactic(auto)]
 
-ghost use Rattle.std.specs.Prelude.{◌≡◌, cond, ◌-◌, ◌≤◌, ltb};
-ghost use Rattle.rules.specs.Burst.{sum, side_if, nearer};
-ghost use Rattle.node.specs.Memory.{level_of};
-ghost use Rattle.find.specs.Way.{place_of};
-ghost use Rattle.search.specs.Part.{Stored};
-ghost use Rattle.burst.specs.Answer.{burst_as, burst_of, change_as, sought_as, side_as, sided_as, back, fore, reach_of, further_of, Jumped, between, sided_by, paired_by};
+ghost use Rattle.std.specs.Prelude.{◌≡◌, cond, ◌*◌, ◌≤◌};
+ghost use Rattle.rules.specs.Burst.{nearer, bursted_by};
+ghost use Rattle.answer.specs.Answered.{counted_of};
+ghost use Rattle.node.specs.Lent.{levels_of};
+ghost use Rattle.burst.specs.Answer.{bursts_as, burst_as, burst_of, side_as, sided_as, back_in, fore_in, back_of, fore_of, reach_of, further_of, Jumped, most_search, side_at, between, sided_by, paired_by};
 
+use answer::{Counted, Refusal};
 use capture::Capture;
-use find::Place;
+use capture::stored::Stored;
 use lines::Mask;
-use number::lesser;
+use node::Memory;
 use search::{next_in, prev_in};
 
 // The first and last change of a burst, and the jumps made at its end and at its start.
@@ -23,28 +23,6 @@ pub struct Burst {
     pub jumps_start: usize,
 }
 
-// The answer: the number of a refusal, or a burst or none, with the nodes read by all its searches.
-#[derive(Clone, Copy)]
-pub enum Bursts {
-    Refused(u8),
-    At(Burst, usize),
-    Nothing(usize),
-}
-
-// What a search finds.
-#[derive(Clone, Copy)]
-enum Change {
-    At(usize),
-    Nothing,
-}
-
-// A search's find, and the nodes that it read.
-#[derive(Clone, Copy)]
-struct Sought {
-    change: Change,
-    read: usize,
-}
-
 // An end of a burst, the jumps that led there, and the nodes read for every try.
 #[derive(Clone, Copy)]
 struct End {
@@ -53,129 +31,12 @@ struct End {
     read: usize,
 }
 
-// Two neighbouring changes, after how far the nearer one is from the place asked.
+// Two neighbouring changes, and how far the nearer one is from the place asked.
 #[derive(Clone, Copy)]
-enum Side {
-    Pair(usize, usize, usize),
-    Nothing,
-}
-
-// A side, and the nodes read for it.
-#[derive(Clone, Copy)]
-struct Sided {
-    side: Side,
-    read: usize,
-}
-
-// Above 2^64 − 1 a sum counts as that.
-fn sum_of(a: usize, b: usize) -> usize
-    ensures { result ≡ sum a b }
-{
-    if 18446744073709551615 - a < b {
-        18446744073709551615
-    } else {
-        a + b
-    }
-}
-
-// 0 where b is more, as in the definitions.
-fn less(a: usize, b: usize) -> usize
-    ensures { result ≡ a - b }
-{
-    if a < b { 0 } else { a - b }
-}
-
-// x at the start of a burst or left of a place, y at the end or right of it.
-fn pick(start: bool, x: usize, y: usize) -> usize
-    ensures { result ≡ cond start x y }
-{
-    if start { x } else { y }
-}
-
-// A search's answer in two parts.
-fn sought_of(place: Place) -> Sought
-    ensures { sought_as result ≡ place_of place }
-{
-    match place {
-        Place::At(i, read) => Sought {
-            change: Change::At(i),
-            read,
-        },
-        Place::Nothing(read) => Sought {
-            change: Change::Nothing,
-            read,
-        },
-    }
-}
-
-// The previous change.
-fn previous<'a>(
-    samples: &[u8],
-    l1: &'a [Mask],
-    l2: &'a [Mask],
-    l3: &'a [Mask],
-    l4: &'a [Mask],
-    unitsize: usize,
-    len: usize,
-    mask: Mask,
-    from: usize,
-) -> Sought
-    requires { Stored unitsize len samples.now (level_of l1.now l2.now l3.now l4.now) }
-    ensures { sought_as result ≡ back unitsize len samples.now (level_of l1.now l2.now l3.now l4.now) mask from }
-{
-    sought_of(prev_in(samples, l1, l2, l3, l4, unitsize, len, mask, from))
-}
-
-// The next change.
-fn next<'a>(
-    samples: &[u8],
-    l1: &'a [Mask],
-    l2: &'a [Mask],
-    l3: &'a [Mask],
-    l4: &'a [Mask],
-    unitsize: usize,
-    len: usize,
-    mask: Mask,
-    from: usize,
-) -> Sought
-    requires { Stored unitsize len samples.now (level_of l1.now l2.now l3.now l4.now) }
-    ensures { sought_as result ≡ fore unitsize len samples.now (level_of l1.now l2.now l3.now l4.now) mask from }
-{
-    sought_of(next_in(samples, l1, l2, l3, l4, unitsize, len, mask, from))
-}
-
-// The next change or the previous one.
-fn seek<'a>(
-    samples: &[u8],
-    l1: &'a [Mask],
-    l2: &'a [Mask],
-    l3: &'a [Mask],
-    l4: &'a [Mask],
-    unitsize: usize,
-    len: usize,
-    mask: Mask,
-    forward: bool,
-    from: usize,
-) -> Sought
-    requires { Stored unitsize len samples.now (level_of l1.now l2.now l3.now l4.now) }
-    ensures { sought_as result ≡ cond forward (fore unitsize len samples.now (level_of l1.now l2.now l3.now l4.now) mask) (back unitsize len samples.now (level_of l1.now l2.now l3.now l4.now) mask) from }
-{
-    if forward {
-        return next(samples, l1, l2, l3, l4, unitsize, len, mask, from);
-    }
-    previous(samples, l1, l2, l3, l4, unitsize, len, mask, from)
-}
-
-// Where the search for a jump starts: for the furthest change within the gap, or at the start for the earliest.
-fn far(gap: usize, start: bool, place: usize) -> usize
-    requires { 2 ≤ gap }
-    ensures { result ≡ cond start (place - gap) (sum place (gap - 1)) }
-{
-    if start {
-        less(place, gap)
-    } else {
-        sum_of(place, gap - 1)
-    }
+struct Pair {
+    distance: usize,
+    first: usize,
+    last: usize,
 }
 
 // Whether e lies further out than an end.
@@ -185,231 +46,216 @@ fn further(start: bool, place: usize, e: usize) -> bool
     if start { e < place } else { place < e }
 }
 
-// The last change of a burst, or its first: jumps from a place, at most as many as the budget.
-fn end_of<'a>(
-    samples: &[u8],
-    l1: &'a [Mask],
-    l2: &'a [Mask],
-    l3: &'a [Mask],
-    l4: &'a [Mask],
-    unitsize: usize,
-    len: usize,
-    mask: Mask,
+// A change p and the one beyond it, left of it at the start and else right of it, if their gap is below the bound.
+fn side_at(
     gap: usize,
-    budget: usize,
     start: bool,
-    from: usize,
-) -> End
-    requires { Stored unitsize len samples.now (level_of l1.now l2.now l3.now l4.now) × (2 ≤ gap) }
-    ensures { Jumped (reach_of (back unitsize len samples.now (level_of l1.now l2.now l3.now l4.now) mask) (fore unitsize len samples.now (level_of l1.now l2.now l3.now l4.now) mask) gap start) (further_of start) budget from result }
+    distance: usize,
+    p: usize,
+    beyond: Option<usize>,
+) -> Option<Pair>
+    ensures { side_as result ≡ side_at start gap distance p beyond }
 {
-    let mut place = from;
-    let mut jumps = 0;
-    let mut read = 0;
-    while jumps < budget {
-        let reach = far(gap, start, place);
-        let sought = seek(samples, l1, l2, l3, l4, unitsize, len, mask, start, reach);
-        read += sought.read;
-        let change = sought.change;
-        let Change::At(e) = change else {
-            return End { place, jumps, read };
-        };
-        if !further(start, place, e) {
-            return End { place, jumps, read };
-        }
-        place = e;
-        jumps += 1;
-    }
-    End { place, jumps, read }
-}
-
-// Two neighbouring changes as a side, if their gap is below the bound.
-fn side_of(gap: usize, distance: usize, first: usize, last: usize) -> Side
-    ensures { side_as result ≡ side_if (ltb (last - first) gap) (record { distance = distance; first = first; last = last }) }
-{
-    if less(last, first) < gap {
-        return Side::Pair(distance, first, last);
-    }
-    Side::Nothing
+    let q = beyond?;
+    let (first, last) = if start { (q, p) } else { (p, q) };
+    (last.saturating_sub(first) < gap).then_some(Pair {
+        distance,
+        first,
+        last,
+    })
 }
 
 // The change before the place asked and the one after it, if their gap is below the bound.
-fn between(gap: usize, before: Change, after: Change) -> Side
-    ensures { side_as result ≡ between gap (change_as before) (change_as after) }
+fn between(gap: usize, before: Option<usize>, after: Option<usize>) -> Option<Pair>
+    ensures { side_as result ≡ between gap before after }
 {
-    let Change::At(p) = before else {
-        return Side::Nothing;
-    };
-    let Change::At(n) = after else {
-        return Side::Nothing;
-    };
-    side_of(gap, 0, p, n)
-}
-
-// The change before the place asked and the change before that, or the change after it and the next one.
-fn one_side<'a>(
-    samples: &[u8],
-    l1: &'a [Mask],
-    l2: &'a [Mask],
-    l3: &'a [Mask],
-    l4: &'a [Mask],
-    unitsize: usize,
-    len: usize,
-    mask: Mask,
-    gap: usize,
-    tolerance: usize,
-    start: bool,
-    sample: usize,
-    found: Change,
-) -> Sided
-    requires { Stored unitsize len samples.now (level_of l1.now l2.now l3.now l4.now) }
-    ensures { sided_as result ≡ sided_by (back unitsize len samples.now (level_of l1.now l2.now l3.now l4.now) mask) (fore unitsize len samples.now (level_of l1.now l2.now l3.now l4.now) mask) start gap tolerance sample (change_as found) }
-{
-    let Change::At(p) = found else {
-        return Sided {
-            side: Side::Nothing,
-            read: 0,
-        };
-    };
-    let distance = less(pick(start, sample, p), pick(start, p, sample));
-    if tolerance < distance {
-        return Sided {
-            side: Side::Nothing,
-            read: 0,
-        };
-    }
-    let from = pick(start, less(p, 1), p);
-    let sought = seek(samples, l1, l2, l3, l4, unitsize, len, mask, !start, from);
-    let read = sought.read;
-    let change = sought.change;
-    let Change::At(q) = change else {
-        return Sided {
-            side: Side::Nothing,
-            read,
-        };
-    };
-    let side = side_of(gap, distance, pick(start, q, p), pick(start, p, q));
-    Sided { side, read }
+    side_at(gap, false, 0, before?, after)
 }
 
 // The nearer side, left at equal distance.
-fn nearer_of(l: Side, r: Side) -> Side
-    ensures { side_as result ≡ nearer (side_as l) (side_as r) }
+fn nearer(left: Option<Pair>, right: Option<Pair>) -> Option<Pair>
+    ensures { side_as result ≡ nearer (side_as left) (side_as right) }
 {
-    match l {
-        Side::Nothing => r,
-        Side::Pair(dl, _, _) => match r {
-            Side::Nothing => l,
-            Side::Pair(dr, _, _) => {
-                if dl <= dr {
-                    return l;
-                }
-                r
-            }
-        },
+    match (left, right) {
+        (Some(l), Some(r)) if r.distance < l.distance => right,
+        (None, _) => right,
+        _ => left,
     }
 }
 
-// The pair of neighbouring changes to grow from.
-fn pair_of<'a>(
-    samples: &[u8],
-    l1: &'a [Mask],
-    l2: &'a [Mask],
-    l3: &'a [Mask],
-    l4: &'a [Mask],
-    unitsize: usize,
-    len: usize,
+// The changes that a burst is made of: of masked lines, their gaps below a bound.
+#[derive(Clone, Copy)]
+struct Changes<'a> {
+    stored: Stored<'a>,
     mask: Mask,
     gap: usize,
-    tolerance: usize,
-    sample: usize,
-) -> Sided
-    requires { Stored unitsize len samples.now (level_of l1.now l2.now l3.now l4.now) }
-    ensures { sided_as result ≡ paired_by (back unitsize len samples.now (level_of l1.now l2.now l3.now l4.now) mask) (fore unitsize len samples.now (level_of l1.now l2.now l3.now l4.now) mask) gap tolerance sample }
-{
-    let p = previous(samples, l1, l2, l3, l4, unitsize, len, mask, sample);
-    let n = next(samples, l1, l2, l3, l4, unitsize, len, mask, sample);
-    let read = p.read + n.read;
-    let before = p.change;
-    let after = n.change;
-    let near = between(gap, before, after);
-    if let Side::Pair(_, _, _) = near {
-        return Sided { side: near, read };
-    }
-    let l = one_side(
-        samples, l1, l2, l3, l4, unitsize, len, mask, gap, tolerance, true, sample, before,
-    );
-    let r = one_side(
-        samples, l1, l2, l3, l4, unitsize, len, mask, gap, tolerance, false, sample, after,
-    );
-    let left = l.side;
-    let right = r.side;
-    let side = nearer_of(left, right);
-    let read = read + l.read + r.read;
-    Sided { side, read }
 }
 
-// 01's burst_at: the burst at a place or none, with the nodes that its searches read, or 1 or 2. Theorems, in
-// proofs/Answers.antt: burst_right, that on right levels both are the rules'; jumps_within, that neither end jumps more often
-// than the budget.
-pub fn burst_at<'a>(
-    c: Capture,
-    samples: &[u8],
-    l1: &'a [Mask],
-    l2: &'a [Mask],
-    l3: &'a [Mask],
-    l4: &'a [Mask],
+impl<'a> Changes<'a> {
+    // The next change or the previous one.
+    #[tactic(auto, using(crate::proofs::Bounds::next_few, crate::proofs::Bounds::previous_few))]
+    fn seek(&self, forward: bool, from: usize) -> Counted<usize>
+        ensures sought { counted_of result ≡ cond forward (fore_of self.now) (back_of self.now) from }
+        ensures few { result.steps ≤ most_search }
+    {
+        if forward {
+            next_in(&self.stored, self.mask, from)
+        } else {
+            prev_in(&self.stored, self.mask, from)
+        }
+    }
+
+    // What a jump leads to: the furthest change within the gap, or at the start the earliest.
+    fn reach(&self, start: bool, place: usize) -> Counted<usize>
+        requires { 2 ≤ self.now.gap }
+        ensures reached { counted_of result ≡ reach_of (back_of self.now) (fore_of self.now) self.now.gap start place }
+        ensures few { result.steps ≤ most_search }
+    {
+        let from = if start {
+            place.saturating_sub(self.gap)
+        } else {
+            place.saturating_add(self.gap - 1)
+        };
+        self.seek(start, from)
+    }
+
+    // The last change of a burst, or its first: jumps from a place, at most as many as the budget.
+    fn end(&self, start: bool, from: usize, budget: usize) -> End
+        requires { 2 ≤ self.now.gap }
+        ensures { Jumped (reach_of (back_of self.now) (fore_of self.now) self.now.gap start) (further_of start) budget from result }
+    {
+        let mut place = from;
+        let mut read = 0;
+        for jumps in 0..budget {
+            let reach = self.reach(start, place);
+            read += reach.steps;
+            match reach.found {
+                Some(e) if further(start, place, e) => place = e,
+                _ => return End { place, jumps, read },
+            }
+        }
+        End {
+            place,
+            jumps: budget,
+            read,
+        }
+    }
+
+    // The change before the place asked and the change before that, or the change after it and the next one.
+    fn side(
+        &self,
+        start: bool,
+        tolerance: usize,
+        sample: usize,
+        near: Option<usize>,
+    ) -> Counted<Pair>
+        ensures sided { sided_as result ≡ sided_by (back_of self.now) (fore_of self.now) start self.now.gap tolerance sample near }
+        ensures few { result.steps ≤ most_search }
+    {
+        let none = Counted {
+            found: None,
+            steps: 0,
+        };
+        let Some(p) = near else {
+            return none;
+        };
+        let distance = if start {
+            sample.saturating_sub(p)
+        } else {
+            p.saturating_sub(sample)
+        };
+        if tolerance < distance {
+            return none;
+        }
+        let beyond = self.seek(!start, if start { p.saturating_sub(1) } else { p });
+        Counted {
+            found: side_at(self.gap, start, distance, p, beyond.found),
+            steps: beyond.steps,
+        }
+    }
+
+    // The pair of neighbouring changes to grow from.
+    fn pair(&self, tolerance: usize, sample: usize) -> Counted<Pair>
+        ensures paired { sided_as result ≡ paired_by (back_of self.now) (fore_of self.now) self.now.gap tolerance sample }
+        ensures few { result.steps ≤ 4 * most_search }
+    {
+        let before = self.seek(false, sample);
+        let after = self.seek(true, sample);
+        let steps = before.steps + after.steps;
+        let around = between(self.gap, before.found, after.found);
+        if around.is_some() {
+            return Counted {
+                found: around,
+                steps,
+            };
+        }
+        let left = self.side(true, tolerance, sample, before.found);
+        let right = self.side(false, tolerance, sample, after.found);
+        Counted {
+            found: nearer(left.found, right.found),
+            steps: steps + left.steps + right.steps,
+        }
+    }
+}
+
+// The burst at a place of what is stored, or none, with the nodes that its searches read.
+#[tactic(auto, using(crate::proofs::Bounds::end_read), unfolding(rules::specs::Burst::burst_by, rules::specs::Burst::steps_by))]
+pub fn burst_in(
+    stored: &Stored<'_>,
     mask: Mask,
     sample: usize,
     max_gap: usize,
     tolerance: usize,
     budget: usize,
-) -> Bursts
-    ensures { burst_as result ≡ burst_of c samples.now (level_of l1.now l2.now l3.now l4.now) mask sample max_gap tolerance budget }
+) -> Counted<Burst>
+    ensures { bursts_as result ≡ bursted_by (back_in stored.now mask) (fore_in stored.now mask) stored.now.len sample max_gap tolerance budget }
 {
-    let number = capture::refusal(c, samples, l1, l2, l3, l4);
-    if number != 0 {
-        return Bursts::Refused(number);
+    if stored.len == 0 || max_gap < 2 {
+        return Counted {
+            found: None,
+            steps: 0,
+        };
     }
-    let unitsize = c.unitsize;
-    let len = c.len;
-    if len == 0 {
-        return Bursts::Nothing(0);
-    }
-    if max_gap < 2 {
-        return Bursts::Nothing(0);
-    }
-    let pair = pair_of(
-        samples,
-        l1,
-        l2,
-        l3,
-        l4,
-        unitsize,
-        len,
+    let changes = Changes {
+        stored: *stored,
         mask,
-        max_gap,
-        lesser(tolerance, max_gap - 1),
-        sample,
-    );
-    let side = pair.side;
-    let Side::Pair(_, first, last) = side else {
-        return Bursts::Nothing(pair.read);
+        gap: max_gap,
     };
-    let end = end_of(
-        samples, l1, l2, l3, l4, unitsize, len, mask, max_gap, budget, false, last,
-    );
-    let start = end_of(
-        samples, l1, l2, l3, l4, unitsize, len, mask, max_gap, budget, true, first,
-    );
-    let read = pair.read + end.read + start.read;
-    Bursts::At(
-        Burst {
+    let pair = changes.pair(tolerance.min(max_gap - 1), sample);
+    let Some(side) = pair.found else {
+        return Counted {
+            found: None,
+            steps: pair.steps,
+        };
+    };
+    let end = changes.end(false, side.last, budget);
+    let start = changes.end(true, side.first, budget);
+    Counted {
+        found: Some(Burst {
             first: start.place,
             last: end.place,
             jumps_end: end.jumps,
             jumps_start: start.jumps,
-        },
-        read,
-    )
+        }),
+        steps: pair.steps + end.read + start.read,
+    }
+}
+
+// 01's burst_at: the burst at a place or none, with the nodes that its searches read, or 1 or 2. Theorems, in
+// proofs/Answers.antt: burst_right, that on right levels both are the rules'; jumps_within, that neither end jumps more often
+// than the budget.
+#[tactic(auto, unfolding(crate::specs::Answer::burst_of))]
+pub fn burst_at(
+    c: Capture,
+    memory: Memory<'_>,
+    mask: Mask,
+    sample: usize,
+    max_gap: usize,
+    tolerance: usize,
+    budget: usize,
+) -> Result<Counted<Burst>, Refusal>
+    ensures { burst_as result ≡ burst_of c memory.entry.samples.now (levels_of memory.entry.levels) mask sample max_gap tolerance budget }
+{
+    let stored = c.open(memory)?;
+    Ok(burst_in(&stored, mask, sample, max_gap, tolerance, budget))
 }
