@@ -4,17 +4,15 @@ use Rattle.std.specs.Prelude.{Option, None, Some}
 use Rattle.rules.specs.Pixel.{View, Range}
 use Rattle.float.specs.declared.Place.{Place}
 use Rattle.float.specs.declared.Place.TheVariants.{Below, At, Beyond}
-use Rattle.pixel.specs.declared.Pixel.{Pixel}
-use Rattle.pixel.specs.declared.Pixel.TheVariants.{Blank, Span}
+use Rattle.pixel.specs.declared.Span.{Span}
 use Rattle.pixel.specs.declared.View as own
 
 -- document 01's view, and its range
 abbrev pub view_as : own.View → View
 view_as v = record { start = v.start; spp = v.spp }
 
-abbrev pub range_as : Pixel → Option Range
-range_as Blank = None
-range_as (Span a b) = Some (record { from = a; to = b })
+abbrev pub range_as : Span → Range
+range_as s = record { from = s.from; to = s.to }
 
 -- "b = min(max(b, a+1) + 1, len)"
 abbrev pub end_at : ℕ → ℕ → ℕ → ℕ
