@@ -12,6 +12,7 @@ use Rattle.rules.specs.Node.{mirror, chunk, top_level}
 use Rattle.rules.specs.Walk.{Walked, nothing, walk_from}
 use Rattle.node.specs.Lent.{levels_of}
 use Rattle.node.proofs.NodeMemory.{reads_sample}
+use Rattle.capture.specs.Backed.{Bytes}
 use Rattle.capture.specs.Stored.{reader_in}
 use Rattle.capture.specs.declared.stored.Stored.{Stored}
 use Rattle.capture.proofs.Backed.{sample_held}
@@ -23,15 +24,15 @@ use Rattle.find.proofs.Way.{Placed, Stretch, best_within}
 use Rattle.find.proofs.Line.{run_found, stretch_line}
 
 -- ---- what `near` answers, m samples being asked
-module _ (s : Stored) (back : Bool) (p mask v m k u : ℕ) (em : m ≡ few_stored back s.len p) (r : Run (nth_node back (leaf_in s) p) mask v m k u) where
-  asked : Run (nth_node back (leaf_in s) p) mask v (few_stored back s.len p) k u
-  asked = subst (λ (x : ℕ). Run (nth_node back (leaf_in s) p) mask v x k u) em r
+module _ (unit len : ℕ) (samples : List ℕ) (back : Bool) (p mask v m k u : ℕ) (em : m ≡ few_stored back len p) (r : Run (nth_node back (leaf_in unit samples) p) mask v m k u) where
+  asked : Run (nth_node back (leaf_in unit samples) p) mask v (few_stored back len p) k u
+  asked = subst (λ (x : ℕ). Run (nth_node back (leaf_in unit samples) p) mask v x k u) em r
 
-  pub near_found : k < m → {q : ℕ} → q ≡ moved back p k → Near s back mask p v (told (Some q) (k + 1))
-  near_found h eq = record { count = k; value = u; passed = asked; answer_is = ap (λ (x : ℕ). told (Some x) (k + 1)) eq ∙ sym (ap (λ (b : Bool). cond b (found_after back p k) nothing) (lt-ltb k (few_stored back s.len p) (omega arith))) }
+  pub near_found : k < m → {q : ℕ} → q ≡ moved back p k → Near unit len samples back mask p v (told (Some q) (k + 1))
+  near_found h eq = record { count = k; value = u; passed = asked; answer_is = ap (λ (x : ℕ). told (Some x) (k + 1)) eq ∙ sym (ap (λ (b : Bool). cond b (found_after back p k) nothing) (lt-ltb k (few_stored back len p) (omega arith))) }
 
-  pub near_none : m ≤ k → Near s back mask p v nothing
-  near_none h = record { count = k; value = u; passed = asked; answer_is = sym (ap (λ (b : Bool). cond b (found_after back p k) nothing) (le-ltb k (few_stored back s.len p) (omega arith))) }
+  pub near_none : m ≤ k → Near unit len samples back mask p v nothing
+  near_none h = record { count = k; value = u; passed = asked; answer_is = sym (ap (λ (b : Bool). cond b (found_after back p k) nothing) (le-ltb k (few_stored back len p) (omega arith))) }
 
 -- ---- the walk
 -- what few says of n samples
@@ -46,18 +47,19 @@ free back p n h = go (ℕ_discrete (p % 32) 0)
     go (yes z) = let e : few back p ≡ 0 = ap (λ (b : Bool). cond b 0 (min (to_border back p) 8)) (eq-eqb _ _ z) in record { between = λ i _. omega arith; border = omega arith }
     go (no z) = let e : few back p ≡ min (to_border back p) 8 = ap (λ (b : Bool). cond b 0 (min (to_border back p) 8)) (ne_eqb _ _ z) in record { between = λ _. z; border = omega arith }
 
+-- what few asks of memory
+pub few_held : {unit len : ℕ} {samples : List ℕ} → Bytes unit len samples → len < 18446744073709551616 → (back : Bool) (p : ℕ) → p ≤ len → (level : List ℕ) → RunHeld unit samples level 0 back p (few_stored back len p)
+few_held {unit} {len} {samples} bytes small back p hp level = record { each = λ k h. each k h back (omega arith) }
+  where
+    each : (k : ℕ) → k < few_stored back len p → (b : Bool) → few_stored back len p ≤ left_in b 0 len p → NthHeld unit samples level 0 b p k
+    each k h true i = record { behind = λ _. omega arith; ahead = λ z. absurd (true≢false z); held = record { sample = λ _. sample_held bytes (p - (k + 1)) (omega arith); node = λ z. absurd (z refl) } }
+    each k h false i = record { behind = λ z. absurd (false≢true z); ahead = λ _. omega arith; held = record { sample = λ _. sample_held bytes (p + k) (omega arith); node = λ z. absurd (z refl) } }
+
 module _ (s : Stored) (back : Bool) (p : ℕ) (hp : p ≤ s.len) where
   abbrev n : ℕ
   n = few_stored back s.len p
 
-  pub few_held : (level : List ℕ) → RunHeld s.unitsize s.memory.samples.now level 0 back p n
-  few_held level = record { each = λ k h. each k h back (omega arith) }
-    where
-      each : (k : ℕ) → k < n → (b : Bool) → n ≤ left_in b 0 s.len p → NthHeld s.unitsize s.memory.samples.now level 0 b p k
-      each k h true i = record { behind = λ _. omega arith; ahead = λ z. absurd (true≢false z); held = record { sample = λ _. sample_held s.backed.bytes (p - (k + 1)) (omega arith); node = λ z. absurd (z refl) } }
-      each k h false i = record { behind = λ z. absurd (false≢true z); ahead = λ _. omega (arith, s.backed.most); held = record { sample = λ _. sample_held s.backed.bytes (p + k) (omega arith); node = λ z. absurd (z refl) } }
-
-  module _ (mask v k u : ℕ) (r : Run (nth_node back (leaf_in s) p) mask v n k u) (h : k < n) where
+  module _ (mask v k u : ℕ) (r : Run (nth_node back (leaf_in s.unitsize s.memory.samples.now) p) mask v n k u) (h : k < n) where
     module _ (c : ℕ) (low : c * chunk ≤ p) (high : p ≤ (c + 1) * chunk) where
       abbrev hi : ℕ
       hi = min ((c + 1) * chunk) s.len
@@ -67,7 +69,7 @@ module _ (s : Stored) (back : Bool) (p : ℕ) (hp : p ≤ s.len) where
       inside false i j = let z : p % 32 ≡ 0 → ⊥ = (free back p n (omega arith)).between (omega arith) in omega arith
 
       found_there : found_after back p k ≡ walk_from (way_in back (reader_in s) (c * chunk) hi) mask p v
-      found_there = ap₂ (λ (x n : ℕ). told (Some (moved back p x)) n) place counts ∙ run_found (going_starts (way_in back (reader_in s) (c * chunk) hi) mask p v) (stretch_line back (reader_in s) (c * chunk) hi p (left_in back (c * chunk) hi p) top_level 0 1 n placed taken (nth_node back (leaf_in s) p) (λ j _. reads j back)) r h refl
+      found_there = ap₂ (λ (x n : ℕ). told (Some (moved back p x)) n) place counts ∙ run_found (going_starts (way_in back (reader_in s) (c * chunk) hi) mask p v) (stretch_line back (reader_in s) (c * chunk) hi p (left_in back (c * chunk) hi p) top_level 0 1 n placed taken (nth_node back (leaf_in s.unitsize s.memory.samples.now) p) (λ j _. reads j back)) r h refl
         where
           place : k ≡ k * 1
           place = omega arith
@@ -89,12 +91,12 @@ module _ (s : Stored) (back : Bool) (p : ℕ) (hp : p ≤ s.len) where
             fits = omega (arith, fits);
           }
 
-          reads : (j : ℕ) (b : Bool) → nth_node b (leaf_in s) p j ≡ (way_in b (reader_in s) (c * chunk) hi).node 0 (moved b p (j * 1))
-          reads j true = ap mirror (ap (leaf_in s) (omega arith) ∙ sym (reads_sample s.unitsize s.memory.samples.now (levels_of s.memory.levels) 0 (p - j * 1 - 1) refl))
-          reads j false = ap (leaf_in s) (omega arith) ∙ sym (reads_sample s.unitsize s.memory.samples.now (levels_of s.memory.levels) 0 (p + j * 1) refl)
+          reads : (j : ℕ) (b : Bool) → nth_node b (leaf_in s.unitsize s.memory.samples.now) p j ≡ (way_in b (reader_in s) (c * chunk) hi).node 0 (moved b p (j * 1))
+          reads j true = ap mirror (ap (leaf_in s.unitsize s.memory.samples.now) (omega arith) ∙ sym (reads_sample s.unitsize s.memory.samples.now (levels_of s.memory.levels) 0 (p - j * 1 - 1) refl))
+          reads j false = ap (leaf_in s.unitsize s.memory.samples.now) (omega arith) ∙ sym (reads_sample s.unitsize s.memory.samples.now (levels_of s.memory.levels) 0 (p + j * 1) refl)
 
   -- what is found is what the walk in p's chunk finds, in as many steps, whatever memory holds
-  pub near_finds : {mask v : ℕ} {answer : Walked} → Near s back mask p v answer → (answer.found ≡ None → ⊥) → (c : ℕ) → c * chunk ≤ p → p ≤ (c + 1) * chunk
+  pub near_finds : {mask v : ℕ} {answer : Walked} → Near s.unitsize s.len s.memory.samples.now back mask p v answer → (answer.found ≡ None → ⊥) → (c : ℕ) → c * chunk ≤ p → p ≤ (c + 1) * chunk
       → answer ≡ walk_from (way_in back (reader_in s) (c * chunk) (min ((c + 1) * chunk) s.len)) mask p v
   near_finds {mask} {v} {answer} r t c low high = go (dec_lt r.count n)
     where

@@ -9,6 +9,7 @@ ghost use Rattle.std.specs.Prelude.{◌≡◌, true, false, ◌+◌, ◌-◌, �
 ghost use Rattle.rules.specs.Node.{mirror, top_level, chunk};
 ghost use Rattle.rules.specs.Walk.{walk_from};
 ghost use Rattle.answer.specs.Answered.{counted_of};
+ghost use Rattle.capture.specs.Backed.{Bytes};
 ghost use Rattle.node.specs.Memory.{as_node};
 ghost use Rattle.find.specs.Run.{nth_node, Run};
 ghost use Rattle.find.specs.Row.{row_node, NodeIn, NthIn, RunIn};
@@ -17,7 +18,6 @@ ghost use Rattle.find.specs.Takes.{walk_in, Took};
 ghost use Rattle.find.specs.Near.{few, Near};
 
 use answer::Counted;
-use capture::stored::Stored;
 use level::{FAN, LEVELS};
 use lines::Mask;
 use node::Node;
@@ -211,26 +211,29 @@ fn few(back: bool, pos: usize) -> usize
     to_border(back, pos).min(FEW)
 }
 
-// The find of a capture, where it is one of the next few samples: with dense changes nothing more is looked at.
+// The find of a capture of len samples, where it is one of the next few: with dense changes nothing more is looked at.
 // What it finds is the walk's, and so is the count (proofs/Samples.antt, near_finds); where it finds nothing the walk starts anew, and it
-// counts nothing.
+// counts nothing. It asks for the samples' bytes alone; level is any level's slice.
 pub fn near(
-    stored: &Stored<'_>,
+    samples: &[u8],
+    level: &[Mask],
+    unitsize: usize,
+    len: usize,
     back: bool,
     mask: Mask,
     start: usize,
     before: Mask,
 ) -> Counted<usize>
-    requires { start ≤ stored.now.len }
-    ensures { Near stored.now back mask start before (counted_of result) }
+    requires { Bytes unitsize len samples.now × (start ≤ len) }
+    ensures { Near unitsize len samples.now back mask start before (counted_of result) }
 {
     let row = Row {
-        unitsize: stored.unitsize,
-        samples: stored.memory.samples,
-        level: stored.memory.levels.l1,
+        unitsize,
+        samples,
+        level,
         l: 0,
     };
-    let n = few(back, start).min(left(back, 0, stored.len, start));
+    let n = few(back, start).min(left(back, 0, len, start));
     let r = row.run(back, start, n, before, mask);
     if r.count < n {
         return Counted {

@@ -7,7 +7,8 @@ ghost use Rattle.rules.specs.Refusal.{most_samples};
 ghost use Rattle.rules.specs.Walk.{walk_from, next_walk, previous_from, previous_walk, all_levels};
 ghost use Rattle.answer.specs.Answered.{counted_of};
 ghost use Rattle.node.specs.Lent.{levels_of};
-ghost use Rattle.capture.specs.Stored.{reader_in};
+ghost use Rattle.capture.specs.Stored.{sample_in, reader_in};
+ghost use Rattle.find.specs.Near.{Near};
 ghost use Rattle.find.specs.Way.{way_in};
 ghost use Rattle.search.specs.Entered.{Entered};
 ghost use Rattle.search.specs.Quiet.{beside, quiet_nth, ChunkHeld, ChunksHeld, QuietChunks};
@@ -159,6 +160,23 @@ fn chunks_back(stored: &Stored<'_>, mask: Mask, start: usize) -> Counted<usize>
     }
 }
 
+// A look at the next few samples from `at` on, or back from there, with the sample at `seen` as the value next to it.
+fn near_in(stored: &Stored<'_>, back: bool, mask: Mask, at: usize, seen: usize) -> Counted<usize>
+    requires { (at ≤ stored.now.len) × (seen < stored.now.len) }
+    ensures { Near stored.now.unitsize stored.now.len stored.now.memory.samples.now back mask at (sample_in stored.now seen) (counted_of result) }
+{
+    near(
+        stored.memory.samples,
+        stored.memory.levels.l1,
+        stored.unitsize,
+        stored.len,
+        back,
+        mask,
+        at,
+        stored.sample(seen),
+    )
+}
+
 // The next change after any place. Where changes are dense it is one of the next few samples.
 pub fn next_in(stored: &Stored<'_>, mask: Mask, from: usize) -> Counted<usize>
     ensures { counted_of result ≡ next_walk all_levels (reader_in stored.now) stored.now.len mask from }
@@ -169,7 +187,7 @@ pub fn next_in(stored: &Stored<'_>, mask: Mask, from: usize) -> Counted<usize>
             steps: 0,
         };
     }
-    let p = near(stored, false, mask, from + 1, stored.sample(from));
+    let p = near_in(stored, false, mask, from + 1, from);
     if p.found.is_some() {
         return p;
     }
@@ -187,7 +205,7 @@ pub fn prev_in(stored: &Stored<'_>, mask: Mask, from: usize) -> Counted<usize>
         };
     }
     let start = from.min(stored.len - 1);
-    let p = near(stored, true, mask, start, stored.sample(start));
+    let p = near_in(stored, true, mask, start, start);
     if p.found.is_some() {
         return p;
     }
