@@ -3,23 +3,14 @@ use mathlib.Core.Path.{◌≡◌, refl, sym, ap, ap₂, ◌∙◌}
 use mathlib.Core.Bool.{Bool, true, false, cond, ◌&&◌}
 use mathlib.Core.List.{List}
 use Rattle.std.specs.Prelude.{Option, None, Some}
-use Prim.Native.Nat.{ℕ, zero, suc, ◌+◌, ◌-◌, ◌*◌, ◌≤◌, ◌<◌, min}
+use Prim.Native.Nat.{ℕ, zero, suc, ◌+◌, ◌-◌, ◌*◌, ◌≤◌, ◌<◌}
 use native.Mathlib.Nat.{div-add-mod'}
 use native.Mathlib.Omega.{arith}
 use lib.Dec.{leb}
 use lib.ListN.{length}
 use borrow.Author.Tests.{le-leb, lt-leb}
-use Rattle.rules.specs.Stretches.{Stretch, stretch_at}
-use Rattle.unknown.specs.Crossing.{nth_number, stretch_count, nth_stretch, resume, crossing, crossed}
-
--- ---- places
-pub resume_back : (back : Bool) (first end m : ℕ) → back ≡ true → m ≡ min first 1 → first - m ≡ resume back first end
-resume_back true first end m e h = omega (arith, h)
-resume_back false first end m e h = cc
-
-pub resume_on : (back : Bool) (first end : ℕ) → back ≡ false → end ≡ resume back first end
-resume_on true first end e = cc
-resume_on false first end e = refl
+use Rattle.rules.specs.Stretches.{Stretch}
+use Rattle.unknown.specs.Crossing.{nth_number, stretch_count, resume, crossing, crossed}
 
 -- a stretch on the way is one of the list
 pub nth_inside : (back : Bool) (list : List ℕ) (k : ℕ) → k < stretch_count list → 2 * nth_number back (stretch_count list) k + 1 < length list
@@ -61,31 +52,14 @@ module _ (search : ℕ → Option ℕ) (back : Bool) (stretch : ℕ → Stretch)
       split : n ≡ n - k + k
       split = omega (arith, h)
 
-  -- k of n are crossed, and i is found
-  pub record Crosses (n k i : ℕ) : Type 0 where
-    pub most : k ≤ n
-    pub same : crossed search back stretch k found ≡ Some i
-
-  pub crosses_start : {n i : ℕ} → found ≡ Some i → Crosses n 0 i
+  -- none at first, and one more
+  pub crossed_start : found ≡ crossed search back stretch 0 found
   unfolding crossed
-  crosses_start e = record { most = omega arith; same = e }
+  crossed_start = refl
 
-  pub none_found : (n : ℕ) → found ≡ None → None ≡ crossed search back stretch n found
+  pub crossed_next : (k : ℕ) → crossed search back stretch (k + 1) found ≡ crossing search back (stretch k).first ((stretch k).first + (stretch k).count) (crossed search back stretch k found)
   unfolding crossed
-  none_found n e = none_left 0 n (omega arith) e
-
-  -- one more
-  crossed_on : {k i first end : ℕ} {x : Option ℕ} → crossed search back stretch k found ≡ Some i → first ≡ (stretch k).first → end ≡ (stretch k).first + (stretch k).count
-      → x ≡ crossing search back first end (Some i) → crossed search back stretch (k + 1) found ≡ x
-  unfolding crossed
-  crossed_on {k} {i} {first} {end} {x} e f g h = ap (λ (n : ℕ). crossed search back stretch n found) one ∙ ap (crossing search back (stretch k).first ((stretch k).first + (stretch k).count)) e ∙ sym (h ∙ ap₂ (λ (a b : ℕ). crossing search back a b (Some i)) f g)
+  crossed_next k = ap (λ (n : ℕ). crossed search back stretch n found) one
     where
       one : k + 1 ≡ suc k
       one = omega arith
-
--- the stretch after k others, as the list has it
-module _ (search : ℕ → Option ℕ) (back : Bool) (list : List ℕ) (found : Option ℕ) where
-  pub crosses_on : {n k i j first end : ℕ} {x : Option ℕ} → Crosses search back (nth_stretch back list) found n k i → j ≡ nth_number back (stretch_count list) k
-      → (first ≡ (stretch_at list j).first) × (end ≡ (stretch_at list j).first + (stretch_at list j).count) → x ≡ crossing search back first end (Some i) → crossed search back (nth_stretch back list) (k + 1) found ≡ x
-  crosses_on s e b h =
-      crossed_on search back (nth_stretch back list) found s.same (b.0 ∙ ap (λ (m : ℕ). (stretch_at list m).first) e) (b.1 ∙ ap (λ (m : ℕ). (stretch_at list m).first + (stretch_at list m).count) e) h

@@ -33,7 +33,7 @@ use Rattle.capture.specs.Record.{store_of, lent_of}
 use Rattle.unknown.specs.Crossing.{walked, nth_number, stretch_count, nth_stretch, certain_in}
 use Rattle.unknown.specs.Meeting.{entry, met, from_entry, possible_across, possible_in}
 use Rattle.unknown.specs.Answer.{certain_of, possible_of}
-use Rattle.search.specs.Part.{Stored}
+use Rattle.capture.specs.Backed.{Backed}
 use Rattle.unknown.proofs.Crossing.{nth_inside}
 use Rattle.unknown.proofs.Passing.{let_through}
 use Rattle.unknown.proofs.Certain.{end_of, Touch, Touched, Left, Before, crossed_nearest}
@@ -221,8 +221,8 @@ module _ (back : Bool) (c : Capture) (samples : List ℕ) (levels : ℕ → List
         go zero e = ap given (h e)
         go (suc k) e = refl
 
-    passed : unknown_refusal (store_of c) (lent_of samples levels) list ≡ 0 → Stored c.unitsize c.len samples levels × (list_wrong c.len list ≡ false)
-    passed e = let_through c samples levels list refl e
+    passed : unknown_refusal (store_of c) (lent_of samples levels) list ≡ 0 → Backed c.unitsize c.len samples levels × (list_wrong c.len list ≡ false)
+    passed e = let_through c samples levels list e
 
     nodes : TrueNodes all_levels (reader_of c.unitsize samples levels) s c.len
     nodes = right_true c.unitsize samples levels c.len right

@@ -1,27 +1,18 @@
 -- What the four calls answer: 02's refusals, else the search over memory's own nodes.
-use Rattle.std.specs.Prelude.{Bool, List, ℕ}
-use Rattle.std.specs.Prelude.{Option, None, Some}
-use Rattle.rules.specs.Answer.{Answer, refused, given, unless}
+use Rattle.std.specs.Prelude.{Bool, List, ℕ, Option, Result}
+use Rattle.rules.specs.Answer.{Answer, unless}
 use Rattle.rules.specs.Unknown.{unknown_refusal}
+use Rattle.answer.specs.Answered.{told_of}
+use Rattle.answer.specs.declared.Refusal.{Refusal}
 use Rattle.node.specs.Memory.{reader_of}
 use Rattle.capture.specs.declared.Capture.{Capture}
 use Rattle.capture.specs.Record.{store_of, lent_of}
-use Rattle.unknown.specs.declared.Spot.{Spot}
-use Rattle.unknown.specs.declared.Spot.TheVariants as spot
-use Rattle.unknown.specs.declared.Located.{Located}
-use Rattle.unknown.specs.declared.Located.TheVariants as located
 use Rattle.unknown.specs.Crossing.{certain_in}
 use Rattle.unknown.specs.Meeting.{possible_in}
 
-abbrev pub spot_of : Spot → Option ℕ
-spot_of (spot.At i) = Some i
-spot_of spot.Nothing = None
-
--- 02's number or place for each case
-abbrev pub located_of : Located → Answer (Option ℕ)
-located_of (located.Refused n) = refused n
-located_of (located.At i) = given (Some i)
-located_of located.Nothing = given None
+-- 02's number, or the place if there is one
+abbrev pub located_of : Result (Option ℕ) Refusal → Answer (Option ℕ)
+located_of = told_of
 
 unfoldable pub certain_of : Bool → Capture → List ℕ → (ℕ → List ℕ) → List ℕ → ℕ → ℕ → Answer (Option ℕ)
 certain_of back c samples levels list mask from =

@@ -3,69 +3,32 @@
 // a possible one takes one at most, up to the first stretch on its way.
 #![tactic(auto)]
 
-ghost use Rattle.std.specs.Prelude.{◌≡◌, true, false, ◌+◌, ◌*◌, ◌≤◌, ◌<◌, max};
+ghost use Rattle.std.specs.Prelude.{◌≡◌, true, false, ◌<◌};
 ghost use Rattle.std.specs.Prelude.{Some};
-ghost use Rattle.rules.specs.Refusal.{most_samples};
-ghost use Rattle.rules.specs.Answer.{given};
-ghost use Rattle.rules.specs.Unknown.{list_wrong};
-ghost use Rattle.node.specs.Memory.{level_of, reader_of};
-ghost use Rattle.find.specs.Way.{place_of};
-ghost use Rattle.search.specs.Part.{Stored};
+ghost use Rattle.node.specs.Lent.{levels_of};
+ghost use Rattle.capture.specs.Stored.{reader_in};
 ghost use Rattle.unknown.specs.Crossing.{walked, nth_number, stretch_count, nth_stretch, resume, crossing, certain_in};
 ghost use Rattle.unknown.specs.Meeting.{entry, meets, met, earlier, cut_at, from_entry, possible_across};
-ghost use Rattle.unknown.specs.Answer.{spot_of, located_of, certain_of, possible_of};
+ghost use Rattle.unknown.specs.Answer.{located_of, certain_of, possible_of};
 
+use answer::Refusal;
 use capture::Capture;
-use find::Place;
+use capture::stored::Stored;
 use lines::Mask;
-use number::lesser;
+use node::Memory;
 use search::{next_in, prev_in};
-use stretches::stretch_at;
-
-// A place, or none.
-#[derive(Clone, Copy)]
-enum Spot {
-    At(usize),
-    Nothing,
-}
-
-#[derive(Clone, Copy)]
-pub enum Located {
-    Refused(u8),
-    At(usize),
-    Nothing,
-}
-
-// A find without its count.
-fn uncounted(p: Place) -> Spot
-    ensures { spot_of result ≡ (place_of p).found }
-{
-    match p {
-        Place::At(i, _) => Spot::At(i),
-        Place::Nothing(_) => Spot::Nothing,
-    }
-}
+use std::ops::Range;
+use stretches::known::Known;
 
 // 01's search from a place on, or back from there.
-fn change<'a>(
-    samples: &[u8],
-    l1: &'a [Mask],
-    l2: &'a [Mask],
-    l3: &'a [Mask],
-    l4: &'a [Mask],
-    unitsize: usize,
-    len: usize,
-    back: bool,
-    mask: Mask,
-    from: usize,
-) -> Spot
-    requires { Stored unitsize len samples.now (level_of l1.now l2.now l3.now l4.now) }
-    ensures { spot_of result ≡ walked back (reader_of unitsize samples.now (level_of l1.now l2.now l3.now l4.now)) mask len from }
+fn change(stored: &Stored<'_>, back: bool, mask: Mask, from: usize) -> Option<usize>
+    ensures { result ≡ walked back (reader_in stored.now) mask stored.now.len from }
 {
     if back {
-        return uncounted(prev_in(samples, l1, l2, l3, l4, unitsize, len, mask, from));
+        prev_in(stored, mask, from).found
+    } else {
+        next_in(stored, mask, from).found
     }
-    uncounted(next_in(samples, l1, l2, l3, l4, unitsize, len, mask, from))
 }
 
 // Of n stretches in rising order, the number of the one after k others on a search's way.
@@ -73,173 +36,99 @@ fn nth(back: bool, n: usize, k: usize) -> usize
     requires { k < n }
     ensures { result ≡ nth_number back n k }
 {
-    if back { n - (k + 1) } else { k }
+    if back { n - 1 - k } else { k }
 }
 
 // ---- certain changes
 
 // From where a search goes on behind a stretch: backward at the place before it, and at 0, where nothing is found, if there is none.
-fn resume(back: bool, first: usize, end: usize) -> usize
-    ensures { result ≡ resume back first end }
+fn resume(back: bool, stretch: &Range<usize>) -> usize
+    ensures { result ≡ resume back stretch.now.start stretch.now.end }
 {
-    if back { first - lesser(first, 1) } else { end }
+    if back {
+        stretch.start.saturating_sub(1)
+    } else {
+        stretch.end
+    }
 }
 
 // A find stays where no unknown sample is beside it; else the next one behind the stretch.
-fn cross<'a>(
-    samples: &[u8],
-    l1: &'a [Mask],
-    l2: &'a [Mask],
-    l3: &'a [Mask],
-    l4: &'a [Mask],
-    unitsize: usize,
-    len: usize,
+fn cross(
+    stored: &Stored<'_>,
     back: bool,
     mask: Mask,
-    first: usize,
-    end: usize,
+    stretch: &Range<usize>,
     i: usize,
-) -> Spot
-    requires { Stored unitsize len samples.now (level_of l1.now l2.now l3.now l4.now) }
-    ensures { spot_of result ≡ crossing (walked back (reader_of unitsize samples.now (level_of l1.now l2.now l3.now l4.now)) mask len) back first end (Some i) }
+) -> Option<usize>
+    ensures { result ≡ crossing (walked back (reader_in stored.now) mask stored.now.len) back stretch.now.start stretch.now.end (Some i) }
 {
-    if i < first {
-        return Spot::At(i);
+    if i < stretch.start || stretch.end < i {
+        return Some(i);
     }
-    if end < i {
-        return Spot::At(i);
-    }
-    change(
-        samples,
-        l1,
-        l2,
-        l3,
-        l4,
-        unitsize,
-        len,
-        back,
-        mask,
-        resume(back, first, end),
-    )
+    change(stored, back, mask, resume(back, stretch))
 }
 
-// The next certain change, of a capture and a list that passed their rows.
-fn certain_in<'a>(
-    samples: &[u8],
-    l1: &'a [Mask],
-    l2: &'a [Mask],
-    l3: &'a [Mask],
-    l4: &'a [Mask],
-    unitsize: usize,
-    len: usize,
-    list: &[usize],
-    back: bool,
-    mask: Mask,
-    from: usize,
-) -> Spot
-    requires { Stored unitsize len samples.now (level_of l1.now l2.now l3.now l4.now) × (list_wrong len list.now ≡ false) }
-    ensures { spot_of result ≡ certain_in back (reader_of unitsize samples.now (level_of l1.now l2.now l3.now l4.now)) len list.now mask from }
+// The next certain change.
+#[tactic(auto, using(crate::proofs::Crossing::crossed_start, crate::proofs::Crossing::crossed_next, crate::proofs::Crossing::none_left))]
+fn certain_in(known: &Known<'_>, back: bool, mask: Mask, from: usize) -> Option<usize>
+    ensures { result ≡ certain_in back (reader_in known.now.stored) known.now.stored.len known.now.list.now mask from }
 {
-    let n = list.len() / 2;
-    let found = change(samples, l1, l2, l3, l4, unitsize, len, back, mask, from);
-    let Spot::At(place) = found else {
-        return Spot::Nothing;
-    };
-    let mut i = place;
-    let mut k = 0;
-    while k < n {
-        let s = stretch_at(list, len, nth(back, n, k));
-        let kept = cross(
-            samples, l1, l2, l3, l4, unitsize, len, back, mask, s.first, s.end, i,
-        );
-        let Spot::At(next) = kept else {
-            return Spot::Nothing;
-        };
-        i = next;
-        k += 1;
+    let n = known.list.len() / 2;
+    let mut found = change(&known.stored, back, mask, from);
+    for k in 0..n {
+        let stretch = known.stretch_at(nth(back, n, k));
+        found = cross(&known.stored, back, mask, &stretch, found?);
     }
-    Spot::At(i)
+    found
 }
 
 // ---- possible changes
 
 // The first place that a search looks at.
-fn entry(back: bool, len: usize, from: usize) -> Spot
-    ensures { spot_of result ≡ entry back len from }
+fn entry(back: bool, len: usize, from: usize) -> Option<usize>
+    ensures { result ≡ entry back len from }
 {
-    if len <= 1 {
-        return Spot::Nothing;
-    }
     if back {
-        let p = lesser(from, len - 1);
-        if p == 0 {
-            return Spot::Nothing;
-        }
-        return Spot::At(p);
+        let p = from.min(len.saturating_sub(1));
+        (p != 0).then_some(p)
+    } else {
+        let p = from.saturating_add(1);
+        (p < len).then_some(p)
     }
-    if len - 1 <= from {
-        return Spot::Nothing;
-    }
-    Spot::At(from + 1)
-}
-
-fn greater(a: usize, b: usize) -> usize
-    ensures { result ≡ max a b }
-{
-    if a < b { b } else { a }
 }
 
 // From place p on, the first one that has an unknown sample of a stretch beside it.
-fn meets(back: bool, p: usize, first: usize, end: usize) -> Spot
-    ensures { spot_of result ≡ meets back p first end }
+fn meets(back: bool, p: usize, stretch: &Range<usize>) -> Option<usize>
+    ensures { result ≡ meets back p stretch.now.start stretch.now.end }
 {
     if back {
-        let c = lesser(end, p);
-        if first <= c {
-            return Spot::At(c);
-        }
-        return Spot::Nothing;
+        let c = stretch.end.min(p);
+        (stretch.start <= c).then_some(c)
+    } else {
+        let c = stretch.start.max(p);
+        (c <= stretch.end).then_some(c)
     }
-    let c = greater(first, p);
-    if c <= end {
-        return Spot::At(c);
-    }
-    Spot::Nothing
 }
 
 // The first one of any stretch.
-fn met(list: &[usize], len: usize, back: bool, p: usize) -> Spot
-    requires { (list_wrong len list.now ≡ false) × (len ≤ most_samples) }
-    ensures { spot_of result ≡ met back p (nth_stretch back list.now) (stretch_count list.now) }
+#[tactic(auto, using(crate::proofs::Meeting::met_start, crate::proofs::Meeting::met_next, crate::proofs::Meeting::met_stays))]
+fn met(known: &Known<'_>, back: bool, p: usize) -> Option<usize>
+    ensures { result ≡ met back p (nth_stretch back known.now.list.now) (stretch_count known.now.list.now) }
 {
-    let n = list.len() / 2;
-    let mut k = 0;
-    while k < n {
-        let s = stretch_at(list, len, nth(back, n, k));
-        let place = meets(back, p, s.first, s.end);
-        match place {
-            Spot::At(c) => {
-                return Spot::At(c);
-            }
-            Spot::Nothing => {
-                k += 1;
-            }
+    let n = known.list.len() / 2;
+    for k in 0..n {
+        if let Some(c) = meets(back, p, &known.stretch_at(nth(back, n, k))) {
+            return Some(c);
         }
     }
-    Spot::Nothing
+    None
 }
 
 // A find and the place c at which a stretch is met: the one that comes first. Forward the search ended before c.
-fn earlier(back: bool, found: Spot, c: usize) -> Spot
-    ensures { spot_of result ≡ earlier back (spot_of found) c }
+fn earlier(back: bool, found: Option<usize>, c: usize) -> usize
+    ensures { Some result ≡ earlier back found c }
 {
-    let Spot::At(j) = found else {
-        return Spot::At(c);
-    };
-    if back {
-        return Spot::At(greater(j, c));
-    }
-    Spot::At(j)
+    found.map_or(c, |j| if back { j.max(c) } else { j })
 }
 
 // How many samples a search is given that meets a stretch at c.
@@ -250,179 +139,114 @@ fn cut_at(back: bool, len: usize, c: usize) -> usize
 }
 
 // The first possible change from place p on, the first that a search from `from` looks at.
-fn possible_from<'a>(
-    samples: &[u8],
-    l1: &'a [Mask],
-    l2: &'a [Mask],
-    l3: &'a [Mask],
-    l4: &'a [Mask],
-    unitsize: usize,
-    len: usize,
-    list: &[usize],
-    back: bool,
-    mask: Mask,
-    from: usize,
-    p: usize,
-) -> Spot
-    requires { Stored unitsize len samples.now (level_of l1.now l2.now l3.now l4.now) × (list_wrong len list.now ≡ false) }
-    ensures { spot_of result ≡ from_entry back (walked back (reader_of unitsize samples.now (level_of l1.now l2.now l3.now l4.now)) mask) len list.now from (Some p) }
+#[tactic(auto, using(crate::proofs::Meeting::cut_most))]
+fn possible_from(known: &Known<'_>, back: bool, mask: Mask, from: usize, p: usize) -> Option<usize>
+    ensures { result ≡ from_entry back (walked back (reader_in known.now.stored) mask) known.now.stored.len known.now.list.now from (Some p) }
 {
-    let stretch = met(list, len, back, p);
-    let Spot::At(c) = stretch else {
-        return change(samples, l1, l2, l3, l4, unitsize, len, back, mask, from);
+    let Some(c) = met(known, back, p) else {
+        return change(&known.stored, back, mask, from);
     };
     if c == p {
-        return Spot::At(c);
+        return Some(c);
     }
-    let hi = cut_at(back, len, c);
-    earlier(
-        back,
-        change(samples, l1, l2, l3, l4, unitsize, hi, back, mask, from),
-        c,
-    )
+    let part = known.stored.cut(cut_at(back, known.stored.len, c));
+    Some(earlier(back, change(&part, back, mask, from), c))
 }
 
-// The next possible change across stretches, of a capture and a list that passed their rows.
-fn possible_in<'a>(
-    samples: &[u8],
-    l1: &'a [Mask],
-    l2: &'a [Mask],
-    l3: &'a [Mask],
-    l4: &'a [Mask],
-    unitsize: usize,
-    len: usize,
-    list: &[usize],
-    back: bool,
-    mask: Mask,
-    from: usize,
-) -> Spot
-    requires { Stored unitsize len samples.now (level_of l1.now l2.now l3.now l4.now) × (list_wrong len list.now ≡ false) }
-    ensures { spot_of result ≡ possible_across back unitsize (reader_of unitsize samples.now (level_of l1.now l2.now l3.now l4.now)) len list.now mask from }
+// The next possible change across stretches.
+fn possible_across(known: &Known<'_>, back: bool, mask: Mask, from: usize) -> Option<usize>
+    ensures { result ≡ possible_across back known.now.stored.unitsize (reader_in known.now.stored) known.now.stored.len known.now.list.now mask from }
 {
-    if !lines::has_line(mask, unitsize) {
-        return Spot::Nothing;
+    if !lines::has_line(mask, known.stored.unitsize) {
+        return None;
     }
-    let first = entry(back, len, from);
-    let Spot::At(p) = first else {
-        return Spot::Nothing;
-    };
-    possible_from(
-        samples, l1, l2, l3, l4, unitsize, len, list, back, mask, from, p,
-    )
+    let p = entry(back, known.stored.len, from)?;
+    possible_from(known, back, mask, from, p)
 }
 
 // ---- the calls. Without stretches each is 01's search, and costs what that costs.
 
-// A search's answer where no row refuses.
-fn given(found: Spot) -> Located
-    ensures { located_of result ≡ given (spot_of found) }
+// A certain change, forward or back; or 1, 2 or 18.
+fn certain_change(
+    c: Capture,
+    memory: Memory<'_>,
+    list: &[usize],
+    back: bool,
+    mask: Mask,
+    from: usize,
+) -> Result<Option<usize>, Refusal>
+    ensures { located_of result ≡ certain_of back c memory.entry.samples.now (levels_of memory.entry.levels) list.now mask from }
 {
-    match found {
-        Spot::At(i) => Located::At(i),
-        Spot::Nothing => Located::Nothing,
+    let known = stretches::check(c, memory, list)?;
+    Ok(certain_in(&known, back, mask, from))
+}
+
+// A possible one.
+fn possible_change(
+    c: Capture,
+    memory: Memory<'_>,
+    list: &[usize],
+    back: bool,
+    mask: Mask,
+    from: usize,
+) -> Result<Option<usize>, Refusal>
+    ensures { located_of result ≡ possible_of back c memory.entry.samples.now (levels_of memory.entry.levels) list.now mask from }
+{
+    let known = stretches::check(c, memory, list)?;
+    if known.list.is_empty() {
+        return Ok(change(&known.stored, back, mask, from));
     }
+    Ok(possible_across(&known, back, mask, from))
 }
 
 // The next certain change after a place, below len; or 1, 2 or 18. Theorems, in proofs/Right.antt: what each of the four means on right levels.
-pub fn next_certain<'a>(
+pub fn next_certain(
     c: Capture,
-    samples: &[u8],
-    l1: &'a [Mask],
-    l2: &'a [Mask],
-    l3: &'a [Mask],
-    l4: &'a [Mask],
+    memory: Memory<'_>,
     list: &[usize],
     mask: Mask,
     from: usize,
-) -> Located
-    ensures { located_of result ≡ certain_of false c samples.now (level_of l1.now l2.now l3.now l4.now) list.now mask from }
+) -> Result<Option<usize>, Refusal>
+    ensures { located_of result ≡ certain_of false c memory.entry.samples.now (levels_of memory.entry.levels) list.now mask from }
 {
-    let number = stretches::refusal(c, samples, l1, l2, l3, l4, list);
-    if number != 0 {
-        return Located::Refused(number);
-    }
-    if list.len() == 0 {
-        return given(uncounted(next_in(samples, l1, l2, l3, l4, c.unitsize, c.len, mask, from)));
-    }
-    given(certain_in(
-        samples, l1, l2, l3, l4, c.unitsize, c.len, list, false, mask, from,
-    ))
+    certain_change(c, memory, list, false, mask, from)
 }
 
 // The last certain change up to a place, from 1 on and below len.
-pub fn prev_certain<'a>(
+pub fn prev_certain(
     c: Capture,
-    samples: &[u8],
-    l1: &'a [Mask],
-    l2: &'a [Mask],
-    l3: &'a [Mask],
-    l4: &'a [Mask],
+    memory: Memory<'_>,
     list: &[usize],
     mask: Mask,
     from: usize,
-) -> Located
-    ensures { located_of result ≡ certain_of true c samples.now (level_of l1.now l2.now l3.now l4.now) list.now mask from }
+) -> Result<Option<usize>, Refusal>
+    ensures { located_of result ≡ certain_of true c memory.entry.samples.now (levels_of memory.entry.levels) list.now mask from }
 {
-    let number = stretches::refusal(c, samples, l1, l2, l3, l4, list);
-    if number != 0 {
-        return Located::Refused(number);
-    }
-    if list.len() == 0 {
-        return given(uncounted(prev_in(samples, l1, l2, l3, l4, c.unitsize, c.len, mask, from)));
-    }
-    given(certain_in(
-        samples, l1, l2, l3, l4, c.unitsize, c.len, list, true, mask, from,
-    ))
+    certain_change(c, memory, list, true, mask, from)
 }
 
 // The next possible change after a place.
-pub fn next_possible<'a>(
+pub fn next_possible(
     c: Capture,
-    samples: &[u8],
-    l1: &'a [Mask],
-    l2: &'a [Mask],
-    l3: &'a [Mask],
-    l4: &'a [Mask],
+    memory: Memory<'_>,
     list: &[usize],
     mask: Mask,
     from: usize,
-) -> Located
-    ensures { located_of result ≡ possible_of false c samples.now (level_of l1.now l2.now l3.now l4.now) list.now mask from }
+) -> Result<Option<usize>, Refusal>
+    ensures { located_of result ≡ possible_of false c memory.entry.samples.now (levels_of memory.entry.levels) list.now mask from }
 {
-    let number = stretches::refusal(c, samples, l1, l2, l3, l4, list);
-    if number != 0 {
-        return Located::Refused(number);
-    }
-    if list.len() == 0 {
-        return given(uncounted(next_in(samples, l1, l2, l3, l4, c.unitsize, c.len, mask, from)));
-    }
-    given(possible_in(
-        samples, l1, l2, l3, l4, c.unitsize, c.len, list, false, mask, from,
-    ))
+    possible_change(c, memory, list, false, mask, from)
 }
 
 // The last possible change up to a place.
-pub fn prev_possible<'a>(
+pub fn prev_possible(
     c: Capture,
-    samples: &[u8],
-    l1: &'a [Mask],
-    l2: &'a [Mask],
-    l3: &'a [Mask],
-    l4: &'a [Mask],
+    memory: Memory<'_>,
     list: &[usize],
     mask: Mask,
     from: usize,
-) -> Located
-    ensures { located_of result ≡ possible_of true c samples.now (level_of l1.now l2.now l3.now l4.now) list.now mask from }
+) -> Result<Option<usize>, Refusal>
+    ensures { located_of result ≡ possible_of true c memory.entry.samples.now (levels_of memory.entry.levels) list.now mask from }
 {
-    let number = stretches::refusal(c, samples, l1, l2, l3, l4, list);
-    if number != 0 {
-        return Located::Refused(number);
-    }
-    if list.len() == 0 {
-        return given(uncounted(prev_in(samples, l1, l2, l3, l4, c.unitsize, c.len, mask, from)));
-    }
-    given(possible_in(
-        samples, l1, l2, l3, l4, c.unitsize, c.len, list, true, mask, from,
-    ))
+    possible_change(c, memory, list, true, mask, from)
 }
