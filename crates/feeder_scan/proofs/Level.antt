@@ -1,11 +1,10 @@
--- A sample without the levels that are asked for does not fire, whatever came before it; and the loop that looks for one that has them.
+-- A sample without the levels that are asked for does not fire, whatever came before it.
 use Prim.Native.Nat.{ℕ, zero, suc, ◌+◌, ◌<◌}
 use mathlib.Core.Path.{◌≡◌, refl, sym, ap, ◌∙◌, subst}
 use mathlib.Core.Bool.{Bool, true, false, cond, ◌&&◌}
 use Rattle.std.specs.Prelude.{Option, None, Some}
 use native.Mathlib.Nat.{zero-add}
 use native.Mathlib.Numerals.{add-one}
-use native.Mathlib.Decide.{dec_lt}
 use native.Mathlib.Omega.{arith}
 use lib.Bits.{bit_and, bit_or, bit_xor}
 use lib.Dec.{eqb}
@@ -59,11 +58,3 @@ module _ (m : Masks) where
     unfolding rule.first_fire list_from
     none_fires zero f = λ q. refl
     none_fires (suc n) f = subst (λ (k : ℕ). NoneFires (as_masks m) (list_from s 0 k)) (add-one n) (none_more n (f n (omega arith)) (none_fires n (λ j l. f j (omega arith))))
-
--- one more
-pub missed_more : (w : Wanted) (s : ℕ → ℕ) (i v : ℕ) → v ≡ s i → level_met w v ≡ false → Missed w s i → Missed w s (i + 1)
-missed_more w s i v e h so j l = go (dec_lt j i)
-  where
-    go : Dec (j < i) → level_met w (s j) ≡ false
-    go (yes d) = so j d
-    go (no d) = ap (λ (x : ℕ). level_met w (s x)) (let z : j ≡ i = omega arith in z) ∙ ap (level_met w) (sym e) ∙ h

@@ -3,7 +3,7 @@ use Prim.Native.Nat.{ℕ, suc, ◌<◌, min, max}
 use mathlib.Core.Path.{◌≡◌, refl, sym, ap, ap₂, ◌∙◌}
 use mathlib.Core.Bool.{Bool, cond, ◌&&◌}
 use mathlib.Core.List.{List, [], ◌∷◌}
-use Rattle.std.specs.Prelude.{Option, None, Some}
+use Rattle.std.specs.Prelude.{Option, None, Some, unwrap_or}
 use native.Mathlib.Decide.{ℕ_discrete}
 use native.Mathlib.Omega.{arith}
 use lib.Bits.{bit_and, bit_or, bit_xor, differ, and_zero_l, and_zero_r, or_zero_r, xor_zero_l, xor_self}
@@ -15,7 +15,7 @@ use Rattle.terms.specs.declared.Masks.{Masks}
 use Rattle.terms.specs.Terms.{as_masks}
 use Rattle.terms.proofs.Unmet.{unmet, unmet_none}
 use Rattle.feeder_scan.specs.declared.Wanted.{Wanted}
-use Rattle.feeder_scan.specs.Scan.{wanted_of, masks_for, before_or}
+use Rattle.feeder_scan.specs.Scan.{wanted_of, masks_for}
 
 -- ---- lines of a condition
 -- the lines of a that x lacks
@@ -106,7 +106,7 @@ module _ (m : Masks) where
   fire_same [] p = refl
   fire_same (v ∷ vs) p = ap₂ (λ (b : Bool) (k : ℕ). cond b 0 (suc k)) (matches_same p v) (fire_same vs v)
 
-  pub fire_first : (q : Option ℕ) (v : ℕ) (vs : List ℕ) → rule.first_fire (masks_for (wanted_of m)) (Some (before_or q v)) (v ∷ vs) ≡ rule.first_fire (as_masks m) q (v ∷ vs)
+  pub fire_first : (q : Option ℕ) (v : ℕ) (vs : List ℕ) → rule.first_fire (masks_for (wanted_of m)) (Some (unwrap_or q v)) (v ∷ vs) ≡ rule.first_fire (as_masks m) q (v ∷ vs)
   unfolding rule.first_fire rule.fires
   fire_first None v vs = ap₂ (λ (b : Bool) (k : ℕ). cond b 0 (suc k)) (sym (first_same v)) (fire_same vs v)
   fire_first (Some p) v vs = fire_same (v ∷ vs) p

@@ -1,16 +1,27 @@
 -- What the scan's inner functions ask and promise.
-use Rattle.std.specs.Prelude.{Bool, ◌≡◌, List, ℕ, ◌+◌, ◌-◌, ◌*◌, ◌≤◌, eqb, length}
-use Rattle.std.specs.Prelude.{Option, None, Some}
+use Rattle.std.specs.Prelude.{Bool, ◌≡◌, List, ℕ, ◌+◌, ◌-◌, ◌/◌, eqb, length, Option, Some}
+use Rattle.std.specs.Borrow.{Bor}
 use Rattle.std.specs.Int.Bits.{bit_and, bit_or, bit_xor}
-use Rattle.rules.specs.Sample.{list_from, UnitSize}
+use Rattle.rules.specs.Sample.{list_from, sample_of}
 use Rattle.rules.specs.Trigger as rule
 use Rattle.terms.specs.declared.Masks.{Masks}
+use Rattle.feeder_lists.specs.Bytes.{units}
 use Rattle.feeder_scan.specs.declared.Wanted.{Wanted}
+use Rattle.feeder_scan.specs.declared.samples.Samples.{Samples}
 
--- n samples of a unit lie within len bytes
-pub record Holds (unit n len : ℕ) : Type 0 where
-  pub unit_size : UnitSize unit
-  pub room : n * unit ≤ len
+-- the samples, one after the other
+abbrev pub samples_in : Samples → List ℕ
+samples_in s = units s.unitsize s.n s.bytes.now
+
+-- sample i of them, for any i
+abbrev pub sample_in : Samples → ℕ → ℕ
+sample_in s = sample_of s.unitsize s.bytes.now
+
+-- all samples that the bytes hold
+pub record AllOf (bytes : Bor (List ℕ)) (unit : ℕ) (s : Samples) : Type 0 where
+  pub bytes_are : s.bytes ≡ bytes
+  pub unit_is : s.unitsize ≡ unit
+  pub count_is : s.n ≡ length bytes.now / unit
 
 -- Rising is High and Edge on one line, Falling is Low and Edge
 abbrev pub wanted_of : Masks → Wanted
@@ -30,11 +41,6 @@ level_met w v = eqb (bit_xor (bit_and v (bit_xor w.high w.low)) w.high) 0
 -- none of the samples fires, whatever sample came before
 abbrev pub NoneFires : rule.Masks → List ℕ → Type 0
 NoneFires m xs = (q : Option ℕ) → rule.first_fire m q xs ≡ length xs
-
--- the sample before v, or v itself where there is none
-abbrev pub before_or : Option ℕ → ℕ → ℕ
-before_or None v = v
-before_or (Some p) v = p
 
 -- the first of the places a to e, e not among them, whose sample fires, p the sample before a; e where none does
 abbrev pub fire_from : rule.Masks → (ℕ → ℕ) → ℕ → ℕ → ℕ → ℕ

@@ -1,15 +1,16 @@
 // The first sample of a push that fires, and the last sample of a push.
 #![tactic(auto)]
 
-ghost use Rattle.std.specs.Prelude.{◌≡◌, false, ◌+◌, ◌-◌, ◌≤◌, ◌<◌, min, ltb, length};
-ghost use Rattle.rules.specs.Sample.{sample_of};
-ghost use Rattle.rules.specs.Trigger.{matches, first_fire, last_of};
-ghost use Rattle.feeder_lists.specs.Bytes.{units};
-ghost use Rattle.terms.specs.Terms.{as_masks, previous_of};
-ghost use Rattle.feeder_scan.specs.Scan.{Holds, wanted_of, masks_for, level_met, NoneFires, before_or, fire_from};
+pub mod samples;
 
-use lines::{Mask, get};
-use terms::{Masks, Previous};
+ghost use Rattle.std.specs.Prelude.{◌≡◌, false, ◌-◌, ◌≤◌, ◌<◌, ltb};
+ghost use Rattle.rules.specs.Trigger.{matches, first_fire, last_of};
+ghost use Rattle.terms.specs.Terms.{as_masks};
+ghost use Rattle.feeder_scan.specs.Scan.{samples_in, sample_in, wanted_of, masks_for, level_met, NoneFires, fire_from};
+
+use lines::Mask;
+use samples::Samples;
+use terms::Masks;
 
 // What the five masks ask of a sample and the one before it: these lines are 1, these are 0, these differ.
 // Rising is High and Edge on one line, Falling is Low and Edge.
@@ -48,45 +49,31 @@ impl Wanted {
     }
 }
 
-// The sample before the first of the bytes. Where there is none it is the first itself, which then differs in no line.
-fn before(previous: Previous, bytes: &[u8], unitsize: usize) -> Mask
-    requires { Holds unitsize 1 (length bytes.now) }
-    ensures { result ≡ before_or (previous_of previous) (sample_of unitsize bytes.now 0) }
-{
-    match previous {
-        Previous::Sample(p) => p,
-        Previous::Nothing => get(bytes, unitsize, 0),
-    }
-}
-
 // The first of the places a to e, e not among them, that fires, prev the sample before a; e where none does.
-fn fire_in(w: Wanted, prev: Mask, bytes: &[u8], unitsize: usize, a: usize, e: usize) -> usize
-    requires { Holds unitsize e (length bytes.now) × (a ≤ e) }
-    ensures { result ≡ fire_from (masks_for w) (sample_of unitsize bytes.now) prev a e }
+fn fire_in(w: Wanted, prev: Mask, samples: &Samples<'_>, a: usize, e: usize) -> usize
+    requires { (a ≤ e) × (e ≤ samples.now.n) }
+    ensures { result ≡ fire_from (masks_for w) (sample_in samples.now) prev a e }
 {
     let mut p = prev;
-    let mut i = a;
-    while i < e {
-        let v = get(bytes, unitsize, i);
+    for i in a..e {
+        let v = samples.at(i);
         if w.met(p, v) {
             return i;
         }
         p = v;
-        i += 1;
     }
-    i
+    e
 }
 
 // Whether one of the places a to e fires. It looks at each, so that many are taken at once.
-fn any_fires(w: Wanted, bytes: &[u8], unitsize: usize, a: usize, e: usize) -> bool
-    requires { Holds unitsize e (length bytes.now) × (1 ≤ a) × (a ≤ e) }
-    ensures { result ≡ ltb (fire_from (masks_for w) (sample_of unitsize bytes.now) (sample_of unitsize bytes.now (a - 1)) a e) e }
+#[inline(always)]
+fn any_fires(w: Wanted, samples: &Samples<'_>, a: usize, e: usize) -> bool
+    requires { (1 ≤ a) × (a ≤ e) × (e ≤ samples.now.n) }
+    ensures { result ≡ ltb (fire_from (masks_for w) (sample_in samples.now) (sample_in samples.now (a - 1)) a e) e }
 {
     let mut any = false;
-    let mut i = a;
-    while i < e {
-        any = any | w.met(get(bytes, unitsize, i - 1), get(bytes, unitsize, i));
-        i += 1;
+    for i in a..e {
+        any |= w.met(samples.at(i - 1), samples.at(i));
     }
     any
 }
@@ -94,27 +81,21 @@ fn any_fires(w: Wanted, bytes: &[u8], unitsize: usize, a: usize, e: usize) -> bo
 // How many places are looked at before it is asked whether one of them fires.
 const BLOCK: usize = 256;
 
-// The end of the block of places from a on, of which n is past the last.
-fn block_end(a: usize, n: usize) -> usize
-    requires { a < n }
-    ensures { result ≡ min (a + 256) n }
+// The first place that fires, prev the sample before them: the first place by itself, then block by block.
+#[inline(always)]
+fn fire_in_blocks(w: Wanted, prev: Mask, samples: &Samples<'_>) -> usize
+    requires { 1 ≤ samples.now.n }
+    ensures { result ≡ fire_from (masks_for w) (sample_in samples.now) prev 0 samples.now.n }
 {
-    if n - a < BLOCK { n } else { a + BLOCK }
-}
-
-// The first of n places that fires, prev the sample before them: the first place by itself, then block by block.
-fn fire_in_blocks(w: Wanted, prev: Mask, bytes: &[u8], unitsize: usize, n: usize) -> usize
-    requires { Holds unitsize n (length bytes.now) × (1 ≤ n) }
-    ensures { result ≡ fire_from (masks_for w) (sample_of unitsize bytes.now) prev 0 n }
-{
-    if w.met(prev, get(bytes, unitsize, 0)) {
+    if w.met(prev, samples.at(0)) {
         return 0;
     }
+    let n = samples.n;
     let mut a = 1;
     while a < n {
-        let e = block_end(a, n);
-        if any_fires(w, bytes, unitsize, a, e) {
-            return fire_in(w, get(bytes, unitsize, a - 1), bytes, unitsize, a, e);
+        let e = a + BLOCK.min(n - a);
+        if any_fires(w, samples, a, e) {
+            return fire_in(w, samples.at(a - 1), samples, a, e);
         }
         a = e;
     }
@@ -122,27 +103,24 @@ fn fire_in_blocks(w: Wanted, prev: Mask, bytes: &[u8], unitsize: usize, n: usize
 }
 
 // The first of some samples that fires, one after the other.
-pub fn fire_few(masks: Masks, prev: Previous, bytes: &[u8], unitsize: usize, n: usize) -> usize
-    requires { Holds unitsize n (length bytes.now) × (1 ≤ n) }
-    ensures { result ≡ first_fire (as_masks masks) (previous_of prev) (units unitsize n bytes.now) }
+// Where there is no sample before them it is the first itself, which then differs in no line.
+pub fn fire_few(masks: Masks, prev: Option<Mask>, samples: &Samples<'_>) -> usize
+    requires { 1 ≤ samples.now.n }
+    ensures { result ≡ first_fire (as_masks masks) prev (samples_in samples.now) }
 {
-    let w = Wanted::of(masks);
-    let p = before(prev, bytes, unitsize);
-    fire_in(w, p, bytes, unitsize, 0, n)
+    let p = prev.unwrap_or(samples.at(0));
+    fire_in(Wanted::of(masks), p, samples, 0, samples.n)
 }
 
-// Whether one of n samples has the levels that are asked for. Where none has, none fires, whatever sample came before.
-pub fn any_level(masks: Masks, bytes: &[u8], unitsize: usize, n: usize) -> bool
-    requires { Holds unitsize n (length bytes.now) }
-    ensures { result ≡ false → NoneFires (as_masks masks) (units unitsize n bytes.now) }
+// Whether a sample has the levels that are asked for. Where none has, none fires, whatever sample came before.
+pub fn any_level(masks: Masks, samples: &Samples<'_>) -> bool
+    ensures { result ≡ false → NoneFires (as_masks masks) (samples_in samples.now) }
 {
     let w = Wanted::of(masks);
-    let mut i = 0;
-    while i < n {
-        if w.level(get(bytes, unitsize, i)) {
+    for i in 0..samples.n {
+        if w.level(samples.at(i)) {
             return true;
         }
-        i += 1;
     }
     false
 }
@@ -150,34 +128,49 @@ pub fn any_level(masks: Masks, bytes: &[u8], unitsize: usize, n: usize) -> bool
 // Below this many samples blocks cost more than they save.
 const FEW: usize = 8;
 
-// The first of n samples that fires; n where none does.
-pub fn first_fire(masks: Masks, prev: Previous, bytes: &[u8], unitsize: usize, n: usize) -> usize
-    requires { Holds unitsize n (length bytes.now) }
-    ensures { result ≡ first_fire (as_masks masks) (previous_of prev) (units unitsize n bytes.now) }
+// The first of the samples that fires; their count where none does.
+pub fn first_fire(masks: Masks, prev: Option<Mask>, samples: &Samples<'_>) -> usize
+    ensures { result ≡ first_fire (as_masks masks) prev (samples_in samples.now) }
 {
+    let Samples { bytes, unitsize, n } = *samples;
     if n == 0 {
         return 0;
     }
     if n < FEW {
-        return fire_few(masks, prev, bytes, unitsize, n);
+        return fire_few(masks, prev, samples);
     }
     let w = Wanted::of(masks);
-    let p = before(prev, bytes, unitsize);
+    let p = prev.unwrap_or(samples.at(0));
     // The unit is a number in each branch, so that each gets its own loops.
     if unitsize == 1 {
-        fire_in_blocks(w, p, bytes, 1, n)
+        fire_in_blocks(
+            w,
+            p,
+            &Samples {
+                bytes,
+                unitsize: 1,
+                n,
+            },
+        )
     } else {
-        fire_in_blocks(w, p, bytes, 2, n)
+        fire_in_blocks(
+            w,
+            p,
+            &Samples {
+                bytes,
+                unitsize: 2,
+                n,
+            },
+        )
     }
 }
 
-// The sample before the next one, once n samples came after prev.
-pub fn last_sample(prev: Previous, bytes: &[u8], unitsize: usize, n: usize) -> Previous
-    requires { Holds unitsize n (length bytes.now) }
-    ensures { previous_of result ≡ last_of (previous_of prev) (units unitsize n bytes.now) }
+// The sample before the next one, once the samples came after prev.
+pub fn last_sample(prev: Option<Mask>, samples: &Samples<'_>) -> Option<Mask>
+    ensures { result ≡ last_of prev (samples_in samples.now) }
 {
-    if n == 0 {
+    if samples.n == 0 {
         return prev;
     }
-    Previous::Sample(get(bytes, unitsize, n - 1))
+    Some(samples.at(samples.n - 1))
 }
