@@ -2,6 +2,7 @@
 ghost use Rattle.std.specs.Prelude.{◌≡◌, false};
 ghost use Rattle.rules.specs.Unknown.{list_wrong};
 
+use crate::stretch_at;
 use capture::stored::Stored;
 use std::ops::Range;
 
@@ -18,13 +19,10 @@ impl Known<'_> {
     ghost use Rattle.rules.specs.Stretches.{stretch_at};
 
     // The places of stretch j.
-    #[tactic(auto, using(crate::proofs::Listed::passed_lies))]
     pub fn stretch_at(&self, j: usize) -> Range<usize>
         requires { 2 * j + 1 < length self.now.list.now }
         ensures { let s = stretch_at self.now.list.now j in (result.start ≡ s.first) × (result.end ≡ s.first + s.count) }
     {
-        let first = self.list[2 * j];
-        let count = self.list[2 * j + 1];
-        first..first + count
+        stretch_at(self.list, self.stored.len, j)
     }
 }

@@ -3,8 +3,9 @@
 
 pub mod known;
 
-ghost use Rattle.std.specs.Prelude.{◌≡◌, ◌≤◌};
+ghost use Rattle.std.specs.Prelude.{◌≡◌, false, ◌+◌, ◌*◌, ◌≤◌, ◌<◌, length};
 ghost use Rattle.rules.specs.Refusal.{most_samples};
+ghost use Rattle.rules.specs.Stretches.{stretch_at};
 ghost use Rattle.rules.specs.Unknown.{list_wrong};
 ghost use Rattle.stretches.specs.Listed.{outside};
 ghost use Rattle.stretches.specs.Checked.{Checks};
@@ -13,6 +14,7 @@ use answer::Refusal;
 use capture::Capture;
 use known::Known;
 use node::Memory;
+use std::ops::Range;
 
 // Whether a stretch begins before a place, has no samples or reaches past len; no sum, since the numbers may be any.
 fn outside(least: usize, len: usize, first: usize, count: usize) -> bool
@@ -40,6 +42,17 @@ fn wrong(list: &[usize], len: usize) -> bool
         least = first + count + 1;
     }
     false
+}
+
+// The places of stretch j of a list that passed row 18.
+#[tactic(auto, using(crate::proofs::Listed::passed_lies))]
+pub fn stretch_at(list: &[usize], len: usize, j: usize) -> Range<usize>
+    requires { (list_wrong len list.now ≡ false) × (len ≤ most_samples) × (2 * j + 1 < length list.now) }
+    ensures { (result.start ≡ (stretch_at list.now j).first) × (result.end ≡ (stretch_at list.now j).first + (stretch_at list.now j).count) }
+{
+    let first = list[2 * j];
+    let count = list[2 * j + 1];
+    first..first + count
 }
 
 // Rows 1, 2 and 18, and what they let pass.
