@@ -1,4 +1,3 @@
-pub mod Inside
 pub mod Row
 pub mod Refusals
 pub mod Answers

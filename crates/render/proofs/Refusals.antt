@@ -1,43 +1,67 @@
 -- Which row answers a render, and what is drawn then. Assumes nothing.
-use Prim.Native.Nat.{ℕ, ◌*◌, ◌≤◌}
-use mathlib.Core.Path.{◌≡◌, refl, sym, ap, ◌∙◌}
-use mathlib.Core.Bool.{Bool, cond, not, ◌||◌}
+use Prim.Native.Nat.{ℕ}
+use mathlib.Core.Path.{◌≡◌, refl, sym, ap, ◌∙◌, fun_ext}
 use mathlib.Core.List.{List}
 use native.Mathlib.Omega.{arith}
-use lib.Dec.{ltb}
 use lib.ListN.{length}
-use lib.Ieee.Scale.{finite}
-use borrow.Author.Tests.{ltb-false}
+use Rattle.std.specs.Prelude.{Option, Ok, Err}
+use Rattle.rules.specs.Sample.{sample_of}
 use Rattle.rules.specs.Node.{Node}
-use Rattle.rules.specs.Pixel.{View, pixel_range}
-use Rattle.rules.specs.Refusal.{Store, Lent, most_pixels, first_of, view_rows, render_refusal}
-use Rattle.rules.proofs.Refusal.{neither, row_passed, Sound}
-use Rattle.capture.proofs.Answer.{refused_is, given_is}
+use Rattle.rules.specs.Pixel.{View, Range, pixel_range, range_from}
+use Rattle.rules.specs.Refusal.{first_of, view_rows, render_refusal}
+use Rattle.rules.proofs.Origin.{from_first}
+use Rattle.answer.specs.Answered.{number}
+use Rattle.answer.specs.declared.Refusal.{Refusal}
+use Rattle.answer.proofs.Answered.{number_least, stops, goes}
+use Rattle.node.specs.Lent.{levels_of}
+use Rattle.node.specs.declared.Memory.{Memory}
+use Rattle.capture.specs.declared.Capture.{Capture}
+use Rattle.capture.specs.declared.stored.Stored.{Stored}
+use Rattle.capture.specs.Record.{store_of, lent_in}
+use Rattle.capture.specs.Stored.{Opened, Opens}
+use Rattle.capture.proofs.Opened.{rows_shut, rows_open}
 use Rattle.capture.proofs.Calls.{unrefused_none, unrefused_all}
-use Rattle.render.specs.declared.Drawn.TheVariants.{Refused, Done}
-use Rattle.render.specs.Render.{drawn, Draws, Drawable}
+use Rattle.summary.specs.Summary.{summed, summed_in}
+use Rattle.render.specs.Render.{drawn, Draws}
 use Rattle.render.proofs.Row.{drawn_none}
 
--- ---- rows 10 and 11
-module _ (st : Store) (lent : Lent) (v : View) (width output : ℕ) (inside : Sound st lent) where
-  pub drawable : (origin : ℕ) → origin ≤ st.len → first_of (view_rows v width output) ≡ 0 → Drawable st lent origin width output
-  drawable origin h e =
-      let t = (row_passed 10 (cond (many || short) 11 0) (not (finite v.start) || not (finite v.spp)) (omega arith)).0 e in
-      let f = (neither many short).0 ((row_passed 11 0 (many || short) (omega arith)).0 t.1).0 in
-      record { sound = inside; counts = h; most = ltb-false most_pixels width f.0; room = ltb-false output (2 * width) f.1 }
-    where
-      many : Bool
-      many = ltb most_pixels width
+-- ---- the nodes are the capture's
+pub summed_is : {c : Capture} {m : Memory} {s : Stored} → Opened c m s → summed_in s ≡ summed (levels_of m.levels) (sample_of c.unitsize m.samples.now)
+summed_is o = λ j. summed (levels_of (o.memory_is j).levels) (sample_of (o.unit_is j) (o.memory_is j).samples.now)
 
-      short : Bool
-      short = ltb output (2 * width)
+-- ---- the promise
+module _ (c : Capture) (m : Memory) (v : View) (width : ℕ) (output : List ℕ) where
+  abbrev node : ℕ → ℕ → Node
+  node = summed (levels_of m.levels) (sample_of c.unitsize m.samples.now)
 
--- ---- the promise, by any summary of ranges; k is the number of the first row that holds
-module _ (node : ℕ → ℕ → Node) (st : Store) (lent : Lent) (v : View) (width : ℕ) (output : List ℕ) {k : ℕ} (e : k ≡ render_refusal st lent v width (length output)) where
-  -- nothing is drawn
-  pub draws_refused : (k ≡ 0 → ⊥) → Draws node st lent v width output (Refused k) output
-  draws_refused h = record { answer_is = refused_is tt e h; output_is = drawn_none node (pixel_range v st.len) output ∙ ap (λ (n : ℕ). drawn node (pixel_range v st.len) n output) (sym (unrefused_none e h width)) }
+  abbrev rows : ℕ
+  rows = render_refusal (store_of c) (lent_in m) v width (length output)
 
-  -- every pixel is drawn
-  pub draws_done : k ≡ 0 → (output' : List ℕ) → output' ≡ drawn node (pixel_range v st.len) width output → Draws node st lent v width output Done output'
-  draws_done z output' d = record { answer_is = given_is tt e z refl; output_is = d ∙ ap (λ (n : ℕ). drawn node (pixel_range v st.len) n output) (sym (unrefused_all e z width)) }
+  -- nothing is drawn where a row refuses,
+  draws_refused : (r : Refusal) → number r ≡ rows → Draws node (store_of c) (lent_in m) v width output (Err r) output
+  draws_refused r e = record {
+    answer_is = stops r rows tt e;
+    output_is = drawn_none node (pixel_range v c.len) output ∙ ap (λ (n : ℕ). drawn node (pixel_range v c.len) n output) (sym (unrefused_none e (λ z. omega (arith, number_least r)) width));
+  }
+
+  -- 1 or 2,
+  pub draws_shut : (r : Refusal) → Opens c m (Err r) → Draws node (store_of c) (lent_in m) v width output (Err r) output
+  draws_shut r e = draws_refused r (rows_shut c m r e (view_rows v width (length output)))
+
+  module _ {s : Stored} (o : Opened c m s) where
+    -- 10 or 11,
+    pub draws_unseen : (r : Refusal) → number r ≡ first_of (view_rows v width (length output)) → Draws node (store_of c) (lent_in m) v width output (Err r) output
+    draws_unseen r e = draws_refused r (e ∙ sym (rows_open o (view_rows v width (length output))))
+
+    -- and every pixel where none does
+    pub draws_all : 0 ≡ first_of (view_rows v width (length output)) → (output' : List ℕ) → output' ≡ drawn (summed_in s) (range_from 0 v s.len) width output → Draws node (store_of c) (lent_in m) v width output (Ok tt) output'
+    draws_all e output' d =
+        let z : rows ≡ 0 = rows_open o (view_rows v width (length output)) ∙ sym e in
+        record {
+          answer_is = goes rows tt tt z refl;
+          output_is =
+              d
+              ∙ (λ j. drawn (summed_is o j) (range_from 0 v (o.len_is j)) width output)
+              ∙ ap (λ (range : ℕ → Option Range). drawn node range width output) (fun_ext (from_first v c.len))
+              ∙ ap (λ (n : ℕ). drawn node (pixel_range v c.len) n output) (sym (unrefused_all {n = rows} refl z width));
+        }

@@ -1,25 +1,23 @@
 -- What render answers and what it leaves in output, whatever memory holds. 01: Burst and render; Where each number is checked, 1, 2, 10 and 11.
 use Rattle.std.specs.Prelude.{◌≡◌, List, ◌++◌, ℕ, ◌*◌, ◌≤◌, ◌<◌, length, drop}
-use Rattle.std.specs.Prelude.{Option, None, Some}
+use Rattle.std.specs.Prelude.{Option, None, Some, Result}
 use Rattle.rules.specs.Node.{Node, leaf}
 use Rattle.rules.specs.Pixel.{View, Range, pixel_range, row_by}
-use Rattle.rules.specs.Answer.{Answer, refused, given, unless, unrefused}
+use Rattle.rules.specs.Answer.{Answer, unless, unrefused}
 use Rattle.rules.specs.Refusal.{Store, Lent, most_pixels, render_refusal}
-use Rattle.rules.proofs.Refusal.{Sound}
-use Rattle.render.specs.declared.Drawn.{Drawn}
-use Rattle.render.specs.declared.Drawn.TheVariants.{Refused, Done}
+use Rattle.answer.specs.Answered.{told_of}
+use Rattle.answer.specs.declared.Refusal.{Refusal}
 
 -- 01's number of a refusal; a drawing has no value of its own
-abbrev pub drawn_of : Drawn → Answer Unit
-drawn_of (Refused n) = refused n
-drawn_of Done = given tt
+abbrev pub drawn_of : Result Unit Refusal → Answer Unit
+drawn_of r = told_of r
 
 -- "Output past what is .. drawn is unchanged": k pixels, two numbers each, and after them what output had
 unfoldable pub drawn : (ℕ → ℕ → Node) → (ℕ → Option Range) → ℕ → List ℕ → List ℕ
 drawn node range k output = row_by node range 0 k ++ drop (2 * k) output
 
 -- a render by a summary of ranges: the refusal's number, and the pixels in output, none of them where a row refuses
-pub record Draws (node : ℕ → ℕ → Node) (st : Store) (lent : Lent) (v : View) (width : ℕ) (output : List ℕ) (r : Drawn) (output' : List ℕ) : Type 0 where
+pub record Draws (node : ℕ → ℕ → Node) (st : Store) (lent : Lent) (v : View) (width : ℕ) (output : List ℕ) (r : Result Unit Refusal) (output' : List ℕ) : Type 0 where
   pub answer_is : drawn_of r ≡ unless (render_refusal st lent v width (length output)) tt
   pub output_is : output' ≡ drawn node (pixel_range v st.len) (unrefused (render_refusal st lent v width (length output)) width) output
 
@@ -34,13 +32,8 @@ abbrev pub Inside : Option Range → ℕ → Type 0
 Inside None len = Unit
 Inside (Some r) len = (r.from < r.to) × (r.to ≤ len)
 
-pub record Covered (st : Store) (lent : Lent) (range : Option Range) : Type 0 where
-  pub sound : Sound st lent
-  pub inside : Inside range st.len
-
 -- ---- all pixels, of a view that counts from origin
-pub record Drawable (st : Store) (lent : Lent) (origin width output : ℕ) : Type 0 where
-  pub sound : Sound st lent
-  pub counts : origin ≤ st.len
+pub record Drawable (len origin width output : ℕ) : Type 0 where
+  pub counts : origin ≤ len
   pub most : width ≤ most_pixels
   pub room : 2 * width ≤ output
