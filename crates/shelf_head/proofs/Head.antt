@@ -3,8 +3,7 @@ use mathlib.Core.Path.{◌≡◌, ap, ap₂, ◌∙◌}
 use mathlib.Core.Bool.{true, cond}
 use mathlib.Core.List.{List, [], ◌∷◌, ◌++◌, append-nil}
 use Rattle.std.specs.Prelude.{Option, None, Some}
-use Prim.Native.Nat.{ℕ, ◌+◌, ◌-◌, ◌*◌, ◌^◌, ◌≤◌, ◌<◌}
-use native.Mathlib.Nat.{mul-le-mul}
+use Prim.Native.Nat.{ℕ, ◌+◌, ◌-◌, ◌≤◌, ◌<◌}
 use native.Mathlib.Omega.{arith}
 use lib.Dec.{eqb}
 use lib.ListN.{length, get_or, set, take, drop, length-append, length-drop, drop_of_length-le}
@@ -14,8 +13,6 @@ use Rattle.rules.specs.Sample.{little}
 use Rattle.rules.specs.SampleBytes.{sample_bytes}
 use Rattle.rules.specs.Block.{block_size, payload_at, field}
 use Rattle.rules.specs.Shelf.{Heading, head_size, flag_in, heading_in, head_test}
-use Rattle.rules.specs.Refusal.{Store, most_samples}
-use Rattle.rules.proofs.Refusal.{Ranged}
 use Rattle.rules.proofs.Block.{both}
 use Rattle.rules.proofs.Sample.{little_same}
 use Rattle.rules.proofs.SampleBytes.{sample_bytes_length}
@@ -66,7 +63,3 @@ said file unit len flag place mark e₁ e₂ e₃ e₄ e₅ = λ i. record { uni
 pub head_room : (file : List ℕ) → head_test file ≡ true → block_size ≤ length file
 unfolding head_test
 head_room file e = leb-true block_size (length file) ((both _ _).0 e).0
-
--- ---- a capture's bytes
-pub bytes_few : {st : Store} → Ranged st → st.len * st.unit < 2 ^ 32
-bytes_few {st} r = omega (arith, mul-le-mul {n₁ = st.len} {m₁ = st.unit} {n₂ = most_samples} {m₂ = 2} (omega (arith, r.len_most, r.capacity_most)) r.unit_size.most)

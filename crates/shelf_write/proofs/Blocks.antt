@@ -24,12 +24,11 @@ payload_is bytes a e h s = go (dec_lt (length bytes) (a + payload_most))
 
 -- i blocks stand, and the rest would follow
 pub record Putting (bytes blocks : List ℕ) (i : ℕ) : Type 0 where
-  pub inside : i ≤ blocks_for (length bytes)
   pub size : length blocks ≡ block_size * blocks_for (length bytes)
   pub stand : take (i * block_size) blocks ++ blocks_of (blocks_for (length bytes) - i) (i + 1) (drop (i * payload_most) bytes) ≡ blocks_of (blocks_for (length bytes)) 1 bytes
 
 pub putting_starts : (bytes blocks : List ℕ) → length blocks ≡ block_size * blocks_for (length bytes) → Putting bytes blocks 0
-putting_starts bytes blocks e = record { inside = omega arith; size = e; stand = ap (λ (k : ℕ). blocks_of k 1 bytes) all }
+putting_starts bytes blocks e = record { size = e; stand = ap (λ (k : ℕ). blocks_of k 1 bytes) all }
   where
     all : blocks_for (length bytes) - 0 ≡ blocks_for (length bytes)
     all = omega arith
@@ -63,7 +62,6 @@ module _ {bytes blocks : List ℕ} {i : ℕ} (p : Putting bytes blocks i) (h : i
   pub putting_on : (last : List ℕ) (e : ℕ) → e ≡ min (at + payload_most) (length bytes) → last ≡ block_of (i + 1) (take (e - at) (drop at bytes))
       → Putting bytes (take (i * block_size) blocks ++ (last ++ rest)) (i + 1)
   putting_on last e e-is last_is = record {
-    inside = omega (arith, h);
     size = whole;
     stand =
         ap (λ (l : List ℕ). l ++ left) front
