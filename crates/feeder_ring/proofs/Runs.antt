@@ -176,64 +176,66 @@ module _ (u pre : ℕ) where
           all = omega arith
 
 -- ---- the room of one run
-pub run_room : (u pre place n ring bytes : ℕ) → RingRoom u pre place n ring bytes → n ≤ pre - place → place * u + n * u ≤ ring
-run_room u pre place n ring bytes r h = omega (arith, r.slots, sym (add-mul place n u), mul-le-mul_right {m = place + n} {n = pre} u (omega (arith, r.place_in)))
+pub run_room : {u pre place ring : ℕ} → RingRoom u pre place ring → (n : ℕ) → n ≤ pre - place → place * u + n * u ≤ ring
+run_room {u} {pre} {place} r n h = omega (arith, r.slots, sym (add-mul place n u), mul-le-mul_right {m = place + n} {n = pre} u (omega (arith, r.place_in)))
 
--- ---- what the code writes where the ring's end is reached: k samples from slot q on, and the rest from slot 0 on, after d samples that are passed over
-pub record Around (u pre m d q k ring bytes : ℕ) : Type 0 where
+-- ---- what the code writes where the ring's end is reached: m samples from slot q on, up to the end and then from slot 0 on, after those that are passed over
+pub record Around (u pre n m q ring bytes : ℕ) : Type 0 where
   pub slot : q < pre
-  pub reaches : k ≤ m
-  pub end : q * u + k * u ≤ ring
-  pub start : (m - k) * u ≤ ring
-  pub older : d * u + k * u ≤ bytes
-  pub newer : (d + k) * u + (m - k) * u ≤ bytes
+  pub reaches : pre - q ≤ m
+  pub end : q * u + (pre - q) * u ≤ ring
+  pub start : (m - (pre - q)) * u ≤ ring
+  pub older : (n - m) * u + (pre - q) * u ≤ bytes
+  pub newer : (n - m + (pre - q)) * u + (m - (pre - q)) * u ≤ bytes
 
-module _ (u pre place n m d q k : ℕ) (h : place < pre) (past : pre - place < n) (em : m ≡ min n pre) (ed : d ≡ n - m) (eq : q ≡ place_after pre place d) (ek : k ≡ pre - q) where
+module _ (u : ℕ) {pre place n m q : ℕ} (h : place < pre) (past : pre - place < n) (em : m ≡ min n pre) (eq : q ≡ place_after pre place (n - m)) where
   inside : q < pre
-  inside = rw eq (place_lt pre place d h)
+  inside = rw eq (place_lt pre place (n - m) h)
 
-  enough : k ≤ m
+  enough : pre - q ≤ m
   enough = go (dec_lt pre n)
     where
-      go : Dec (pre < n) → k ≤ m
+      go : Dec (pre < n) → pre - q ≤ m
       go (yes c) = omega arith
       go (no c) = omega (arith, eq ∙ ap (place_after pre place) none ∙ place_end pre place)
         where
-          none : d ≡ 0
+          none : n - m ≡ 0
           none = omega arith
 
-  pub around : (ring bytes : ℕ) → pre * u ≤ ring → n * u ≤ bytes → Around u pre m d q k ring bytes
-  around ring bytes r l = record {
+  pub around : {ring bytes : ℕ} → pre * u ≤ ring → n * u ≤ bytes → Around u pre n m q ring bytes
+  around r l = record {
     slot = inside;
     reaches = enough;
-    end = omega (arith, sym (add-mul q k u) ∙ ap (λ (x : ℕ). x * u) slots);
-    start = omega (arith, mul-le-mul_right {m = m - k} {n = pre} u (omega arith));
-    older = omega (arith, sym (add-mul d k u), mul-le-mul_right {m = d + k} {n = n} u (omega (arith, enough)));
-    newer = omega (arith, sym (add-mul (d + k) (m - k) u) ∙ ap (λ (x : ℕ). x * u) samples);
+    end = omega (arith, sym (add-mul q (pre - q) u) ∙ ap (λ (x : ℕ). x * u) slots);
+    start = omega (arith, mul-le-mul_right {m = m - (pre - q)} {n = pre} u (omega arith));
+    older = omega (arith, sym (add-mul (n - m) (pre - q) u), mul-le-mul_right {m = n - m + (pre - q)} {n = n} u (omega (arith, enough)));
+    newer = omega (arith, sym (add-mul (n - m + (pre - q)) (m - (pre - q)) u) ∙ ap (λ (x : ℕ). x * u) samples);
   }
     where
-      slots : q + k ≡ pre
+      slots : q + (pre - q) ≡ pre
       slots = omega (arith, inside)
 
-      samples : d + k + (m - k) ≡ n
+      samples : n - m + (pre - q) + (m - (pre - q)) ≡ n
       samples = omega (arith, enough)
 
-  pub around_is : (g g₁ g₂ b : List ℕ) → pre * u ≤ length g → n * u ≤ length b → g₁ ≡ written g (q * u) (take (k * u) (drop (d * u) b)) → g₂ ≡ written g₁ 0 (take ((m - k) * u) (drop ((d + k) * u) b)) → g₂ ≡ ring_bytes u pre g place n b
+  pub around_is : (g g₁ g₂ b : List ℕ) → pre * u ≤ length g → n * u ≤ length b
+      → g₁ ≡ written g (q * u) (take ((pre - q) * u) (drop ((n - m) * u) b))
+      → g₂ ≡ written g₁ 0 (take ((m - (pre - q)) * u) (drop ((n - m + (pre - q)) * u) b))
+      → g₂ ≡ ring_bytes u pre g place n b
   around_is g g₁ g₂ b r l e₁ e₂ =
       e₂
-      ∙ ap₂ (λ (x y : List ℕ). written x 0 (take ((m - k) * u) y)) e₁ (ap (λ (x : ℕ). drop x b) (add-mul d k u) ∙ sym (drop-drop (k * u) (d * u) b))
-      ∙ ap (λ (x : ℕ). written (written g (q * u) (take (x * u) rest)) 0 (take ((m - k) * u) (drop (x * u) rest))) ek
-      ∙ two_runs u pre g q (m - k) rest inside (omega (arith, enough)) r (simp length-drop (omega (arith, ap (λ (x : ℕ). x * u) all, add-mul d m u, ap (λ (x : ℕ). x * u) whole)))
+      ∙ ap₂ (λ (x y : List ℕ). written x 0 (take ((m - (pre - q)) * u) y)) e₁ (ap (λ (x : ℕ). drop x b) (add-mul (n - m) (pre - q) u) ∙ sym (drop-drop ((pre - q) * u) ((n - m) * u) b))
+      ∙ two_runs u pre g q (m - (pre - q)) rest inside (omega (arith, enough)) r (simp length-drop (omega (arith, ap (λ (x : ℕ). x * u) all, add-mul (n - m) m u, ap (λ (x : ℕ). x * u) whole)))
       ∙ ap (λ (x : ℕ). ring_bytes u pre g q x rest) all
-      ∙ ap₂ (λ (p x : ℕ). ring_bytes u pre g p x (drop (d * u) b)) eq em
-      ∙ ap (λ (x : ℕ). ring_bytes u pre g (place_after pre place x) (min n pre) (drop (x * u) b)) (ed ∙ ap (λ (x : ℕ). n - x) em)
+      ∙ ap₂ (λ (p x : ℕ). ring_bytes u pre g p x rest) eq em
+      ∙ ap (λ (x : ℕ). ring_bytes u pre g (place_after pre place x) (min n pre) (drop (x * u) b)) (ap (λ (x : ℕ). n - x) em)
       ∙ last_samples u pre g place n b h r l
     where
       rest : List ℕ
-      rest = drop (d * u) b
+      rest = drop ((n - m) * u) b
 
-      all : pre - q + (m - k) ≡ m
+      all : pre - q + (m - (pre - q)) ≡ m
       all = omega (arith, enough)
 
-      whole : d + m ≡ n
+      whole : n - m + m ≡ n
       whole = omega arith

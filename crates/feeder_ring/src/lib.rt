@@ -5,7 +5,7 @@ ghost use Rattle.std.specs.Prelude.{◌≡◌, ◌+◌, ◌-◌, ◌≤◌, ◌<
 ghost use Rattle.rules.specs.Ring.{place_after, written, ring_bytes};
 ghost use Rattle.feeder_ring.specs.Room.{RingRoom};
 
-use number::lesser;
+use feeder_scan::samples::Samples;
 
 // The place after n samples.
 pub fn place_after(pre: usize, place: usize, n: usize) -> usize
@@ -27,19 +27,16 @@ fn copy_run(ring: &mut [u8], at: usize, bytes: &[u8], from: usize, n: usize)
     requires { (at + n ≤ length ring.old) × (from + n ≤ length bytes.now) }
     ensures { ring.new ≡ written ring.old at (take n (drop from bytes.now)) }
 {
-    let mut i = 0;
-    while i < n {
-        ring[at + i] = bytes[from + i];
-        i += 1;
-    }
+    ring[at..at + n].copy_from_slice(&bytes[from..from + n]);
 }
 
-// n samples that reach past the ring's end: the last of them, as many as there are slots at most, up to the end and on from the start.
-fn write_around(ring: &mut [u8], unitsize: usize, pre: usize, place: usize, n: usize, bytes: &[u8])
-    requires { RingRoom unitsize pre place n (length ring.old) (length bytes.now) × (place < pre) × (pre - place < n) }
-    ensures { ring.new ≡ ring_bytes unitsize pre ring.old place n bytes.now }
+// Samples that reach past the ring's end: the last of them, as many as there are slots at most, up to the end and on from the start.
+fn write_around(ring: &mut [u8], pre: usize, place: usize, pushed: &Samples<'_>)
+    requires { RingRoom pushed.now.unitsize pre place (length ring.old) × (place < pre) × (pre - place < pushed.now.n) }
+    ensures { ring.new ≡ ring_bytes pushed.now.unitsize pre ring.old place pushed.now.n pushed.now.bytes.now }
 {
-    let m = lesser(n, pre);
+    let Samples { bytes, unitsize, n } = *pushed;
+    let m = n.min(pre);
     let passed = n - m;
     let first = place_after(pre, place, passed);
     let k = pre - first;
@@ -53,32 +50,15 @@ fn write_around(ring: &mut [u8], unitsize: usize, pre: usize, place: usize, n: u
     copy_run(ring, 0, bytes, (passed + k) * unitsize, (m - k) * unitsize);
 }
 
-// The ring after the first n samples of the bytes, which fit in before its end.
-fn write_ahead(ring: &mut [u8], unitsize: usize, pre: usize, place: usize, n: usize, bytes: &[u8])
-    requires { RingRoom unitsize pre place n (length ring.old) (length bytes.now) × (n ≤ pre - place) }
-    ensures { ring.new ≡ ring_bytes unitsize pre ring.old place n bytes.now }
+// The ring after the samples.
+pub fn ring_write(ring: &mut [u8], pre: usize, place: usize, pushed: &Samples<'_>)
+    requires { RingRoom pushed.now.unitsize pre place (length ring.old) }
+    ensures { ring.new ≡ ring_bytes pushed.now.unitsize pre ring.old place pushed.now.n pushed.now.bytes.now }
 {
-    copy_run(ring, place * unitsize, bytes, 0, n * unitsize);
-}
-
-// The ring after the first n samples of the bytes.
-pub fn ring_write(
-    ring: &mut [u8],
-    unitsize: usize,
-    pre: usize,
-    place: usize,
-    n: usize,
-    bytes: &[u8],
-)
-    requires { RingRoom unitsize pre place n (length ring.old) (length bytes.now) }
-    ensures { ring.new ≡ ring_bytes unitsize pre ring.old place n bytes.now }
-{
+    let Samples { bytes, unitsize, n } = *pushed;
     if n <= pre - place {
-        write_ahead(ring, unitsize, pre, place, n, bytes);
-        return;
+        copy_run(ring, place * unitsize, bytes, 0, n * unitsize);
+    } else if pre != 0 {
+        write_around(ring, pre, place, pushed);
     }
-    if pre == 0 {
-        return;
-    }
-    write_around(ring, unitsize, pre, place, n, bytes);
 }
