@@ -1,29 +1,30 @@
--- What rows 1, 2 and 14 leave where none of them refuses.
-use Prim.Native.Nat.{ℕ, ◌≤◌}
-use mathlib.Core.Path.{◌≡◌}
-use mathlib.Core.Bool.{false, ◌||◌}
-use mathlib.Core.List.{[], ◌∷◌}
-use native.Mathlib.Nat.{zero-lt-suc}
-use native.Mathlib.Omega.{arith}
-use lib.Dec.{ltb, eqb}
-use borrow.Author.Tests.{ltb-false}
-use Rattle.rules.specs.Refusal.{Store, Lent, top_line}
-use Rattle.rules.specs.Encoder.{pair_wrong, pair_row, encoder_refusal}
-use Rattle.rules.proofs.Refusal.{Sound, rows_passed, row_passed, neither}
+-- The answer of a call: the row that refuses, or the hops.
+use Prim.Native.Nat.{ℕ}
+use mathlib.Core.Path.{◌≡◌, ◌∙◌}
+use Rattle.rules.specs.Answer.{refused, given}
+use Rattle.rules.specs.Encoder.{Turns, encoder_refusal}
+use Rattle.answer.specs.Answered.{number}
+use Rattle.answer.specs.declared.Refusal.{Refusal}
+use Rattle.answer.proofs.Answered.{stops, goes}
+use Rattle.node.specs.Lent.{levels_of}
+use Rattle.node.specs.declared.Memory.{Memory}
+use Rattle.capture.specs.Record.{store_of, lent_in}
+use Rattle.capture.specs.declared.Capture.{Capture}
+use Rattle.encoder.specs.Hops.{hops_of}
+use Rattle.encoder.specs.Replayed.{hops_in, Checked}
+use Rattle.encoder.specs.Answer.{turns_for, encoder_of}
+use Rattle.encoder.specs.declared.replay.Replay.{Replay}
 
--- lines that row 14 lets pass
-pub record Pair (a b : ℕ) : Type 0 where
-  pub a_most : a ≤ top_line
-  pub b_most : b ≤ top_line
+module _ (c : Capture) (m : Memory) (a b : ℕ) where
+  abbrev rows : ℕ
+  rows = encoder_refusal (store_of c) (lent_in m) a b
 
-pub pair_of : (a b : ℕ) → pair_wrong top_line a b ≡ false → Pair a b
-pair_of a b e =
-    let both = (neither (eqb a b || ltb top_line a) (ltb top_line b)).0 e in
-    let left = (neither (eqb a b) (ltb top_line a)).0 both.0 in
-    record { a_most = omega (arith, ltb-false top_line a left.1); b_most = omega (arith, ltb-false top_line b both.1) }
+  pub encoder_stops : (e : Refusal) → number e ≡ rows → refused (number e) ≡ encoder_of c m.samples.now (levels_of m.levels) a b
+  unfolding encoder_of
+  encoder_stops e h = stops e rows (turns_for c m.samples.now (levels_of m.levels) a b) h
 
--- no row refuses
-pub passed : (st : Store) (lent : Lent) (a b : ℕ) → encoder_refusal st lent a b ≡ 0 → Sound st lent × Pair a b
-passed st lent a b e =
-    let p = (rows_passed st lent (pair_row top_line a b ∷ [])).0 e in
-    (p.0, pair_of a b ((row_passed 14 0 (pair_wrong top_line a b) (zero-lt-suc 13)).0 p.2).0)
+  pub encoder_goes : {r : Replay} → Checked c m a b r → (t : Turns) → t ≡ hops_in r → given t ≡ encoder_of c m.samples.now (levels_of m.levels) a b
+  unfolding encoder_of
+  encoder_goes p t h =
+      goes rows (turns_for c m.samples.now (levels_of m.levels) a b) t p.passes
+      (h ∙ λ i. hops_of (p.opened.unit_is i) (p.opened.len_is i) (p.opened.memory_is i).samples.now (levels_of (p.opened.memory_is i).levels) (p.a_is i) (p.b_is i))

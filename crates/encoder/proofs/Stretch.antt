@@ -1,8 +1,9 @@
 -- Laws of the hops: where a stretch ends, what is left after one, and on right levels the whole.
-use Prim.Native.Nat.{ℕ, zero, suc, ◌+◌, ◌-◌, ◌*◌, ◌/◌, ◌≤◌, ◌<◌}
+use Prim.Native.Nat.{ℕ, zero, suc, ◌+◌, ◌-◌, ◌*◌, ◌/◌, ◌≤◌, ◌<◌, min}
 use mathlib.Core.Path.{◌≡◌, refl, sym, ap, ap₂, ◌∙◌}
 use mathlib.Core.Bool.{Bool, true, false, cond}
-use native.Mathlib.Nat.{div-add-mod', mod-lt, suc-mul, zero-lt-suc}
+use mathlib.Core.List.{List}
+use native.Mathlib.Nat.{div-add-mod', mod-lt, suc-mul, zero-lt-suc, mul-le-mul_right}
 use native.Mathlib.Numerals.{add-one}
 use native.Mathlib.Decide.{dec_lt}
 use native.Mathlib.Omega.{arith}
@@ -13,54 +14,58 @@ use Rattle.rules.specs.Node.{chunk, chunk_end}
 use Rattle.rules.specs.Search.{changed}
 use Rattle.rules.specs.Encoder.{Turns, no_turns, add_turns, turns_of, encoder, pair_mask}
 use Rattle.rules.proofs.Encoder.{turns_eq, add_none, none_add, add_assoc_turns, turns_add, turns_quiet, turns_balanced, balanced_add, turns_few}
+use Rattle.capture.specs.Backed.{Backed}
+use Rattle.find.specs.Part.{PartBacked}
 use Rattle.encoder_scan.specs.Scan.{widest, Counts}
-use Rattle.encoder.specs.Hops.{is_far, border, stretch_end, quiet_behind, resume_at, Resumed, count_all, stretch, hops_from, counted}
+use Rattle.encoder.specs.Hops.{is_far, border, stretch_end, Ends, quiet_behind, resume_at, Resumed, Scanned, count_all, stretch, hops_from, counted}
 
 -- ---- chunks
 -- a place lies before the end of its chunk
 pub chunk_inside : (len p : ℕ) → p < len → p < chunk_end len (p / chunk)
 chunk_inside len p h = omega (arith, h, div-add-mod' p chunk, mod-lt p (zero-lt-suc 1048575))
 
--- ---- stretches
-pub record Ends (unit len p i end : ℕ) : Type 0 where
-  pub least : i ≤ end
-  pub most : end ≤ len
-  pub more : (q : ℕ) → q ≤ i → q < len → q < end
-  pub few : end - i ≤ widest unit
+-- a capture's first samples, and the nodes below them, lie in memory
+pub whole_part : {unit len : ℕ} {samples : List ℕ} {levels : ℕ → List ℕ} (hi : ℕ) → hi ≤ len → Backed unit len samples levels → PartBacked unit 0 hi samples levels
+whole_part {unit} {len} hi h s = record {
+  bytes = record { unit_size = s.bytes.unit_size; room = omega (arith, s.bytes.room, mul-le-mul_right {m = hi - 0} {n = len} unit (omega (arith, h))) };
+  nodes = record { inside = λ l j a b k. s.nodes.inside l j a b (omega (arith, k, h)) };
+}
 
+-- ---- stretches
 -- both widths are numbers up to 512
 record Width (w : ℕ) : Type 0 where
   some : 1 ≤ w
   node : 32 ≤ w
   most : w ≤ 512
 
-width : (unit : ℕ) → Width (widest unit)
-width unit = go (eqb unit 1)
+widths : (unit : ℕ) → Width (widest unit)
+widths unit = go (eqb unit 1)
   where
     go : (b : Bool) → Width (cond b 128 512)
     go true = record { some = omega arith; node = omega arith; most = omega arith }
     go false = record { some = omega arith; node = omega arith; most = omega arith }
 
 -- of w places
-ends_by : (w unit len p i end : ℕ) → 1 ≤ w → w ≤ widest unit → i ≤ len → end ≡ border len w i → Ends unit len p i end
-ends_by w unit len p i end hw hm h e =
+ends_by : (w len i end : ℕ) → 1 ≤ w → i ≤ len → end ≡ border len w i → (i ≤ end) × (end ≤ len) × (min (i + 1) len ≤ end) × (end - i ≤ w)
+ends_by w len i end hw h e =
     let r = div-add-mod' i w in
     let s = mod-lt i hw in
     let t : (i / w + 1) * w ≡ i / w * w + w = ap (λ (x : ℕ). x * w) (add-one (i / w)) ∙ suc-mul (i / w) w in
-    record { least = omega (arith, r, s, t, e); most = omega (arith, e); more = λ q k l. omega (arith, r, s, t, e, k, l); few = omega (arith, r, s, t, e, hm) }
+    (omega (arith, r, s, t, e), omega (arith, e), omega (arith, r, s, t, e), omega (arith, r, s, t, e))
 
 pub ends : (unit len p i end : ℕ) → i ≤ len → end ≡ stretch_end unit len p i → Ends unit len p i end
-ends unit len p i end h e = go (is_far p i) e
+ends unit len p i end h e = go (is_far p i) refl
   where
-    go : (b : Bool) → end ≡ cond b (border len 32 i) (border len (widest unit) i) → Ends unit len p i end
-    go true q = ends_by 32 unit len p i end (omega arith) (width unit).node h q
-    go false q = ends_by (widest unit) unit len p i end (width unit).some (omega arith) h q
+    of : (w : ℕ) → 1 ≤ w → w ≤ widest unit → end ≡ border len w i → Ends unit len p i end
+    of w l m q = let t = ends_by w len i end l h q in record { is = e; least = t.0; most = t.1; more = t.2; few = omega (arith, t.3, m) }
 
-pub resumed_here : (onward : ℕ → ℕ) (len : ℕ) {quiet : Bool} (p : ℕ) → quiet ≡ false → p < len → Resumed onward len quiet p p
-resumed_here onward len p q l = record { is = ap (λ (t : Bool). resume_at onward t p) (sym q); low = omega arith; high = omega (arith, l) }
+    go : (b : Bool) → is_far p i ≡ b → Ends unit len p i end
+    go true q = of 32 (omega arith) (widths unit).node (e ∙ ap (λ (x : Bool). border len (cond x 32 (widest unit)) i) q)
+    go false q = of (widest unit) (widths unit).some (omega arith) (e ∙ ap (λ (x : Bool). border len (cond x 32 (widest unit)) i) q)
 
-pub resumed_on : (onward : ℕ → ℕ) (len : ℕ) {quiet : Bool} (p i : ℕ) → quiet ≡ true → i ≡ onward p → p ≤ i → i ≤ len → Resumed onward len quiet p i
-resumed_on onward len p i q e l h = record { is = e ∙ ap (λ (t : Bool). resume_at onward t p) (sym q); low = l; high = h }
+-- ---- a stretch scanned
+pub scanned : (s : ℕ → ℕ) (a b p n : ℕ) {f k j : ℕ} → Counts (turns_of s a b p n) f k j → Scanned s a b p n f k j
+scanned s a b p n c = record { counts = c; few = omega (arith, turns_few s a b p n, c.forward_is, c.backward_is, c.skipped_is) }
 
 -- ---- what is left
 pub counts_add : (s : ℕ → ℕ) (a b p n f k j f' k' j' : ℕ) → Counts (turns_of s a b p n) f' k' j' → counted (f + f') (k + k') (j + j') ≡ add_turns (counted f k j) (turns_of s a b p n)
@@ -112,39 +117,13 @@ module _ (unit : ℕ) (onward : ℕ → ℕ) (s : ℕ → ℕ) (len a b : ℕ) w
         go zero d q = absurd (omega (arith, d))
         go (suc n) d q = record {
           fuel = n;
-          enough = omega (arith, d, (ends unit len p i end r.high e).more p r.low h);
+          enough = omega (arith, d, (ends unit len p i end r.high e).more, (ends unit len p i end r.high e).least, r.low, h);
           rest =
               ap (λ (x : ℕ). hops_from unit onward s len a b n x quiet' (counted (f + f') (k + k') (j + j'))) end_is
               ∙ ap₂ (hops_from unit onward s len a b n (stretch_end unit len p at)) quiet_is sum_is
               ∙ sym (ap (λ (t : Bool). cond t (hops_from unit onward s len a b n (stretch_end unit len p at) (quiet_behind p at (count_all (stretch unit onward s len a b p at))) (add_turns (counted f k j) (stretch unit onward s len a b p at))) (counted f k j)) (lt-ltb p len h))
               ∙ q;
         }
-
--- one stretch in numbers: what is counted stays below the next place
-pub record Turn (len p i end f k j f' k' j' : ℕ) : Type 0 where
-  pub before : f + k + j < p
-  pub inside : p < len
-  pub scanned : f' + k' + j' ≤ 512
-  pub after : f + f' + (k + k') + (j + j') < end
-  pub upto : end ≤ len
-  pub later : p < end
-
-pub turn : (unit : ℕ) (onward : ℕ → ℕ) (s : ℕ → ℕ) (len a b p : ℕ) {quiet : Bool} {i end f k j f' k' j' : ℕ} → f + k + j < p → p < len → Resumed onward len quiet p i → end ≡ stretch_end unit len p i
-    → Counts (turns_of s a b (i - 1) (end - i)) f' k' j' → Turn len p i end f k j f' k' j'
-turn unit onward s len a b p {quiet} {i} {end} {f} {k} {j} {f'} {k'} {j'} h l r e c = record {
-  before = h;
-  inside = l;
-  scanned = omega (arith, many, w.few, (width unit).most);
-  after = omega (arith, many, h, r.low, w.least);
-  upto = w.most;
-  later = w.more p r.low l;
-}
-  where
-    w : Ends unit len p i end
-    w = ends unit len p i end r.high e
-
-    many : f' + k' + j' ≤ end - i
-    many = omega (arith, turns_few s a b (i - 1) (end - i), c.forward_is, c.backward_is, c.skipped_is)
 
 -- ---- on right levels
 -- the places from x on up to y, and from y on up to z
@@ -207,7 +186,7 @@ module _ (unit : ℕ) (s : ℕ → ℕ) (len a b : ℕ) (onward : ℕ → ℕ) (
       go (yes l) rest =
           let q = resume_quiet p quiet h l in
           let e = ends unit len p at end q.1 refl in
-          let past = e.more p q.0 l in
+          let past : p < end = omega (arith, e.more, e.least, q.0, l) in
           ap (λ (x : Bool). cond x on t) (lt-ltb p len l)
           ∙ rest end (quiet_behind p at (count_all part)) (add_turns t part) (omega (arith, past)) (omega (arith, past, k))
           ∙ add_assoc_turns t part (turns_of s a b (end - 1) (len - end))

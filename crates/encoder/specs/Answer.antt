@@ -1,21 +1,20 @@
 -- The call's answer as 02's: the number of its refusal, or what the encoder did. 02: CR 6.
-use Rattle.std.specs.Prelude.{List, ℕ}
-use Rattle.rules.specs.Answer.{Answer, refused, given, unless}
+use Rattle.std.specs.Prelude.{List, ℕ, Result}
+use Rattle.rules.specs.Answer.{Answer, unless}
 use Rattle.rules.specs.Encoder as rule
 use Rattle.rules.specs.Encoder.{encoder_refusal}
+use Rattle.answer.specs.Answered.{answer_of}
+use Rattle.answer.specs.declared.Refusal.{Refusal}
 use Rattle.capture.specs.declared.Capture.{Capture}
 use Rattle.capture.specs.Record.{store_of, lent_of}
 use Rattle.encoder.specs.Hops.{hops_of}
 use Rattle.encoder.specs.declared.Turns.{Turns}
-use Rattle.encoder.specs.declared.Encoded.{Encoded}
-use Rattle.encoder.specs.declared.Encoded.TheVariants as encoded
 
 abbrev pub as_turns : Turns → rule.Turns
 as_turns t = record { position = t.position; forward = t.forward; backward = t.backward; skipped = t.skipped }
 
-abbrev pub encoded_of : Encoded → Answer rule.Turns
-encoded_of (encoded.Refused n) = refused n
-encoded_of (encoded.Turns t) = given (as_turns t)
+abbrev pub encoded_of : Result Turns Refusal → Answer rule.Turns
+encoded_of = answer_of as_turns
 
 -- what lines a and b do, over memory's own nodes
 abbrev pub turns_for : Capture → List ℕ → (ℕ → List ℕ) → ℕ → ℕ → rule.Turns

@@ -5,7 +5,7 @@ use Rattle.rules.specs.Sample.{sample_of}
 use Rattle.rules.specs.Node.{chunk, chunk_end}
 use Rattle.rules.specs.Encoder.{Turns, no_turns, add_turns, turns_of, pair_mask}
 use Rattle.pass.specs.Pass.{pass_from}
-use Rattle.encoder_scan.specs.Scan.{widest}
+use Rattle.encoder_scan.specs.Scan.{widest, Counts}
 
 -- changes are far apart: 256 places or more were passed from p to i
 abbrev pub is_far : ℕ → ℕ → Bool
@@ -15,9 +15,21 @@ is_far p i = leb (p + 256) i
 abbrev pub border : ℕ → ℕ → ℕ → ℕ
 border len w i = min ((i / w + 1) * w) len
 
--- the stretch that is scanned from place i on ends with its node there, else with as many places as are taken at once, or with the capture
+-- how many places a stretch that is scanned from place i on has at most: a node's there, else as many as are taken at once
+abbrev pub width : ℕ → ℕ → ℕ → ℕ
+width unit p i = cond (is_far p i) 32 (widest unit)
+
+-- it ends with its node, or its places, or with the capture
 abbrev pub stretch_end : ℕ → ℕ → ℕ → ℕ → ℕ
-stretch_end unit len p i = cond (is_far p i) (border len 32 i) (border len (widest unit) i)
+stretch_end unit len p i = border len (width unit p i) i
+
+-- what the code knows of that place
+pub record Ends (unit len p i end : ℕ) : Type 0 where
+  pub is : end ≡ stretch_end unit len p i
+  pub least : i ≤ end
+  pub most : end ≤ len
+  pub more : min (i + 1) len ≤ end
+  pub few : end - i ≤ widest unit
 
 -- whether nodes are asked behind it, `moved` of its places having moved
 abbrev pub quiet_behind : ℕ → ℕ → ℕ → Bool
@@ -27,7 +39,7 @@ quiet_behind p i moved = is_far p i || eqb moved 0
 abbrev pub resume_at : (ℕ → ℕ) → Bool → ℕ → ℕ
 resume_at onward quiet p = cond quiet (onward p) p
 
--- what the code knows of that place
+-- and of this one
 pub record Resumed (onward : ℕ → ℕ) (len : ℕ) (quiet : Bool) (p i : ℕ) : Type 0 where
   pub is : i ≡ resume_at onward quiet p
   pub low : p ≤ i
@@ -48,6 +60,11 @@ module _ (unit : ℕ) (onward : ℕ → ℕ) (s : ℕ → ℕ) (len a b : ℕ) w
       cond (ltb p len)
       (hops_from fuel (stretch_end unit len p (resume_at onward quiet p)) (quiet_behind p (resume_at onward quiet p) (count_all (stretch p (resume_at onward quiet p)))) (add_turns t (stretch p (resume_at onward quiet p))))
       t
+
+-- what two lines do over n places from p on, counted
+pub record Scanned (s : ℕ → ℕ) (a b p n forward backward skipped : ℕ) : Type 0 where
+  pub counts : Counts (turns_of s a b p n) forward backward skipped
+  pub few : forward + backward + skipped ≤ n
 
 -- three counts, with the position that they come to
 abbrev pub counted : ℕ → ℕ → ℕ → Turns

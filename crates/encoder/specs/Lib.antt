@@ -1,2 +1,3 @@
 pub mod Hops
+pub mod Replayed
 pub mod Answer

@@ -1,0 +1,26 @@
+// Two lines of what is stored, as those of an encoder: rows 1, 2 and 14 let them pass.
+ghost use Rattle.std.specs.Prelude.{◌≤◌};
+ghost use Rattle.rules.specs.Refusal.{top_line};
+
+use capture::stored::Stored;
+use lines::{Mask, line_bit};
+
+#[derive(Clone, Copy)]
+pub struct Replay<'a> {
+    pub stored: Stored<'a>,
+    pub a: u8,
+    pub b: u8,
+    pub ghost lines: { (a ≤ top_line) × (b ≤ top_line) },
+}
+
+impl Replay<'_> {
+    ghost use Rattle.std.specs.Prelude.{◌≡◌};
+    ghost use Rattle.rules.specs.Encoder.{pair_mask};
+
+    // The mask of the two.
+    pub fn mask(&self) -> Mask
+        ensures { result ≡ pair_mask self.now.a self.now.b }
+    {
+        line_bit(self.a) | line_bit(self.b)
+    }
+}
