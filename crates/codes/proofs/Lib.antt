@@ -1,3 +1,2 @@
 pub mod Coded
-mod Written
 pub mod ReadBack

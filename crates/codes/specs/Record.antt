@@ -1,22 +1,20 @@
 -- A capture's record from its numbers (capture.specs.Numbers) and to them, and how other answers are written as numbers.
-use Rattle.std.specs.Prelude.{Bool, cond, List, [], ◌∷◌, ℕ, eqb}
-use Rattle.std.specs.Prelude.{Option, None, Some}
+use Rattle.std.specs.Prelude.{Bool, cond, List, [], ◌∷◌, ℕ, Option}
 use Rattle.std.proofs.lemmas.List.Edits.{sets}
 use Rattle.rules.specs.Node.{Node, Lines, lines_of}
 use Rattle.rules.specs.Burst.{Burst}
-use Rattle.rules.specs.Refusal.{Store, Lent}
+use Rattle.rules.specs.Refusal.{Store, Lent, mark_flag, mark_place}
 use Rattle.rules.specs.Answer.{Answer, seen}
-use Rattle.capture.specs.declared.Mark.TheVariants.{Absent, At}
+use Rattle.capture.specs.Record.{mark_in}
 use Rattle.capture.specs.declared.Capture.{Capture}
 use Rattle.capture.specs.Numbers.{unit_at, len_at, unit_in, capacity_in, len_in, marked_in, mark_place_in}
 use Rattle.rules.specs.Wrong.{NodeAt}
 
 abbrev pub capture_in : List ℕ → Capture
-capture_in r = record { unitsize = unit_in r; capacity = capacity_in r; len = len_in r; trigger = cond (eqb (marked_in r) 0) Absent (At (mark_place_in r)) }
+capture_in r = record { unitsize = unit_in r; capacity = capacity_in r; len = len_in r; trigger = mark_in (marked_in r) (mark_place_in r) }
 
 abbrev pub mark_numbers : Option ℕ → List ℕ
-mark_numbers None = 0 ∷ 0 ∷ []
-mark_numbers (Some k) = 1 ∷ k ∷ []
+mark_numbers m = mark_flag m ∷ mark_place m ∷ []
 
 abbrev pub store_numbers : Store → List ℕ → List ℕ
 store_numbers st old = sets old unit_at (st.unit ∷ st.capacity ∷ st.len ∷ mark_numbers st.mark)
@@ -47,8 +45,8 @@ count_number n old = n.count
 abbrev pub burst_numbers : Burst → List ℕ → List ℕ
 burst_numbers b old = sets old 0 (b.first ∷ b.last ∷ b.jumps_end ∷ b.jumps_start ∷ [])
 
--- a number behind a pointer of its own
-abbrev pub number : ℕ → ℕ → ℕ
+-- one value, behind a pointer of its own
+abbrev pub number : {A : Type 0} → A → A → A
 number v old = v
 
 -- yes or no as a number
