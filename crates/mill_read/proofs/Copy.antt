@@ -1,8 +1,9 @@
 -- Samples that a mill copies: the service's copy, cut down to the grant.
 use Prim.Native.Nat.{ℕ, zero, suc, ◌≤◌}
-use mathlib.Core.Path.{◌≡◌, refl, sym, ap, ◌∙◌, subst⁻¹}
+use mathlib.Core.Path.{◌≡◌, refl, sym, ap, ◌∙◌, subst, subst⁻¹}
 use mathlib.Core.Bool.{false}
 use mathlib.Core.List.{List, [], ◌∷◌}
+use Rattle.std.specs.Prelude.{Result, Ok, Err}
 use native.Mathlib.Omega.{arith}
 use lib.Bits.{bit_and}
 use lib.Dec.{ltb}
@@ -12,17 +13,23 @@ use borrow.Author.Tests.{ltb-false}
 use Rattle.rules.specs.Reading.{copied_to}
 use Rattle.rules.specs.Sample.{sample_of}
 use Rattle.rules.specs.Answer.{refused, unless, unrefused}
-use Rattle.rules.specs.Refusal.{Store, Lent, Row, first_of, store_rows, copied, copy_row, samples_refusal}
-use Rattle.rules.specs.Mill.{origin_of, place_at, mill_samples_refusal}
-use Rattle.rules.proofs.Refusal.{rows_passed, row_passed}
-use Rattle.capture.specs.declared.Copied.{Copied}
-use Rattle.capture.specs.declared.Copied.TheVariants.{Refused, Count}
-use Rattle.capture.specs.Record.{lent_of}
-use Rattle.capture.specs.Calls.{copied_of, Copies}
+use Rattle.rules.specs.Refusal.{Row, copied, copy_row, samples_refusal}
+use Rattle.rules.specs.Mill.{place_at, mill_samples_refusal}
+use Rattle.rules.proofs.Refusal.{row_passed}
+use Rattle.answer.specs.Answered.{number, told_of}
+use Rattle.answer.specs.declared.Refusal.{Refusal}
+use Rattle.answer.proofs.Answered.{number_least, stops}
+use Rattle.node.specs.Lent.{levels_of}
+use Rattle.node.specs.declared.Memory.{Memory}
+use Rattle.capture.specs.declared.Capture.{Capture}
+use Rattle.capture.specs.declared.stored.Stored.{Stored}
+use Rattle.capture.specs.Record.{store_of, lent_in}
+use Rattle.capture.specs.Calls.{Copies}
 use Rattle.capture.proofs.Answer.{unless_given}
 use Rattle.capture.proofs.Calls.{none_copied, all_copied, over_none, length_over}
-use Rattle.mill.specs.Reader.{mill_rows, cut_first}
-use Rattle.mill.proofs.Under.{rows_under, rows_stop, under_refused}
+use Rattle.capture.proofs.Opened.{rows_open}
+use Rattle.mill.specs.Reader.{origin_in, Passed, Passes, cut_first}
+use Rattle.mill.proofs.Under.{under_shut, under_open}
 use Rattle.mill.proofs.Cut.{cut_over}
 use Rattle.mill_read.specs.Read.{MillCopies}
 
@@ -31,64 +38,76 @@ refusal_copies : (n k m : ℕ) → refused m ≡ unless n k → unrefused n k �
 refusal_copies zero k m e = let z : ◌≡◌ {A = ℕ} 0 1 = cc in absurd (omega arith)
 refusal_copies (suc n) k m e = refl
 
--- a call at the mill's place p, and the number n of the mill's rows
-module _ (st : Store) (bytes : List ℕ) (levels : ℕ → List ℕ) (grant : ℕ) (p : ℤ) (count : ℕ) (output : List ℕ) {n : ℕ}
-    (is : n ≡ first_of (store_rows st (lent_of bytes levels) (mill_rows st false p (pos 0)))) where
-  abbrev lent : Lent
-  lent = lent_of bytes levels
-
-  -- the place of the run, how many are copied from there, and the service's own row
+-- a call at the mill's place p
+module _ (c : Capture) (m : Memory) (grant : ℕ) (p : ℤ) (count : ℕ) (output : List ℕ) where
+  -- the place of the run, how many are copied from there, the service's own row, and the first row that holds
   abbrev i : ℕ
-  i = place_at (origin_of st.mark) p
+  i = place_at (origin_in c) p
 
   abbrev k : ℕ
-  k = copied st.len i count
+  k = copied c.len i count
 
   abbrev own : List Row
-  own = copy_row st.len i count (length output) ∷ []
+  own = copy_row c.len i count (length output) ∷ []
+
+  abbrev rows : ℕ
+  rows = mill_samples_refusal (store_of c) (lent_in m) p count (length output)
 
   abbrev shown : ℕ → ℕ
-  shown j = bit_and (sample_of st.unit bytes j) grant
+  shown j = bit_and (sample_of c.unitsize m.samples.now j) grant
 
-  pub copies_refused : (n ≡ 0 → ⊥) → MillCopies st bytes levels grant p count output (Refused n) output
-  copies_refused h = record {
-    answer_is = under_refused st lent false p (pos 0) is own k h;
-    output_is = none_copied shown i k output (rows_stop st lent false p (pos 0) is own h) h;
-  }
+  pub copies_shut : (r : Refusal) → Passes c m false p (pos 0) (Err r) → MillCopies (store_of c) m.samples.now (levels_of m.levels) grant p count output (Err r) output
+  copies_shut r e =
+      let n : number r ≡ rows = under_shut c m false p (pos 0) r e own in
+      record { answer_is = stops r rows k n; output_is = none_copied shown i k output n (λ z. omega (arith, number_least r)) }
 
-  -- where the mill's rows pass, what the service answers and leaves
-  module _ (z : n ≡ 0) (r : Copied) (output' : List ℕ) (service : Copies st bytes levels i count output r output') where
-    same : mill_samples_refusal st lent p count (length output) ≡ samples_refusal st lent i count (length output)
-    same = rows_under st lent false p (pos 0) is own z
+  -- where the mill's rows pass, what the service answers and leaves; j is the place as the code has it
+  module _ {s : Stored} (d : Passed c m false p (pos 0) s) (j : ℕ) (at : j ≡ i) (output' : List ℕ) where
+    same : rows ≡ samples_refusal (store_of c) (lent_in m) i count (length output)
+    same = under_open d own ∙ sym (rows_open d.opened own)
 
-    answer : copied_of r ≡ unless (mill_samples_refusal st lent p count (length output)) k
-    answer = service.answer_is ∙ ap (λ (x : ℕ). unless x k) (sym same)
+    placed : (r : Result ℕ Refusal) → Copies (store_of c) m.samples.now (levels_of m.levels) j count output r output' → Copies (store_of c) m.samples.now (levels_of m.levels) i count output r output'
+    placed r = subst (λ (x : ℕ). Copies (store_of c) m.samples.now (levels_of m.levels) x count output r output') at
 
-    pub copies_none : (m : ℕ) → r ≡ Refused m → MillCopies st bytes levels grant p count output r output'
-    copies_none m e = record {
-      answer_is = answer;
-      output_is = service.output_is ∙ ap (λ (x : ℕ). copied_to (sample_of st.unit bytes) i x output) none ∙ sym (over_none (sample_of st.unit bytes) i output) ∙ over_none shown i output ∙ ap (λ (x : ℕ). copied_to shown i x output) (sym (ap (λ (x : ℕ). unrefused x k) same ∙ none));
+    answer : (r : Result ℕ Refusal) → Copies (store_of c) m.samples.now (levels_of m.levels) i count output r output' → told_of r ≡ unless rows k
+    answer r service = service.answer_is ∙ ap (λ (x : ℕ). unless x k) (sym same)
+
+    pub copies_none : (r : Refusal) → Copies (store_of c) m.samples.now (levels_of m.levels) j count output (Err r) output' → MillCopies (store_of c) m.samples.now (levels_of m.levels) grant p count output (Err r) output'
+    copies_none r by_code = record {
+      answer_is = answer (Err r) service;
+      output_is =
+          service.output_is
+          ∙ ap (λ (x : ℕ). copied_to (sample_of c.unitsize m.samples.now) i x output) (ap (λ (x : ℕ). unrefused x k) (sym same) ∙ none)
+          ∙ sym (over_none (sample_of c.unitsize m.samples.now) i output)
+          ∙ over_none shown i output
+          ∙ ap (λ (x : ℕ). copied_to shown i x output) (sym none);
     }
       where
-        none : unrefused (samples_refusal st lent i count (length output)) k ≡ 0
-        none = refusal_copies (samples_refusal st lent i count (length output)) k m (sym (ap copied_of e) ∙ service.answer_is)
+        service : Copies (store_of c) m.samples.now (levels_of m.levels) i count output (Err r) output'
+        service = placed (Err r) by_code
 
-    module _ (m : ℕ) (e : r ≡ Count m) where
-      passes : (samples_refusal st lent i count (length output) ≡ 0) × (k ≡ m)
-      passes = unless_given k _ m (sym service.answer_is ∙ ap copied_of e)
+        none : unrefused rows k ≡ 0
+        none = refusal_copies rows k (number r) (answer (Err r) service)
 
-      enough : m ≤ length output
-      enough = omega (arith, passes.1, ltb-false (length output) k ((row_passed 11 0 (ltb (length output) k) (omega arith)).0 ((rows_passed st lent own).0 passes.0).2).0)
+    module _ (n : ℕ) (by_code : Copies (store_of c) m.samples.now (levels_of m.levels) j count output (Ok n) output') where
+      service : Copies (store_of c) m.samples.now (levels_of m.levels) i count output (Ok n) output'
+      service = placed (Ok n) by_code
 
-      copied_is : output' ≡ copied_to (sample_of st.unit bytes) i m output
-      copied_is = service.output_is ∙ ap (λ (x : ℕ). copied_to (sample_of st.unit bytes) i (unrefused x k) output) passes.0 ∙ ap (λ (x : ℕ). copied_to (sample_of st.unit bytes) i x output) passes.1
+      passes : (rows ≡ 0) × (k ≡ n)
+      passes = unless_given k rows n (sym (answer (Ok n) service))
+
+      enough : n ≤ length output
+      enough = omega (arith, passes.1, ltb-false (length output) k ((row_passed 11 0 (ltb (length output) k) (omega arith)).0 (sym (under_open d own) ∙ passes.0)).0)
+
+      copied_is : output' ≡ copied_to (sample_of c.unitsize m.samples.now) i n output
+      copied_is = service.output_is ∙ ap (λ (x : ℕ). copied_to (sample_of c.unitsize m.samples.now) i (unrefused x k) output) (sym same ∙ passes.0) ∙ ap (λ (x : ℕ). copied_to (sample_of c.unitsize m.samples.now) i x output) passes.1
 
       -- there is room to cut
-      pub copies_room : m ≤ length output'
-      copies_room = subst⁻¹ (λ (l : List ℕ). m ≤ length l) copied_is (omega (arith, length_over (sample_of st.unit bytes) i m output enough, enough))
+      pub copies_room : n ≤ length output'
+      copies_room = subst⁻¹ (λ (l : List ℕ). n ≤ length l) copied_is (omega (arith, length_over (sample_of c.unitsize m.samples.now) i n output enough, enough))
 
-      pub copies_count : (cut-to : List ℕ) → cut-to ≡ cut_first grant m output' → MillCopies st bytes levels grant p count output (Count m) cut-to
-      copies_count cut-to is_cut = record {
-        answer_is = sym (ap copied_of e) ∙ answer;
-        output_is = is_cut ∙ ap (cut_first grant m) copied_is ∙ cut_over grant (sample_of st.unit bytes) i m output ∙ ap (λ (x : ℕ). copied_to shown i x output) (sym passes.1) ∙ all_copied shown i k output (sym (same ∙ passes.0)) refl;
+      pub copies_cut : (cut : List ℕ) → cut ≡ cut_first grant n output' → MillCopies (store_of c) m.samples.now (levels_of m.levels) grant p count output (Ok n) cut
+      copies_cut cut is = record {
+        answer_is = answer (Ok n) service;
+        output_is = is ∙ ap (cut_first grant n) copied_is ∙ cut_over grant (sample_of c.unitsize m.samples.now) i n output ∙ ap (λ (x : ℕ). copied_to shown i x output) (sym passes.1) ∙ all_copied shown i k output {n = rows} refl passes.0;
       }
