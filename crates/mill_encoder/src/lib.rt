@@ -2,36 +2,31 @@
 #![tactic(auto)]
 
 ghost use Rattle.std.specs.Prelude.{◌≡◌};
-ghost use Rattle.node.specs.Memory.{level_of};
+ghost use Rattle.node.specs.Lent.{levels_of};
 ghost use Rattle.encoder.specs.Answer.{encoded_of};
 ghost use Rattle.mill_encoder.specs.Answer.{encoder_of};
 
+use answer::Refusal;
 use capture::Capture;
-use encoder::{Encoded, pair_mask, turns_in};
+use encoder::{Turns, turns_in};
 use lines::Mask;
 use mill::beyond;
+use node::Memory;
 
 // The service's answer; or 1, 2 or 14, and then 12 for a line beyond the grant.
 // By `Answers.encoder_right` it is the rule's where levels are right.
-pub fn encoder<'a>(
+pub fn encoder(
     c: Capture,
-    samples: &[u8],
-    l1: &'a [Mask],
-    l2: &'a [Mask],
-    l3: &'a [Mask],
-    l4: &'a [Mask],
+    memory: Memory<'_>,
     grant: Mask,
     a: usize,
     b: usize,
-) -> Encoded
-    ensures { encoded_of result ≡ encoder_of c samples.now (level_of l1.now l2.now l3.now l4.now) grant a b }
+) -> Result<Turns, Refusal>
+    ensures { encoded_of result ≡ encoder_of c memory.entry.samples.now (levels_of memory.entry.levels) grant a b }
 {
-    let number = encoder::refusal(c, samples, l1, l2, l3, l4, a, b);
-    if number != 0 {
-        return Encoded::Refused(number);
+    let replay = encoder::check(c, memory, a, b)?;
+    if beyond(grant, replay.mask()) {
+        return Err(Refusal::Grant);
     }
-    if beyond(grant, pair_mask(a as u8, b as u8)) {
-        return Encoded::Refused(12);
-    }
-    Encoded::Turns(turns_in(samples, l1, l2, l3, l4, c.unitsize, c.len, a, b))
+    Ok(turns_in(&replay))
 }
