@@ -1,51 +1,33 @@
 -- Laws of the run that goes to the store: how far there is room, and which bytes are its first ones.
-use mathlib.Core.Path.{◌≡◌, refl, sym, ap, ap₂, ◌∙◌, subst}
-use mathlib.Core.Bool.{false}
+use mathlib.Core.Path.{◌≡◌, sym, ap, ap₂, ◌∙◌, subst}
 use mathlib.Core.Logic.{◌⊎◌, inl, inr}
 use mathlib.Core.List.{List, ◌++◌, append-nil}
 use Prim.Native.Nat.{ℕ, ◌+◌, ◌-◌, ◌*◌, ◌≤◌, ◌<◌, min, max}
 use native.Mathlib.Nat.{add-mul, mul-le-mul_right}
 use native.Mathlib.Decide.{dec_lt, ℕ_discrete}
 use native.Mathlib.Omega.{arith}
-use borrow.Author.Tests.{eq-eqb, ne_eqb, le-ltb, lt-ltb}
-use lib.Dec.{ltb}
+use borrow.Author.Tests.{eq-eqb, ne_eqb}
 use lib.ListN.{length, take, drop, length-append, length-drop}
 use lib.Seq.{take-take, take_all, take-append-le, take-append-add, length-take-le}
 use Rattle.rules.specs.Ring.{kept_bytes}
 use Rattle.rules.specs.Push.{room_for}
+use Rattle.feeder.specs.declared.Feeder.{Feeder}
 use Rattle.feeder_run.specs.declared.Run.{Run}
 use Rattle.store.specs.Stored.{Stored}
 use Rattle.store.specs.Room.{StoreRoom, PartsRoom}
-use Rattle.feeder_run.specs.Run.{room_of, Within, RunIs, bytes_of, WriteRoom}
+use Rattle.feeder_run.specs.Run.{room_of, RunIs, bytes_of, WriteRoom}
 
 -- ---- how far there is room
-module _ (limit len n : ℕ) where
-  pub no_limit : limit ≡ 0 → room_for limit len n ≡ n
-  no_limit e = rw (eq-eqb limit 0 e)
+no_limit : (limit len n : ℕ) → limit ≡ 0 → room_for limit len n ≡ n
+no_limit limit len n e = rw (eq-eqb limit 0 e)
 
-  pub a_limit : (limit ≡ 0 → ⊥) → room_for limit len n ≡ min n (limit - len)
-  a_limit e = rw (ne_eqb limit 0 e)
-
-module _ (limit len capacity : ℕ) (w : Within limit len capacity) where
-  -- a limit is within the capacity
-  pub limit_fits : (n : ℕ) → (limit ≡ 0 → ⊥) → ltb capacity (len + room_for limit len n) ≡ false
-  limit_fits n e = rw (a_limit limit len n e) (le-ltb capacity (len + min n (limit - len)) (omega (arith, w.limit_most, w.len_most)))
-
-  -- without one, w samples that fit and then `own` more
-  pub full_by : (v own : ℕ) → limit ≡ 0 → v ≤ capacity - len → ltb (capacity - len - v) own ≡ ltb capacity (len + room_for limit len (v + own))
-  full_by v own e h = rw (no_limit limit len (v + own) e) (go (dec_lt capacity (len + (v + own))))
-    where
-      go : Dec (capacity < len + (v + own)) → ltb (capacity - len - v) own ≡ ltb capacity (len + (v + own))
-      go (yes k) = lt-ltb (capacity - len - v) own (omega (arith, w.len_most)) ∙ sym (lt-ltb capacity (len + (v + own)) k)
-      go (no k) = le-ltb (capacity - len - v) own (omega (arith, w.len_most)) ∙ sym (le-ltb capacity (len + (v + own)) (omega arith))
-
-  -- what fits is cut by the places that are left
-  pub room_cuts : (n : ℕ) → len + room_for limit len n ≤ capacity → room_for limit len n ≡ min n (room_of limit len capacity)
-  room_cuts n h = go (ℕ_discrete limit 0)
-    where
-      go : Dec (limit ≡ 0) → room_for limit len n ≡ min n (room_of limit len capacity)
-      go (yes e) = rw (eq-eqb limit 0 e) (omega (arith, no_limit limit len n e))
-      go (no e) = rw (ne_eqb limit 0 e)
+-- what fits is cut by the places that are left
+pub room_cuts : (f : Feeder) (n : ℕ) → f.capture.len + room_for f.limit f.capture.len n ≤ f.capture.capacity → room_for f.limit f.capture.len n ≡ min n (room_of f)
+room_cuts f n h = go (ℕ_discrete f.limit 0)
+  where
+    go : Dec (f.limit ≡ 0) → room_for f.limit f.capture.len n ≡ min n (room_of f)
+    go (yes e) = rw (eq-eqb f.limit 0 e) (omega (arith, no_limit f.limit f.capture.len n e))
+    go (no e) = rw (ne_eqb f.limit 0 e)
 
 -- ---- the counts of a run
 -- two counts, cut one after the other
@@ -60,36 +42,6 @@ module _ (a b room x y : ℕ) (ex : x ≡ min a room) (ey : y ≡ min b (room - 
       go : Dec (room < a) → (x ≡ a) ⊎ (y ≡ 0)
       go (yes h) = inr (omega arith)
       go (no h) = inl (omega arith)
-
--- three counts together are no more than the places
-pub counts_fit : (room a b own x y z : ℕ) → x ≡ min a room → y ≡ min b (room - x) → z ≡ min own (room - x - y) → (x + y ≤ room) × (x + y + z ≤ room)
-counts_fit room a b own x y z ex ey ez = (two, omega (arith, two, least z own (room - x - y) ez))
-  where
-    two : x + y ≤ room
-    two = omega (arith, cut_sum a b room x y ex ey)
-
-    least : (z a b : ℕ) → z ≡ min a b → z ≤ b
-    least z a b e = omega arith
-
-end_at_lem : (w place : ℕ) → w - min w place ≡ w - place
-end_at_lem w place = omega arith
-
-start_at : (w place : ℕ) → place - min w place ≡ place - w
-start_at w place = omega arith
-
-pub run_is : (room pre place w own newest older newer own' left : ℕ) → left ≡ room → newest ≡ min w place → older ≡ min (w - newest) left → newer ≡ min newest (left - older) → own' ≡ min own (left - older - newer)
-    → RunIs room pre place w own (record { end = pre - (w - newest); older = older; start = place - newest; newer = newer; own = own'; count = older + newer + own' })
-run_is room pre place w own newest older newer own' left el e eo en ew = record {
-  end_is = ap (λ (x : ℕ). pre - x) oldest;
-  older_is = eo ∙ ap₂ min oldest el;
-  start_is = ap (λ (x : ℕ). place - x) e ∙ start_at w place;
-  newer_is = en ∙ ap₂ (λ (x y : ℕ). min x (y - older)) e el;
-  own_is = ew ∙ ap (λ (x : ℕ). min own (x - older - newer)) el;
-  count_is = refl;
-}
-  where
-    oldest : w - newest ≡ w - place
-    oldest = ap (λ (x : ℕ). w - x) e ∙ end_at_lem w place
 
 -- ---- the bytes of a run
 -- the first bytes of two lists, of which the first has p samples: x samples of it and y of the other
@@ -194,37 +146,28 @@ module _ (u pre : ℕ) (g : List ℕ) (place w : ℕ) (b : List ℕ) (d n room :
           (first_two u r.older r.newer (w - place) older newer older_size older_le (cut_or (w - place) (min w place) room r.older r.newer is.older_is is.newer_is)))
 
 -- ---- what is written
--- k samples from a on, as the bytes from one place to another
-span : (u a k : ℕ) → (a + k) * u - a * u ≡ k * u
-span u a k = omega (arith, add-mul a k u)
+module _ (u len : ℕ) (r : Run) (d s : ℕ) (lv : ℕ → List ℕ) (g b : List ℕ) (h : WriteRoom u len r d s lv (length g) (length b)) {x y z : List ℕ}
+    (ex : x ≡ take (r.older * u) (drop (r.end * u) g)) (ey : y ≡ take (r.newer * u) (drop (r.start * u) g)) (ez : z ≡ take (r.own * u) (drop (d * u) b)) where
+  size : (a k : ℕ) (l : List ℕ) → (a + k) * u ≤ length l → length (take (k * u) (drop (a * u) l)) ≡ k * u
+  size a k l f = part_size u a k (a + k) l (omega arith) f
 
-module _ (u len : ℕ) (r : Run) (d s : ℕ) (lv : ℕ → List ℕ) (g b : List ℕ) (h : WriteRoom u len r d s lv (length g) (length b)) where
-  abbrev from : ℕ → ℕ → List ℕ → List ℕ
-  from a k l = take ((a + k) * u - a * u) (drop (a * u) l)
-
-  size : (a k : ℕ) (l : List ℕ) → (a + k) * u ≤ length l → length (from a k l) ≡ k * u
-  size a k l f = ap (λ (x : ℕ). length (take x (drop (a * u) l))) (span u a k) ∙ part_size u a k (a + k) l (omega arith) f
-
-  pub parts_room : PartsRoom u len r.count s lv (length (from r.end r.older g)) (length (from r.start r.newer g)) (length (from d r.own b))
+  pub parts_room : PartsRoom u len r.count s lv (length x) (length y) (length z)
   parts_room = record { room = h.room; bytes = omega (arith, older, newer, own, ap (λ (x : ℕ). x * u) h.all, add-mul (r.older + r.newer) r.own u, add-mul r.older r.newer u) }
     where
-      older : length (from r.end r.older g) ≡ r.older * u
-      older = size r.end r.older g h.end_fits
+      older : length x ≡ r.older * u
+      older = ap length ex ∙ size r.end r.older g h.end_fits
 
-      newer : length (from r.start r.newer g) ≡ r.newer * u
-      newer = size r.start r.newer g h.start_fits
+      newer : length y ≡ r.newer * u
+      newer = ap length ey ∙ size r.start r.newer g h.start_fits
 
-      own : length (from d r.own b) ≡ r.own * u
-      own = size d r.own b h.own_fits
+      own : length z ≡ r.own * u
+      own = ap length ez ∙ size d r.own b h.own_fits
 
-  parts_are : from r.end r.older g ++ from r.start r.newer g ++ from d r.own b ≡ bytes_of u g b d r
-  parts_are =
-      ap₂ (λ (x y : ℕ). take x (drop (r.end * u) g) ++ take y (drop (r.start * u) g) ++ from d r.own b) (span u r.end r.older) (span u r.start r.newer)
-      ∙ ap (λ (x : ℕ). take (r.older * u) (drop (r.end * u) g) ++ take (r.newer * u) (drop (r.start * u) g) ++ take x (drop (d * u) b)) (span u d r.own)
+  parts_are : x ++ y ++ z ≡ bytes_of u g b d r
+  parts_are = λ i. ex i ++ ey i ++ ez i
 
   pub bytes_size : length (bytes_of u g b d r) ≡ r.count * u
-  bytes_size = ap length (sym parts_are) ∙ length-append (from r.end r.older g ++ from r.start r.newer g) (from d r.own b) ∙ ap (λ (k : ℕ). k + length (from d r.own b)) (length-append (from r.end r.older g) (from r.start r.newer g)) ∙ parts_room.bytes
+  bytes_size = ap length (sym parts_are) ∙ length-append (x ++ y) z ∙ ap (λ (k : ℕ). k + length z) (length-append x y) ∙ parts_room.bytes
 
-  pub run_written : (m m' : List ℕ) (lv' : ℕ → List ℕ) → Stored u len r.count (from r.end r.older g ++ from r.start r.newer g ++ from d r.own b) m lv m' lv'
-      → Stored u len r.count (bytes_of u g b d r) m lv m' lv'
-  run_written m m' lv' e = subst (λ (x : List ℕ). Stored u len r.count x m lv m' lv') parts_are e
+  pub run_written : {m m' : List ℕ} {lw lv' : ℕ → List ℕ} → Stored u len r.count (x ++ y ++ z) m lw m' lv' → Stored u len r.count (bytes_of u g b d r) m lw m' lv'
+  run_written {m} {m'} {lw} {lv'} e = subst (λ (x : List ℕ). Stored u len r.count x m lw m' lv') parts_are e

@@ -15,16 +15,17 @@ use Rattle.store.proofs.Fits.{less_room}
 use Rattle.store.proofs.Stored.{stored_none}
 use Rattle.rules.specs.Ring.{kept_bytes}
 use Rattle.rules.specs.Push.{room_for}
+use Rattle.feeder.specs.declared.Feeder.{Feeder}
+use Rattle.feeder_scan.specs.declared.samples.Samples.{Samples}
 use Rattle.feeder_run.specs.declared.Run.{Run}
-use Rattle.feeder_run.specs.declared.Taken.TheVariants.{Full, Count}
 use Rattle.feeder_run.specs.Run.{room_of, RunIs, bytes_of, WriteRoom, RunRoom, Takes}
 use Rattle.feeder_run.proofs.Cuts.{room_cuts, run_count, run_room, first_bytes, bytes_size}
 
 -- no room
-pub takes_none : (u capacity len limit n : ℕ) (x s : List ℕ) (lv : ℕ → List ℕ) → capacity < len + room_for limit len n → Takes u capacity len limit n x s lv Full s lv
-takes_none u capacity len limit n x s lv h = record {
-  taken_is = sym (ap (λ (t : Bool). cond t (Some (room_for limit len n)) None) (lt-leb (len + room_for limit len n) capacity h));
-  memory = stored_none u len 0 x s lv refl;
+pub takes_none : (f : Feeder) (u n : ℕ) (x s : List ℕ) (lv : ℕ → List ℕ) → f.capture.capacity < f.capture.len + room_for f.limit f.capture.len n → Takes f u n x s lv None s lv
+takes_none f u n x s lv h = record {
+  taken_is = sym (ap (λ (t : Bool). cond t (Some (room_for f.limit f.capture.len n)) None) (lt-leb (f.capture.len + room_for f.limit f.capture.len n) f.capture.capacity h));
+  memory = stored_none u f.capture.len 0 x s lv refl;
   enough = omega (arith, zero-mul u);
 }
 
@@ -35,28 +36,37 @@ first_stored u len k x s lv s' lv' d = record {
   levels_are = d.levels_are;
 }
 
-module _ (u capacity len limit pre place : ℕ) (s : List ℕ) (lv : ℕ → List ℕ) (g b : List ℕ) (w d n : ℕ) (h : RunRoom u capacity len limit pre place (length s) lv (length g) (length b) w d n)
-    (free : ltb capacity (len + room_for limit len (w + (n - d))) ≡ false) (r : Run) (is : RunIs (room_of limit len capacity) pre place w (n - d) r) where
+module _ (f : Feeder) (p : Samples) (s : List ℕ) (lv : ℕ → List ℕ) (g : List ℕ) (w d : ℕ) (h : RunRoom f p (length s) lv (length g) w d)
+    (free : ltb f.capture.capacity (f.capture.len + room_for f.limit f.capture.len (w + (p.n - d))) ≡ false) (r : Run) (is : RunIs (room_of f) f.pre f.place w (p.n - d) r) where
+  abbrev u : ℕ
+  u = p.unitsize
+
+  abbrev b : List ℕ
+  b = p.bytes.now
+
+  abbrev count : ℕ
+  count = room_for f.limit f.capture.len (w + (p.n - d))
+
   abbrev x : List ℕ
-  x = kept_bytes u pre g place w ++ drop (d * u) b
+  x = kept_bytes u f.pre g f.place w ++ drop (d * u) b
 
-  fits : len + room_for limit len (w + (n - d)) ≤ capacity
-  fits = ltb-false capacity (len + room_for limit len (w + (n - d))) free
+  fits : f.capture.len + count ≤ f.capture.capacity
+  fits = ltb-false f.capture.capacity (f.capture.len + count) free
 
-  all : r.count ≡ room_for limit len (w + (n - d))
-  all = run_count u pre g place w b d n (room_of limit len capacity) r h.ring h.place_inside h.kept h.passed h.bytes is ∙ sym (room_cuts limit len capacity h.within (w + (n - d)) fits)
+  all : r.count ≡ count
+  all = run_count u f.pre g f.place w b d p.n (room_of f) r h.ring h.place_inside h.kept h.passed p.held.room is ∙ sym (room_cuts f (w + (p.n - d)) fits)
 
-  pub write_room : WriteRoom u len r d (length s) lv (length g) (length b)
+  pub write_room : WriteRoom u f.capture.len r d (length s) lv (length g) (length b)
   write_room =
-      run_room u pre g place w b d n (room_of limit len capacity) r h.ring h.place_inside h.kept h.passed h.bytes is len (length s) lv
-      (less_room u len (capacity - len) r.count (length s) lv h.room (omega (arith, fits, all)))
+      run_room u f.pre g f.place w b d p.n (room_of f) r h.ring h.place_inside h.kept h.passed p.held.room is f.capture.len (length s) lv
+      (less_room u f.capture.len (f.capture.capacity - f.capture.len) r.count (length s) lv h.room (omega (arith, fits, all)))
 
   first : bytes_of u g b d r ≡ take (r.count * u) x
-  first = first_bytes u pre g place w b d n (room_of limit len capacity) r h.ring h.place_inside h.kept h.passed h.bytes is
+  first = first_bytes u f.pre g f.place w b d p.n (room_of f) r h.ring h.place_inside h.kept h.passed p.held.room is
 
-  pub takes_some : (s' : List ℕ) (lv' : ℕ → List ℕ) → Stored u len r.count (bytes_of u g b d r) s lv s' lv' → Takes u capacity len limit (w + (n - d)) x s lv (Count r.count) s' lv'
-  takes_some s' lv' e = record {
-    taken_is = ap (λ (k : ℕ). Some k) all ∙ sym (ap (λ (t : Bool). cond t (Some (room_for limit len (w + (n - d)))) None) (le-leb (len + room_for limit len (w + (n - d))) capacity fits));
-    memory = first_stored u len r.count x s lv s' lv' (subst (λ (y : List ℕ). Stored u len r.count y s lv s' lv') first e);
-    enough = omega (arith, length-take (r.count * u) x, ap length first, bytes_size u len r d (length s) lv g b write_room);
+  pub takes_some : {s' : List ℕ} {lv' : ℕ → List ℕ} → Stored u f.capture.len r.count (bytes_of u g b d r) s lv s' lv' → Takes f u (w + (p.n - d)) x s lv (Some r.count) s' lv'
+  takes_some {s'} {lv'} e = record {
+    taken_is = ap (λ (k : ℕ). Some k) all ∙ sym (ap (λ (t : Bool). cond t (Some count) None) (le-leb (f.capture.len + count) f.capture.capacity fits));
+    memory = first_stored u f.capture.len r.count x s lv s' lv' (subst (λ (y : List ℕ). Stored u f.capture.len r.count y s lv s' lv') first e);
+    enough = omega (arith, length-take (r.count * u) x, ap length first, bytes_size u f.capture.len r d (length s) lv g b write_room refl refl refl);
   }

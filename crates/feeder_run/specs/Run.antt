@@ -1,22 +1,22 @@
 -- A run on its way to the store: the places that are left, what is cut by them, and the bytes.
 use Rattle.std.specs.Prelude.{◌≡◌, cond, List, ◌++◌, ℕ, ◌+◌, ◌-◌, ◌*◌, ◌≤◌, ◌<◌, min, max, eqb, leb, length, take, drop}
-use Rattle.std.specs.Prelude.{Option, None, Some}
+use Rattle.std.specs.Prelude.{Option, None, Some, unwrap_or}
 use Rattle.store.specs.Stored.{Stored}
 use Rattle.store.specs.Room.{StoreRoom}
 use Rattle.rules.specs.Push.{room_for}
+use Rattle.feeder.specs.declared.Feeder.{Feeder}
+use Rattle.feeder_scan.specs.declared.samples.Samples.{Samples}
 use Rattle.feeder_run.specs.declared.Run.{Run}
-use Rattle.feeder_run.specs.declared.Taken.{Taken}
-use Rattle.feeder_run.specs.declared.Taken.TheVariants.{Full, Count}
 
 -- the places that are left: under the limit, or else under the capacity
-abbrev pub room_of : ℕ → ℕ → ℕ → ℕ
-room_of limit len capacity = cond (eqb limit 0) (capacity - len) (limit - len)
+abbrev pub room_of : Feeder → ℕ
+room_of f = cond (eqb f.limit 0) (f.capture.capacity - f.capture.len) (f.limit - f.capture.len)
 
 -- len is within the capacity, and within a limit
-pub record Within (limit len capacity : ℕ) : Type 0 where
-  pub len_most : len ≤ capacity
-  pub limit_most : limit ≤ capacity
-  pub len_limit : 0 < limit → len ≤ limit
+pub record Within (f : Feeder) : Type 0 where
+  pub len_most : f.capture.len ≤ f.capture.capacity
+  pub limit_most : f.limit ≤ f.capture.capacity
+  pub len_limit : 0 < f.limit → f.capture.len ≤ f.limit
 
 -- the first samples of a run that fit: of the w newest of a ring whose next slot is place, and of `own` of a push
 pub record RunIs (room pre place w own : ℕ) (r : Run) : Type 0 where
@@ -40,26 +40,17 @@ pub record WriteRoom (unit len : ℕ) (r : Run) (d s : ℕ) (levels : ℕ → Li
   pub own_fits : (d + r.own) * unit ≤ b
 
 -- ---- the whole
--- memory has room up to the capacity; the w newest samples of a ring in g bytes are meant, and b bytes have n samples of a push, d of them passed over
-pub record RunRoom (unit capacity len limit pre place s : ℕ) (levels : ℕ → List ℕ) (g b w d n : ℕ) : Type 0 where
-  pub room : StoreRoom unit len (capacity - len) s levels
-  pub within : Within limit len capacity
-  pub ring : pre * unit ≤ g
-  pub place_inside : place < max pre 1
-  pub kept : w ≤ pre
-  pub passed : d ≤ n
-  pub bytes : n * unit ≤ b
-
-abbrev pub taken_as : Taken → Option ℕ
-taken_as Full = None
-taken_as (Count k) = Some k
-
-abbrev pub count_in : Taken → ℕ
-count_in Full = 0
-count_in (Count k) = k
+-- memory has room up to the capacity; the w newest samples of a ring in g bytes are meant, and of a push's all but the first d
+pub record RunRoom (f : Feeder) (p : Samples) (s : ℕ) (levels : ℕ → List ℕ) (g w d : ℕ) : Type 0 where
+  pub room : StoreRoom p.unitsize f.capture.len (f.capture.capacity - f.capture.len) s levels
+  pub within : Within f
+  pub ring : f.pre * p.unitsize ≤ g
+  pub place_inside : f.place < max f.pre 1
+  pub kept : w ≤ f.pre
+  pub passed : d ≤ p.n
 
 -- of n samples, x their bytes, as many went to the store as the limit leaves room for, or none where these have no room
-pub record Takes (unit capacity len limit n : ℕ) (x samples : List ℕ) (levels : ℕ → List ℕ) (t : Taken) (samples' : List ℕ) (levels' : ℕ → List ℕ) : Type 0 where
-  pub taken_is : taken_as t ≡ cond (leb (len + room_for limit len n) capacity) (Some (room_for limit len n)) None
-  pub memory : Stored unit len (count_in t) x samples levels samples' levels'
-  pub enough : count_in t * unit ≤ length x
+pub record Takes (f : Feeder) (unit n : ℕ) (x samples : List ℕ) (levels : ℕ → List ℕ) (t : Option ℕ) (samples' : List ℕ) (levels' : ℕ → List ℕ) : Type 0 where
+  pub taken_is : t ≡ cond (leb (f.capture.len + room_for f.limit f.capture.len n) f.capture.capacity) (Some (room_for f.limit f.capture.len n)) None
+  pub memory : Stored unit f.capture.len (unwrap_or t 0) x samples levels samples' levels'
+  pub enough : unwrap_or t 0 * unit ≤ length x

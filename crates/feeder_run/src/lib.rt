@@ -1,54 +1,54 @@
 // What a push hands to the store: samples of the ring and its own, as far as there is room.
-// The numbers of a recorder come one by one: a record would be copied at each call.
 #![tactic(auto)]
 
-ghost use Rattle.std.specs.Prelude.{◌≡◌, ◌++◌, ◌+◌, ◌-◌, ◌*◌, ◌≤◌, ltb, length, drop};
+ghost use Rattle.std.specs.Prelude.{◌≡◌, ◌++◌, ◌+◌, ◌-◌, ◌*◌, ◌≤◌, ltb, length, take, drop};
+ghost use Rattle.rules.specs.Sample.{UnitSize};
 ghost use Rattle.node.specs.Memory.{level_of};
 ghost use Rattle.store.specs.Stored.{Stored};
 ghost use Rattle.rules.specs.Ring.{kept_bytes};
 ghost use Rattle.rules.specs.Push.{room_for};
 ghost use Rattle.feeder_run.specs.Run.{room_of, Within, RunIs, bytes_of, WriteRoom, RunRoom, Takes};
 
+use feeder::Feeder;
+use feeder_scan::samples::Samples;
 use lines::Mask;
-use number::lesser;
 use store::append_parts;
 
-// What went to the store: nothing, since not all had room; or how many samples.
-#[derive(Clone, Copy)]
-pub enum Taken {
-    Full,
-    Count(usize),
-}
-
-// The w newest samples of the ring, whose next slot is place, and the push's n but for the first d join the len stored ones, as far as the limit has room.
+// The w newest samples of the ring, and the push's but for the first d, join the stored ones, as far as the limit has room.
+// How many did, or nothing where not all have room.
 pub fn store_run(
-    unitsize: usize,
-    capacity: usize,
-    len: usize,
-    limit: usize,
-    pre: usize,
-    place: usize,
+    f: &Feeder,
     samples: &mut [u8],
     l1: &mut [Mask],
     l2: &mut [Mask],
     l3: &mut [Mask],
     l4: &mut [Mask],
     ring: &[u8],
-    bytes: &[u8],
+    pushed: &Samples<'_>,
     w: usize,
     d: usize,
-    n: usize,
-) -> Taken
-    requires { RunRoom unitsize capacity len limit pre place (length samples.old) (level_of l1.old l2.old l3.old l4.old) (length ring.now) (length bytes.now) w d n }
-    ensures { Takes unitsize capacity len limit (w + (n - d)) (kept_bytes unitsize pre ring.now place w ++ drop (d * unitsize) bytes.now) samples.old (level_of l1.old l2.old l3.old l4.old) result samples.new (level_of l1.new l2.new l3.new l4.new) }
+) -> Option<usize>
+    requires { RunRoom f.now pushed.now (length samples.old) (level_of l1.old l2.old l3.old l4.old) (length ring.now) w d }
+    ensures { Takes f.now pushed.now.unitsize (w + (pushed.now.n - d)) (kept_bytes pushed.now.unitsize f.now.pre ring.now f.now.place w ++ drop (d * pushed.now.unitsize) pushed.now.bytes.now) samples.old (level_of l1.old l2.old l3.old l4.old) result samples.new (level_of l1.new l2.new l3.new l4.new) }
 {
-    let own = n - d;
-    if is_full(limit, len, capacity, w, own) {
-        return Taken::Full;
+    let own = pushed.n - d;
+    if is_full(f, w, own) {
+        return None;
     }
-    let run = run_of(limit, len, capacity, pre, place, w, own);
-    write_run(samples, l1, l2, l3, l4, ring, bytes, unitsize, len, run, d);
-    Taken::Count(run.count)
+    let run = run_of(f, w, own);
+    write_run(
+        samples,
+        l1,
+        l2,
+        l3,
+        l4,
+        f.capture.len,
+        ring,
+        pushed,
+        &run,
+        d,
+    );
+    Some(run.count)
 }
 
 // A run: `older` samples from slot `end` of the ring on, `newer` from slot `start` on, and `own` of the push.
@@ -63,60 +63,54 @@ struct Run {
 }
 
 // Row 8: w samples and then `own` have no room. A limit cuts them, and is within the capacity.
-fn is_full(limit: usize, len: usize, capacity: usize, w: usize, own: usize) -> bool
-    requires { Within limit len capacity }
-    ensures { result ≡ ltb capacity (len + room_for limit len (w + own)) }
+fn is_full(f: &Feeder, w: usize, own: usize) -> bool
+    requires { Within f.now }
+    ensures { result ≡ ltb f.now.capture.capacity (f.now.capture.len + room_for f.now.limit f.now.capture.len (w + own)) }
 {
-    if limit != 0 {
-        return false;
-    }
-    let room = capacity - len;
-    if room < w {
-        return true;
-    }
-    room - w < own
+    let room = f.capture.capacity - f.capture.len;
+    f.limit == 0 && (room < w || room - w < own)
 }
 
 // The places that are left.
-fn room_of(limit: usize, len: usize, capacity: usize) -> usize
-    requires { Within limit len capacity }
-    ensures { result ≡ room_of limit len capacity }
+fn room_of(f: &Feeder) -> usize
+    requires { Within f.now }
+    ensures { result ≡ room_of f.now }
 {
-    if limit == 0 {
-        return capacity - len;
-    }
-    limit - len
+    let end = if f.limit == 0 {
+        f.capture.capacity
+    } else {
+        f.limit
+    };
+    end - f.capture.len
 }
 
-// The w newest samples of a ring whose next slot is place, and `own` of the push: the first of them, as far as there is room.
-fn run_of(
-    limit: usize,
-    len: usize,
-    capacity: usize,
-    pre: usize,
-    place: usize,
-    w: usize,
-    own: usize,
-) -> Run
-    requires { Within limit len capacity × (w ≤ pre) }
-    ensures { RunIs (room_of limit len capacity) pre place w own result }
+// The w newest samples of the ring and `own` of the push: the first of them, as far as there is room.
+fn run_of(f: &Feeder, w: usize, own: usize) -> Run
+    requires { Within f.now × (w ≤ f.now.pre) }
+    ensures { RunIs (room_of f.now) f.now.pre f.now.place w own result }
 {
-    let room = room_of(limit, len, capacity);
-    let newest = lesser(w, place);
+    let room = room_of(f);
+    let newest = w.min(f.place);
     let oldest = w - newest;
-    let end = pre - oldest;
-    let start = place - newest;
-    let older = lesser(oldest, room);
-    let newer = lesser(newest, room - older);
-    let own = lesser(own, room - older - newer);
+    let older = oldest.min(room);
+    let newer = newest.min(room - older);
+    let own = own.min(room - older - newer);
     Run {
-        end,
+        end: f.pre - oldest,
         older,
-        start,
+        start: f.place - newest,
         newer,
         own,
         count: older + newer + own,
     }
+}
+
+// k samples of the bytes, from place `from` on.
+fn part<'a>(bytes: &'a [u8], unitsize: usize, from: usize, k: usize) -> &'a [u8]
+    requires { UnitSize unitsize × ((from + k) * unitsize ≤ length bytes.now) }
+    ensures { result.now ≡ take (k * unitsize) (drop (from * unitsize) bytes.now) }
+{
+    &bytes[from * unitsize..(from + k) * unitsize]
 }
 
 // The run is written behind the len stored samples; the push's own start at its sample d.
@@ -126,22 +120,16 @@ fn write_run(
     l2: &mut [Mask],
     l3: &mut [Mask],
     l4: &mut [Mask],
-    ring: &[u8],
-    bytes: &[u8],
-    unitsize: usize,
     len: usize,
-    run: Run,
+    ring: &[u8],
+    pushed: &Samples<'_>,
+    run: &Run,
     d: usize,
 )
-    requires { WriteRoom unitsize len run d (length samples.old) (level_of l1.old l2.old l3.old l4.old) (length ring.now) (length bytes.now) }
-    ensures { Stored unitsize len run.count (bytes_of unitsize ring.now bytes.now d run) samples.old (level_of l1.old l2.old l3.old l4.old) samples.new (level_of l1.new l2.new l3.new l4.new) }
+    requires { WriteRoom pushed.now.unitsize len run.now d (length samples.old) (level_of l1.old l2.old l3.old l4.old) (length ring.now) (length pushed.now.bytes.now) }
+    ensures { Stored pushed.now.unitsize len run.now.count (bytes_of pushed.now.unitsize ring.now pushed.now.bytes.now d run.now) samples.old (level_of l1.old l2.old l3.old l4.old) samples.new (level_of l1.new l2.new l3.new l4.new) }
 {
-    let a = run.end * unitsize;
-    let a_end = (run.end + run.older) * unitsize;
-    let b = run.start * unitsize;
-    let b_end = (run.start + run.newer) * unitsize;
-    let c = d * unitsize;
-    let c_end = (d + run.own) * unitsize;
+    let unitsize = pushed.unitsize;
     append_parts(
         samples,
         l1,
@@ -151,8 +139,8 @@ fn write_run(
         unitsize,
         len,
         run.count,
-        &ring[a..a_end],
-        &ring[b..b_end],
-        &bytes[c..c_end],
+        part(ring, unitsize, run.end, run.older),
+        part(ring, unitsize, run.start, run.newer),
+        part(pushed.bytes, unitsize, d, run.own),
     );
 }
