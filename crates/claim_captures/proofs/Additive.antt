@@ -7,7 +7,7 @@ use lib.ListN.{length}
 use Rattle.rules.specs.Search.{density}
 use Rattle.rules.specs.Cutting.{Rising, cut_end, parts_sum, borders_sum}
 use Rattle.rules.proofs.Density.{densities_add}
-use Rattle.density.specs.declared.Changes.TheVariants as changes
+use Rattle.std.specs.Prelude.{Ok}
 use Rattle.claim_captures.specs.Words.{at, AddUp}
 use Rattle.claim_captures.specs.Claim.{DensitiesAdd}
 use Rattle.claim_captures.proofs.Answers.{answers}
@@ -30,4 +30,4 @@ module _ (run : List ℕ) (part : ℕ → ℕ → ℕ) (is : (x y : ℕ) → x <
       ∙ sym (is a (cut_end first rest) (omega (arith, r.0, all.1)) h)
 
 pub additive : DensitiesAdd
-additive run mark c m h part may = add_up run part (λ x y l k. given_same _ _ (((answers c m h).density_is x y).is (changes.Count (part x y)) (may x y l k)))
+additive run mark c m h part may = add_up run part (λ x y l k. given_same _ _ (((answers c m h).density_is x y).is (Ok (part x y)) (may x y l k)))

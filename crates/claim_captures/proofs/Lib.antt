@@ -1,4 +1,5 @@
 pub mod Words
+pub mod Rows
 pub mod Answers
 pub mod Alike
 pub mod Additive

@@ -3,7 +3,7 @@
 -- says of the arguments, the answer, and the memory after the call.
 -- No range is asked of record, memory and the viewer's lines. In `LookAlike` a question's arguments range over what its parameters' types hold: nothing else can be asked.
 use Rattle.std.specs.Prelude.{◌≡◌, false, List, [], ◌∷◌, ◌↔◌, ℕ, ◌*◌, ◌≤◌, ◌<◌, length, take}
-use Rattle.std.specs.Prelude.{Option}
+use Rattle.std.specs.Prelude.{Option, Result, Ok}
 use contract.Lifetimes.{Lfts}
 use denote.Ref.{at_last}
 use Rattle.rules.specs.Sample.{Word, all_lines, sample_of, list_from, Within}
@@ -13,97 +13,89 @@ use Rattle.rules.specs.Burst.{burst_search}
 use Rattle.rules.specs.Pixel.{render, cut_pixels}
 use Rattle.rules.specs.Encoder.{Turns, encoder, pair_mask, pair_wrong, pair_row}
 use Rattle.rules.specs.Refusal.{first_of, store_refusal, get_row, copied, copy_row, view_rows, top_line}
-use Rattle.rules.specs.Answer.{Answer, refused, given, unless, seen}
+use Rattle.rules.specs.Answer.{Answer, given, unless, seen}
+use Rattle.answer.specs.declared.Refusal.{Refusal}
+use Rattle.answer.specs.declared.Counted.{Counted}
+use Rattle.answer.specs.Answered.{answer_of, told_of}
 use Rattle.node.specs.Memory.{Right}
+use Rattle.node.specs.declared.Node.{Node}
 use Rattle.capture.specs.declared.Capture.{Capture}
-use Rattle.capture.specs.declared.Got.{Got}
-use Rattle.capture.specs.declared.Copied.{Copied}
-use Rattle.capture.specs.declared.Copied.TheVariants as copies
 use Rattle.capture.specs.Record.{store_of, lent_of}
-use Rattle.capture.specs.Calls.{got_of}
 use Rattle.capture.proofs.get.Reads as get-call
 use Rattle.capture.proofs.samples.Reads as samples-call
-use Rattle.summary.specs.declared.Summed.{Summed}
 use Rattle.summary.specs.Summary.{summed_of}
 use Rattle.summary.proofs.summary.Reads as summary-call
-use Rattle.density.specs.declared.Changes.{Changes}
-use Rattle.density.specs.declared.Changes.TheVariants as changes
 use Rattle.density.specs.Density.{changes_of}
 use Rattle.density.proofs.density.Reads as density-call
-use Rattle.search.specs.declared.Found.{Found}
 use Rattle.search.specs.Answer.{found_of}
 use Rattle.search.proofs.next_change.Reads as next-change
 use Rattle.search.proofs.prev_change.Reads as prev-change
-use Rattle.burst.specs.declared.Bursts.{Bursts}
+use Rattle.burst.specs.declared.Burst.{Burst}
 use Rattle.burst.specs.Answer.{burst_as}
 use Rattle.burst.proofs.burst_at.Reads as burst-at
-use Rattle.encoder.specs.declared.Encoded.{Encoded}
+use Rattle.encoder.specs.declared.Turns as call
 use Rattle.encoder.specs.Answer.{encoded_of}
 use Rattle.encoder.proofs.encoder.Reads as encoder-call
 use Rattle.pixel.specs.declared.View.{View}
 use Rattle.pixel.specs.Ranges.{view_as}
-use Rattle.render.specs.declared.Drawn.{Drawn}
-use Rattle.render.specs.declared.Drawn.TheVariants as drawn
 use Rattle.render.proofs.render.Reads as render-call
 use Rattle.claim_captures.specs.Turns.{Replayed, Reversed}
 use Rattle.claim_captures.specs.Words.{Memory, levels, at, Same, OfUnit, AddUp, Answered, Usize, F64, Agree, Ref, Places, lending}
 
 -- ---- what each call may answer, by its contract; a question leaves what it was lent
-abbrev pub MayGet : Capture → Memory → ℕ → Got → Type 0
-MayGet c m i v = (κs : Lfts 2) × (p : Places) × get-call.Post κs (lending c p m (i, tt)) v (lending c p m (i, tt))
+abbrev pub MayGet : Capture → Memory → ℕ → Result ℕ Refusal → Type 0
+MayGet c m i v = (κs : Lfts 1) × (p : Places) × get-call.Post κs (lending c p m (i, tt)) v (lending c p m (i, tt))
 
-abbrev pub MaySummary : Capture → Memory → ℕ → ℕ → Summed → Type 0
-MaySummary c m a b v = (κs : Lfts 2) × (p : Places) × summary-call.Post κs (lending c p m (a, (b, tt))) v (lending c p m (a, (b, tt)))
+abbrev pub MaySummary : Capture → Memory → ℕ → ℕ → Result (Option Node) Refusal → Type 0
+MaySummary c m a b v = (κs : Lfts 1) × (p : Places) × summary-call.Post κs (lending c p m (a, (b, tt))) v (lending c p m (a, (b, tt)))
 
-abbrev pub MayDensity : Capture → Memory → ℕ → ℕ → Changes → Type 0
-MayDensity c m a b v = (κs : Lfts 2) × (p : Places) × density-call.Post κs (lending c p m (a, (b, tt))) v (lending c p m (a, (b, tt)))
+abbrev pub MayDensity : Capture → Memory → ℕ → ℕ → Result ℕ Refusal → Type 0
+MayDensity c m a b v = (κs : Lfts 1) × (p : Places) × density-call.Post κs (lending c p m (a, (b, tt))) v (lending c p m (a, (b, tt)))
 
-abbrev pub MayNext : Capture → Memory → ℕ → ℕ → Found → Type 0
-MayNext c m mask from v = (κs : Lfts 2) × (p : Places) × next-change.Post κs (lending c p m (mask, (from, tt))) v (lending c p m (mask, (from, tt)))
+abbrev pub MayNext : Capture → Memory → ℕ → ℕ → Result (Counted ℕ) Refusal → Type 0
+MayNext c m mask from v = (κs : Lfts 1) × (p : Places) × next-change.Post κs (lending c p m (mask, (from, tt))) v (lending c p m (mask, (from, tt)))
 
-abbrev pub MayPrevious : Capture → Memory → ℕ → ℕ → Found → Type 0
-MayPrevious c m mask from v = (κs : Lfts 2) × (p : Places) × prev-change.Post κs (lending c p m (mask, (from, tt))) v (lending c p m (mask, (from, tt)))
+abbrev pub MayPrevious : Capture → Memory → ℕ → ℕ → Result (Counted ℕ) Refusal → Type 0
+MayPrevious c m mask from v = (κs : Lfts 1) × (p : Places) × prev-change.Post κs (lending c p m (mask, (from, tt))) v (lending c p m (mask, (from, tt)))
 
-abbrev pub MayBurst : Capture → Memory → ℕ → ℕ → ℕ → ℕ → ℕ → Bursts → Type 0
+abbrev pub MayBurst : Capture → Memory → ℕ → ℕ → ℕ → ℕ → ℕ → Result (Counted Burst) Refusal → Type 0
 MayBurst c m mask sample gap tolerance budget v =
-    (κs : Lfts 2) × (p : Places)
+    (κs : Lfts 1) × (p : Places)
     × burst-at.Post κs (lending c p m (mask, (sample, (gap, (tolerance, (budget, tt)))))) v (lending c p m (mask, (sample, (gap, (tolerance, (budget, tt))))))
 
-abbrev pub MayEncoder : Capture → Memory → ℕ → ℕ → Encoded → Type 0
-MayEncoder c m a b v = (κs : Lfts 2) × (p : Places) × encoder-call.Post κs (lending c p m (a, (b, tt))) v (lending c p m (a, (b, tt)))
+abbrev pub MayEncoder : Capture → Memory → ℕ → ℕ → Result call.Turns Refusal → Type 0
+MayEncoder c m a b v = (κs : Lfts 1) × (p : Places) × encoder-call.Post κs (lending c p m (a, (b, tt))) v (lending c p m (a, (b, tt)))
 
 -- samples' answer, and the output after it
 pub record Copying : Type 0 where
-  pub answer : Copied
+  pub answer : Result ℕ Refusal
   pub output : List ℕ
 
 abbrev pub MaySamples : Capture → Memory → ℕ → ℕ → List ℕ → Copying → Type 0
 MaySamples c m start count output v =
-    (κs : Lfts 3) × (p : Places) × (o : Ref)
+    (κs : Lfts 2) × (p : Places) × (o : Ref)
     × samples-call.Post κs (lending c p m (start, (count, (at_last o output, tt)))) v.answer (lending c p m (start, (count, (at_last o v.output, tt))))
 
 -- 01's number of a refusal, or the samples: as many numbers of output as were copied
-abbrev pub samples_of : List ℕ → Copied → Answer (List ℕ)
-samples_of output (copies.Refused n) = refused n
-samples_of output (copies.Count k) = given (take k output)
+abbrev pub samples_of : List ℕ → Result ℕ Refusal → Answer (List ℕ)
+samples_of output r = answer_of (λ k. take k output) r
 
 abbrev pub samples_in : Copying → Answer (List ℕ)
 samples_in v = samples_of v.output v.answer
 
 -- render's answer, and the output after it
 pub record Drawing : Type 0 where
-  pub answer : Drawn
+  pub answer : Result Unit Refusal
   pub output : List ℕ
 
 abbrev pub MayRender : Capture → Memory → View → ℕ → List ℕ → Drawing → Type 0
 MayRender c m view width output v =
-    (κs : Lfts 3) × (p : Places) × (o : Ref)
+    (κs : Lfts 2) × (p : Places) × (o : Ref)
     × render-call.Post κs (lending c p m (view, (width, (at_last o output, tt)))) v.answer (lending c p m (view, (width, (at_last o v.output, tt))))
 
 -- 01's number of a refusal, or the pixels: the first 2 × width numbers of output
-abbrev pub pixels_of : ℕ → List ℕ → Drawn → Answer (List ℕ)
-pixels_of width output (drawn.Refused n) = refused n
-pixels_of width output drawn.Done = given (take (2 * width) output)
+abbrev pub pixels_of : ℕ → List ℕ → Result Unit Refusal → Answer (List ℕ)
+pixels_of width output r = answer_of (λ _. take (2 * width) output) r
 
 abbrev pub pixels_in : ℕ → Drawing → Answer (List ℕ)
 pixels_in width v = pixels_of width v.output v.answer
@@ -121,7 +113,7 @@ pub record Held (run : List ℕ) (mark : Option ℕ) (c : Capture) (m : Memory) 
 -- ---- answers
 -- each answer is 01's for the run. A search's count of nodes read is the steps of 01's walk over it (02, CR 3). Rows 1 and 2 refuse no question; 9 refuses get, 10 and 11, `view_rows`, render, and 11 samples
 pub record Answers (run : List ℕ) (c : Capture) (m : Memory) : Type 0 where
-  pub get_is : (i : ℕ) → Answered (MayGet c m i) got_of (unless (first_of (get_row (length run) i ∷ [])) (at run i))
+  pub get_is : (i : ℕ) → Answered (MayGet c m i) told_of (unless (first_of (get_row (length run) i ∷ [])) (at run i))
   pub samples_are : (start count : ℕ) (output : List ℕ)
       → Answered (MaySamples c m start count output) samples_in
       (unless (first_of (copy_row (length run) start count (length output) ∷ [])) (list_from (at run) start (copied (length run) start count)))
@@ -175,7 +167,7 @@ CapturesAlike =
 
 -- whatever the call answers of each stored range, `part`, adds up
 abbrev pub Additive : List ℕ → Capture → Memory → Type 0
-Additive run c m = (part : ℕ → ℕ → ℕ) → ((x y : ℕ) → x < y → y ≤ length run → MayDensity c m x y (changes.Count (part x y))) → AddUp run part
+Additive run c m = (part : ℕ → ℕ → ℕ) → ((x y : ℕ) → x < y → y ≤ length run → MayDensity c m x y (Ok (part x y))) → AddUp run part
 
 abbrev pub DensitiesAdd : Type 0
 DensitiesAdd = (run : List ℕ) (mark : Option ℕ) (c : Capture) (m : Memory) → Held run mark c m → Additive run c m
@@ -183,7 +175,7 @@ DensitiesAdd = (run : List ℕ) (mark : Option ℕ) (c : Capture) (m : Memory) �
 -- ---- 02, CR 6: encoders
 -- the call may answer t for lines a and b
 abbrev pub SaysTurns : Capture → Memory → ℕ → ℕ → Turns → Type 0
-SaysTurns c m a b t = (v : Encoded) × MayEncoder c m a b v × (encoded_of v ≡ given t)
+SaysTurns c m a b t = (v : Result call.Turns Refusal) × MayEncoder c m a b v × (encoded_of v ≡ given t)
 
 -- what it answers of a run, and of two runs of which one is the other in reverse
 abbrev pub EncodersReplay : Type 0

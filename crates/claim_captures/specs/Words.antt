@@ -8,6 +8,7 @@ use Rattle.rules.specs.SampleBytes.{Bytes}
 use Rattle.rules.specs.Cutting.{Rising, cut_end, parts_sum, borders_sum}
 use Rattle.claim_alike.specs.Alike as alike
 use Rattle.node.specs.Memory.{level_of}
+use Rattle.node.specs.declared.Memory as node
 
 -- ---- memory
 -- what is lent to a question
@@ -39,11 +40,15 @@ pub record Places : Type 0 where
 abbrev pub shown_at : {X : Type 0} → MutBor X → X → Bor X
 shown_at r x = record { ref_ptr = r.ref_ptr; now = x }
 
--- arguments of a call: its record, the samples and levels as they are lent, and the others
-abbrev pub lending : {A B : Type 0} → A → Places → Memory → B → A × (Shown × (Shown × (Shown × (Shown × (Shown × B)))))
-lending c p m others = (c, (shown_at p.samples m.samples, (shown_at p.l1 m.l1, (shown_at p.l2 m.l2, (shown_at p.l3 m.l3, (shown_at p.l4 m.l4, others))))))
+-- all of it, as a question takes it
+abbrev pub shown : Places → Memory → node.Memory
+shown p m = record { samples = shown_at p.samples m.samples; levels = record { l1 = shown_at p.l1 m.l1; l2 = shown_at p.l2 m.l2; l3 = shown_at p.l3 m.l3; l4 = shown_at p.l4 m.l4 } }
 
--- and those of a call that may change memory
+-- arguments of a call: its record, the memory that is lent, and the others
+abbrev pub lending : {A B : Type 0} → A → Places → Memory → B → A × (node.Memory × B)
+lending c p m others = (c, (shown p m, others))
+
+-- and those of a call that may change memory, slice by slice
 abbrev pub lending_mut : {A B : Type 0} → A → Places → Memory → B → A × (Ref × (Ref × (Ref × (Ref × (Ref × B)))))
 lending_mut c p m others = (c, (at_last p.samples m.samples, (at_last p.l1 m.l1, (at_last p.l2 m.l2, (at_last p.l3 m.l3, (at_last p.l4 m.l4, others))))))
 
