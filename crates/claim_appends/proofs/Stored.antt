@@ -20,8 +20,10 @@ use Rattle.rebuild.proofs.Right.{right_same}
 use Rattle.capture.specs.declared.Capture.{Capture}
 use Rattle.capture.specs.Record.{store_of, lent_of}
 use Rattle.capture.proofs.Answer.{unless_given}
-use Rattle.append.specs.declared.Appended.{Appended}
-use Rattle.append.specs.Append.{number_of, record_of, refusal_of, taken_of}
+use Rattle.std.specs.Prelude.{Result}
+use Rattle.answer.specs.declared.Refusal.{Refusal}
+use Rattle.answer.specs.Answered as answered
+use Rattle.append.specs.Append.{record_of, refusal_of, taken_of}
 use Rattle.append.proofs.Answer.{refused_full, refused_none, taken_none, taken_all}
 use Rattle.append.proofs.Theorems.{Called, equations, right_stays, old_stay, new_follow, lengths_stay}
 use Rattle.append.proofs.Theorems as call
@@ -36,7 +38,7 @@ use Rattle.claim_appends.specs.Claim.Appending.{stop, step}
 abbrev lent_as : Memory → call.Memory
 lent_as m = record { samples = m.samples; l1 = m.l1; l2 = m.l2; l3 = m.l3; l4 = m.l4 }
 
-called : (c : Capture) (m : Memory) (bytes : List ℕ) (v : Appended) (m' : Memory) → MayAppend c m bytes v m' → Called c (lent_as m) bytes v (lent_as m')
+called : (c : Capture) (m : Memory) (bytes : List ℕ) (v : Result Capture Refusal) (m' : Memory) → MayAppend c m bytes v m' → Called c (lent_as m) bytes v (lent_as m')
 called c m bytes v m' may = record {
   κs = may.0;
   s = at_last may.1.samples m.samples;
@@ -78,7 +80,7 @@ module _ (u capacity : ℕ) where
     samples_are : (i : ℕ) → i < length xs → sample_of u m.samples i ≡ at xs i
     right : Right (sample_of c.unitsize m.samples) c.len (levels m)
 
-  module _ (xs : List ℕ) (c : Capture) (m : Memory) (bytes : List ℕ) (v : Appended) (m' : Memory) (k : Kept xs c m) (may : MayAppend c m bytes v m') where
+  module _ (xs : List ℕ) (c : Capture) (m : Memory) (bytes : List ℕ) (v : Result Capture Refusal) (m' : Memory) (k : Kept xs c m) (may : MayAppend c m bytes v m') where
     call_of : Called c (lent_as m) bytes v (lent_as m')
     call_of = called c m bytes v m' may
 
@@ -104,7 +106,7 @@ module _ (u capacity : ℕ) where
     more = taken_of c m.samples (levels m) bytes
 
     -- the record afterwards, and the rows that it passes
-    grown_is : store_of (record_of v) ≡ store_of_lem (c.len + more)
+    grown_is : store_of (record_of c v) ≡ store_of_lem (c.len + more)
     grown_is = ap store_of (equations call_of).record_is ∙ (λ i. record { unit = (k.record_is i).unit; capacity = (k.record_is i).capacity; len = c.len + more; mark = (k.record_is i).mark })
 
     abbrev before : Sound (store_of c) (lent_of m.samples (levels m))
@@ -124,7 +126,7 @@ module _ (u capacity : ℕ) where
         same_need l = k.record_is
 
     -- the list zs is what is stored afterwards
-    kept_now : (zs : List ℕ) → length zs ≡ c.len + more → c.len + more ≤ c.capacity → ((i : ℕ) → i < length zs → sample_of u m'.samples i ≡ at zs i) → Kept zs (record_of v) m'
+    kept_now : (zs : List ℕ) → length zs ≡ c.len + more → c.len + more ≤ c.capacity → ((i : ℕ) → i < length zs → sample_of u m'.samples i ≡ at zs i) → Kept zs (record_of c v) m'
     kept_now zs e h f = record {
       record_is = grown_is ∙ ap store_of_lem (sym e);
       passes = subst⁻¹ (λ (st : Store). store_refusal st (lent_of m'.samples (levels m')) ≡ 0) grown_is (still h);
@@ -141,7 +143,7 @@ module _ (u capacity : ℕ) where
         rw (← unit_is, ← len_is) (new_follow call_of i (omega (arith, e, count_is))) ∙ sym (samples_at u bytes i l)
 
     abbrev Done : Bool → Type 0
-    Done b = Kept (cond b (xs ++ samples_of u bytes) xs) (record_of v) m' × (number_of v ≡ cond b 0 8)
+    Done b = Kept (cond b (xs ++ samples_of u bytes) xs) (record_of c v) m' × (answered.refusal_of v ≡ cond b 0 8)
 
     one_kept : Done (fits u capacity xs bytes)
     one_kept = go (dec_lt c.capacity (c.len + n))
@@ -150,7 +152,7 @@ module _ (u capacity : ℕ) where
         go (yes h) = subst⁻¹ Done (lt-leb (length xs + sample_count u bytes) capacity (omega (arith, capacity_is, len_is, count_is))) (kept_now xs (omega (arith, len_is, None)) (omega (arith, before.len_most, None)) old, (equations call_of).number_is ∙ sym full)
           where
             full : 8 ≡ number
-            full = refused_full c bytes m.samples (levels m) refl k.passes h
+            full = refused_full c bytes m.samples (levels m) (sym k.passes) h
 
             None : more ≡ 0
             None = taken_none c bytes m.samples (levels m) (λ z. omega (arith, full))
@@ -161,7 +163,7 @@ module _ (u capacity : ℕ) where
             )
           where
             passed : 0 ≡ number
-            passed = refused_none c bytes m.samples (levels m) refl k.passes (omega arith)
+            passed = refused_none c bytes m.samples (levels m) (sym k.passes) (omega arith)
 
             all : more ≡ n
             all = taken_all c bytes m.samples (levels m) (sym passed)

@@ -2,37 +2,36 @@
 -- question's answer are 01's for the samples that were taken. It is what raw samples that the tool loads rest on. 01: Store.
 -- The claim speaks of the calls' own contracts, as that of `claim_captures` does. No range is asked of channels, capacity and memory; an append is of bytes.
 use Rattle.std.specs.Prelude.{◌≡◌, Bool, cond, List, [], ◌∷◌, ◌++◌, ◌↔◌, ℕ, ◌+◌, leb, length}
-use Rattle.std.specs.Prelude.{None}
+use Rattle.std.specs.Prelude.{None, Result, Ok}
 use contract.Lifetimes.{Lfts}
 use Rattle.rules.specs.Sample.{unit_of, sample_count, samples_of}
 use Rattle.rules.specs.Refusal.{store_refusal, fresh}
+use Rattle.answer.specs.declared.Refusal.{Refusal}
+use Rattle.answer.specs.Answered.{refusal_of}
 use Rattle.capture.specs.declared.Capture.{Capture}
-use Rattle.capture.specs.declared.Started.{Started}
-use Rattle.capture.specs.declared.Started.TheVariants.{Store}
 use Rattle.capture.specs.Record.{store_of, lent_of}
 use Rattle.capture.proofs.start.Reads as start
-use Rattle.append.specs.declared.Appended.{Appended}
-use Rattle.append.specs.Append.{number_of, record_of}
+use Rattle.append.specs.Append.{record_of}
 use Rattle.append.proofs.append.Reads as append
 use Rattle.claim_captures.specs.Words.{Memory, levels, Same, AreBytes, Ref, Places, lending, lending_mut, shown_at}
 use Rattle.claim_captures.specs.Claim.{Held, Answers, LookAlike, Additive}
 
 -- ---- what start and append may answer, by their contracts
-abbrev pub MayStart : ℕ → ℕ → Memory → Started → Type 0
-MayStart channels capacity m v = (κs : Lfts 2) × (p : Places) × start.Post κs (channels, lending capacity p m tt) v (channels, lending capacity p m tt)
+abbrev pub MayStart : ℕ → ℕ → Memory → Result Capture Refusal → Type 0
+MayStart channels capacity m v = (κs : Lfts 1) × (p : Places) × start.Post κs (channels, lending capacity p m tt) v (channels, lending capacity p m tt)
 
 -- append may answer v and leave m'
-abbrev pub MayAppend : Capture → Memory → List ℕ → Appended → Memory → Type 0
+abbrev pub MayAppend : Capture → Memory → List ℕ → Result Capture Refusal → Memory → Type 0
 MayAppend c m bytes v m' = (κs : Lfts 6) × (p : Places) × (b : Ref) × append.Post κs (lending_mut c p m (shown_at b bytes, tt)) v (lending_mut c p m' (shown_at b bytes, tt))
 
 -- ---- lists of appends
 -- each gets the record and the whole memory as the last one left them; its number is 0, or that of its refusal
 pub data Appending : Capture → Memory → List (List ℕ) → List ℕ → Capture → Memory → Type 0 where
   stop : {c : Capture} {m : Memory} → Appending c m [] [] c m
-  step : {c : Capture} {m : Memory} {bytes : List ℕ} {v : Appended} {m' : Memory} {appends : List (List ℕ)} {numbers : List ℕ} {c'' : Capture} {m'' : Memory}
+  step : {c : Capture} {m : Memory} {bytes : List ℕ} {v : Result Capture Refusal} {m' : Memory} {appends : List (List ℕ)} {numbers : List ℕ} {c'' : Capture} {m'' : Memory}
       → MayAppend c m bytes v m'
-      → Appending (record_of v) m' appends numbers c'' m''
-      → Appending c m (bytes ∷ appends) (number_of v ∷ numbers) c'' m''
+      → Appending (record_of c v) m' appends numbers c'' m''
+      → Appending c m (bytes ∷ appends) (refusal_of v ∷ numbers) c'' m''
 
 -- the record that start gives, with the memory lent to it, whatever that holds; then a list of appends
 pub record Filling : Type 0 where
@@ -40,7 +39,7 @@ pub record Filling : Type 0 where
   pub capacity : ℕ
   pub before : Memory
   pub fresh : Capture
-  pub started : MayStart channels capacity before (Store fresh)
+  pub started : MayStart channels capacity before (Ok fresh)
   pub appends : List (List ℕ)
   pub are_bytes : AreBytes appends
   pub numbers : List ℕ
