@@ -1,4 +1,4 @@
--- The first place of a search, and the first one that a stretch touches, case by case.
+-- The first place that a stretch touches, stretch by stretch.
 use mathlib.Core.Path.{◌≡◌, refl, sym, ap, ◌∙◌}
 use mathlib.Core.Bool.{Bool, true, false, cond}
 use mathlib.Core.List.{List}

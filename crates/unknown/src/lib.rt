@@ -111,7 +111,7 @@ fn meets(back: bool, p: usize, stretch: &Range<usize>) -> Option<usize>
 }
 
 // The first one of any stretch.
-#[tactic(auto, using(crate::proofs::Meeting::met_start, crate::proofs::Meeting::met_next, crate::proofs::Meeting::met_stays))]
+#[tactic(auto, using(crate::proofs::Meeting::met_start, crate::proofs::Meeting::met_next))]
 fn met(known: &Known<'_>, back: bool, p: usize) -> Option<usize>
     ensures { result ≡ met back p (nth_stretch back known.now.list.now) (stretch_count known.now.list.now) }
 {
