@@ -29,11 +29,10 @@ module _ (n i : ℕ) (h : i < blocks_for n) where
 
 -- ---- tested: i blocks are good
 pub record Testing (n : ℕ) (blocks : List ℕ) (i : ℕ) : Type 0 where
-  pub inside : i ≤ blocks_for n
   pub same : good_blocks (blocks_for n) 1 n blocks ≡ good_blocks (blocks_for n - i) (i + 1) (n - i * payload_most) (drop (i * block_size) blocks)
 
 pub testing_starts : (n : ℕ) (blocks : List ℕ) → Testing n blocks 0
-testing_starts n blocks = record { inside = omega arith; same = ap₂ (λ (k m : ℕ). good_blocks k 1 m blocks) all whole }
+testing_starts n blocks = record { same = ap₂ (λ (k m : ℕ). good_blocks k 1 m blocks) all whole }
   where
     all : blocks_for n ≡ blocks_for n - 0
     all = omega arith
@@ -67,7 +66,7 @@ module _ {n : ℕ} {blocks : List ℕ} {i : ℕ} (t : Testing n blocks i) (h : i
     testing_fails f = sym (next ∙ ap (λ (b : Bool). b && rest) (sym this ∙ not-true x f))
 
     pub testing_on : not x ≡ false → Testing n blocks (i + 1)
-    testing_on f = record { inside = omega (arith, h); same = next ∙ ap (λ (b : Bool). b && rest) (sym this ∙ not-false x f) }
+    testing_on f = record { same = next ∙ ap (λ (b : Bool). b && rest) (sym this ∙ not-false x f) }
 
 pub testing_ends : {n : ℕ} {blocks : List ℕ} {i : ℕ} → Testing n blocks i → blocks_for n ≤ i → true ≡ good_blocks (blocks_for n) 1 n blocks
 unfolding good_blocks
@@ -81,12 +80,11 @@ abbrev others : ℕ → List ℕ → ℕ → List ℕ
 others n blocks i = take (n - i * payload_most) (payloads (blocks_for n - i) (drop (i * block_size) blocks))
 
 pub record Gathering (n : ℕ) (blocks samples₀ samples : List ℕ) (i : ℕ) : Type 0 where
-  pub inside : i ≤ blocks_for n
   pub size : length samples ≡ length samples₀
   pub same : paste samples (i * payload_most) (others n blocks i) (n - i * payload_most) ≡ paste samples₀ 0 (take n (payloads (blocks_for n) blocks)) n
 
 pub gathering_starts : (n : ℕ) (blocks samples : List ℕ) → Gathering n blocks samples samples 0
-gathering_starts n blocks samples = record { inside = omega arith; size = refl; same = ap₂ (λ (k m : ℕ). paste samples 0 (take m (payloads k blocks)) m) all whole }
+gathering_starts n blocks samples = record { size = refl; same = ap₂ (λ (k m : ℕ). paste samples 0 (take m (payloads k blocks)) m) all whole }
   where
     all : blocks_for n - 0 ≡ blocks_for n
     all = omega arith
@@ -149,7 +147,6 @@ module _ {n : ℕ} {blocks samples₀ samples : List ℕ} {i : ℕ} (g : Gatheri
 
     pub gathering_on : {samples' : List ℕ} → samples' ≡ paste samples to part (length part) → Gathering n blocks samples₀ samples' (i + 1)
     gathering_on {samples'} d = record {
-      inside = omega (arith, h);
       size = ap length d ∙ length-paste samples to part (length part) (omega (arith, copy_fits)) (omega arith) ∙ g.size;
       same =
           moved (dec_lt (n - to) payload_most)

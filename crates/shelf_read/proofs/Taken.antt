@@ -1,16 +1,16 @@
 -- Reading: the samples of a good file in a new store's memory, and what is left where a row refuses.
 use mathlib.Core.Path.{◌≡◌, sym, ap, ◌∙◌, subst, subst⁻¹}
-use mathlib.Core.Bool.{false}
+use mathlib.Core.Bool.{true, false}
 use mathlib.Core.List.{List}
-use Prim.Native.Nat.{ℕ, ◌-◌, ◌*◌, ◌≤◌}
+use Prim.Native.Nat.{ℕ, zero, suc, ◌-◌, ◌*◌, ◌≤◌}
 use native.Mathlib.Nat.{mul-le-mul, zero-mul}
 use native.Mathlib.Omega.{arith}
 use lib.ListN.{length, take, drop, length-take, length-drop}
 use lib.Seq.{paste, take_all}
 use Rattle.rules.specs.Refusal.{Store, Lent, most_samples, lent_short}
 use Rattle.rules.specs.Block.{block_size}
-use Rattle.rules.specs.Shelf.{Heading, blocks_for, heading_in, payloads, bytes_in}
-use Rattle.rules.specs.ShelfCalls.{store_in, read_refusal}
+use Rattle.rules.specs.Shelf.{Heading, blocks_for, heading_in, payloads, bytes_in, file_test}
+use Rattle.rules.specs.ShelfCalls.{capacity_wrong, store_in, read_refusal}
 use Rattle.rules.proofs.Refusal.{Sound, rows_then}
 use Rattle.rules.proofs.ShelfHead.{Headed, heading_headed}
 use Rattle.rules.proofs.Shelf.{passed, headed_store}
@@ -19,13 +19,17 @@ use Rattle.store.specs.Stored.{LevelsAfter, Stored}
 use Rattle.store.proofs.Fits.{sound_room}
 use Rattle.store.proofs.Stored.{stored_none}
 use Rattle.capture.specs.declared.Capture.{Capture}
-use Rattle.capture.specs.declared.Started.TheVariants as started
 use Rattle.capture.specs.Record.{store_of, lent_of}
-use Rattle.capture.proofs.Answer.{refused_is, given_is}
+use Rattle.std.specs.Prelude.{Ok, Err}
+use Rattle.answer.specs.declared.Refusal.{Refusal}
+use Rattle.answer.specs.Answered.{number}
+use Rattle.answer.proofs.Answered.{number_least}
+use Rattle.rules.specs.Answer.{refused, given, unless}
+use Rattle.capture.proofs.Answer.{unless_given}
 use Rattle.capture.proofs.Calls.{unrefused_none, unrefused_all}
 use Rattle.shelf_head.specs.Head.{BlocksRoom}
-use Rattle.shelf_read.specs.Read.{TakeRoom, bytes_behind, Reads}
-use Rattle.shelf_read.proofs.Tested.{LetIn}
+use Rattle.shelf_read.specs.Read.{room_refusal, TakeRoom, bytes_behind, Reads}
+use Rattle.shelf_read.proofs.Tested.{LetIn, let_in, last_row}
 
 -- ---- the samples taken
 module _ {st : Store} {file samples : ℕ} {levels : ℕ → List ℕ} (r : TakeRoom st file samples levels) where
@@ -75,6 +79,11 @@ module _ {capacity : ℕ} (samples : List ℕ) {levels : ℕ → List ℕ} {h : 
       }
 
 -- ---- the call
+-- a refusal of an answer is its row
+unless_refused : {A : Type 0} (a : A) (n k : ℕ) → refused k ≡ unless n a → k ≡ n
+unless_refused a zero k e = absurd (let z : ◌≡◌ {A = ℕ} 0 1 = cc in omega (arith, z))
+unless_refused a (suc n) k e = cc
+
 module _ (capacity : ℕ) (file samples : List ℕ) (levels : ℕ → List ℕ) where
   abbrev h : Heading
   h = heading_in file
@@ -87,16 +96,33 @@ module _ (capacity : ℕ) (file samples : List ℕ) (levels : ℕ → List ℕ) 
   take_room r st e = subst⁻¹ (λ (x : Store). TakeRoom x (length file) (length samples) levels) e
       (record { room = new_room samples (heading_headed file (passed file r.passed).0) r.capacity_least r.capacity_most r.len_most r.enough; size = (passed file r.passed).1 })
 
-  module _ {n : ℕ} (e : n ≡ read_refusal capacity lent file) where
-    pub reads_refused : (n ≡ 0 → ⊥) → Reads capacity file samples levels (started.Refused n) samples levels
-    reads_refused z = record { answer_is = refused_is _ e z; memory = stored_none h.unit 0 _ (bytes_in file) samples levels (unrefused_none e z h.len) }
+  abbrev room : ℕ
+  room = room_refusal capacity lent h
 
-    pub reads_done : n ≡ 0 → (c : Capture) → store_of c ≡ store_in capacity h → {samples' : List ℕ} {levels' : ℕ → List ℕ}
-        → Stored c.unitsize 0 c.len (bytes_behind (c.len * c.unitsize) file) samples levels samples' levels' → Reads capacity file samples levels (started.Store c) samples' levels'
-    unfolding bytes_in
-    reads_done z c s {samples'} {levels'} d = record {
-      answer_is = given_is _ e z s;
-      memory =
-          subst⁻¹ (λ (k : ℕ). Stored h.unit 0 k (bytes_in file) samples levels samples' levels') (unrefused_all e z h.len)
-          (subst (λ (x : Store). Stored x.unit 0 x.len (bytes_behind (x.len * x.unit) file) samples levels samples' levels') s d);
+  -- past the first two rows, by what was given of a new store
+  module _ (right : false ≡ capacity_wrong capacity) (good : true ≡ file_test file) where
+    decides : room ≡ read_refusal capacity lent file
+    decides = last_row capacity lent file (sym right) (sym good)
+
+    pub reads_short : (r : Refusal) → refused (number r) ≡ unless room (store_in capacity h) → Reads capacity file samples levels (Err r) samples levels
+    reads_short r e = record {
+      answer_is = e ∙ ap (λ (n : ℕ). unless n (store_in capacity h)) decides;
+      memory = stored_none h.unit 0 _ (bytes_in file) samples levels (unrefused_none (unless_refused _ _ _ e ∙ decides) (λ z. omega (arith, number_least r)) h.len);
     }
+
+    module _ (c : Capture) (made : given (store_of c) ≡ unless room (store_in capacity h)) where
+      passes : (room ≡ 0) × (store_in capacity h ≡ store_of c)
+      passes = unless_given (store_in capacity h) room (store_of c) (sym made)
+
+      pub takes : TakeRoom (store_of c) (length file) (length samples) levels
+      takes = take_room (let_in capacity lent file (sym decides ∙ passes.0)) (store_of c) (sym passes.1)
+
+      pub reads_done : {samples' : List ℕ} {levels' : ℕ → List ℕ}
+          → Stored c.unitsize 0 c.len (bytes_behind (c.len * c.unitsize) file) samples levels samples' levels' → Reads capacity file samples levels (Ok c) samples' levels'
+      unfolding bytes_in
+      reads_done {samples'} {levels'} d = record {
+        answer_is = made ∙ ap (λ (n : ℕ). unless n (store_in capacity h)) decides;
+        memory =
+            subst⁻¹ (λ (k : ℕ). Stored h.unit 0 k (bytes_in file) samples levels samples' levels') (unrefused_all decides passes.0 h.len)
+            (subst (λ (x : Store). Stored x.unit 0 x.len (bytes_behind (x.len * x.unit) file) samples levels samples' levels') (sym passes.1) d);
+      }

@@ -1,22 +1,19 @@
 -- What reading answers and leaves. 02: CR 7.
-use Rattle.std.specs.Prelude.{◌≡◌, Bool, not, List, [], ◌∷◌, ℕ, take, drop}
+use Rattle.std.specs.Prelude.{◌≡◌, List, [], ◌∷◌, ℕ, take, drop, Result}
 use Rattle.rules.specs.Refusal.{Store, Lent, first_of}
 use Rattle.rules.specs.Block.{block_size}
 use Rattle.rules.specs.Shelf.{Heading, heading_of, blocks_for, file_len, heading_in, payloads, bytes_in}
 use Rattle.rules.specs.ShelfCalls.{store_short, read_answer, read_count}
 use Rattle.store.specs.Room.{StoreRoom}
 use Rattle.store.specs.Stored.{Stored}
-use Rattle.capture.specs.declared.Started.{Started}
-use Rattle.capture.specs.Record.{lent_of}
-use Rattle.capture.specs.Calls.{started_of}
+use Rattle.answer.specs.declared.Refusal.{Refusal}
+use Rattle.answer.specs.Answered.{answer_of}
+use Rattle.capture.specs.declared.Capture.{Capture}
+use Rattle.capture.specs.Record.{store_of, lent_of}
 
 -- the last row of a reading and of a salvaging: no store of this capacity and memory holds what block 0 says
 abbrev pub room_refusal : ℕ → Lent → Heading → ℕ
 room_refusal capacity lent h = first_of (record { number = 15; holds = store_short capacity lent h } ∷ [])
-
--- the rows of a new store for a file: 1, the file's own number, 15
-abbrev pub file_rows : ℕ → Bool → Bool → Bool → ℕ
-file_rows number wrong good short = first_of (record { number = 1; holds = wrong } ∷ record { number = number; holds = not good } ∷ record { number = 15; holds = short } ∷ [])
 
 -- n bytes of samples behind block 0
 abbrev pub bytes_behind : ℕ → List ℕ → List ℕ
@@ -28,6 +25,6 @@ pub record TakeRoom (st : Store) (file samples : ℕ) (levels : ℕ → List ℕ
   pub size : file ≡ file_len (heading_of st)
 
 -- a call of read, over any memory: its answer, and the memory that it leaves, which is what append of all the file's samples to the fresh store leaves
-pub record Reads (capacity : ℕ) (file samples : List ℕ) (levels : ℕ → List ℕ) (r : Started) (samples' : List ℕ) (levels' : ℕ → List ℕ) : Type 0 where
-  pub answer_is : started_of r ≡ read_answer capacity (lent_of samples levels) file
+pub record Reads (capacity : ℕ) (file samples : List ℕ) (levels : ℕ → List ℕ) (r : Result Capture Refusal) (samples' : List ℕ) (levels' : ℕ → List ℕ) : Type 0 where
+  pub answer_is : answer_of store_of r ≡ read_answer capacity (lent_of samples levels) file
   pub memory : Stored (heading_in file).unit 0 (read_count capacity (lent_of samples levels) file) (bytes_in file) samples levels samples' levels'
