@@ -1,5 +1,6 @@
 // The answer to a line, and whether it is the recorded one.
 use crate::numbers::number;
+use answer::Refusal;
 use lines::Mask;
 
 // A refusal's number or 0, how many values there are, the values, and how many numbers of the output follow.
@@ -79,4 +80,14 @@ fn end_of(line: &[u8], at: usize, a: Answer, output: &[Mask]) -> Option<usize> {
 // The line goes on with this answer and ends.
 pub fn agrees(line: &[u8], at: usize, a: Answer, output: &[Mask]) -> bool {
     end_of(line, at, a, output) == Some(line.len())
+}
+
+// A refusal's number, or what is said of the value.
+pub fn told<T, F: FnOnce(T) -> Answer + Drop>(outcome: Result<T, Refusal>, say: F) -> Answer
+    requires { F.IsAlwaysCallable say }
+{
+    match outcome {
+        Ok(value) => say(value),
+        Err(refusal) => refused(refusal.number()),
+    }
 }
