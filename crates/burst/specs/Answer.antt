@@ -17,9 +17,9 @@ use Rattle.capture.specs.declared.Capture.{Capture}
 use Rattle.capture.specs.declared.stored.Stored.{Stored}
 use Rattle.capture.specs.Record.{store_of, lent_of}
 use Rattle.burst.specs.declared.Burst.{Burst}
-use Rattle.burst.specs.declared.Changes.{Changes}
-use Rattle.burst.specs.declared.End.{End}
-use Rattle.burst.specs.declared.Pair.{Pair}
+use Rattle.burst.specs.declared.changes.Changes.{Changes}
+use Rattle.burst.specs.declared.changes.End.{End}
+use Rattle.burst.specs.declared.pair.Pair.{Pair}
 
 -- what is found, and the nodes read for it
 abbrev pub counted : {A : Type 0} → Option A → ℕ → walk.Counted A

@@ -2,7 +2,7 @@
 use Rattle.std.proofs.Common.{arith, sym, ◌∙◌}
 use Rattle.burst.proofs.Bounds.{end_read}
 use Rattle.burst.proofs.Jumps.{jumping_starts, jumping_read, jumping_none, jumping_near, jumping_on, jumping_spent}
-use Rattle.burst.proofs.Changes.end.Goals as goal
+use Rattle.burst.proofs.changes.Changes.end.Goals as goal
 
 pub loop-jumps-init : goal.loop-jumps-init
 loop-jumps-init c = jumping_starts _ _ c.args.budget c.args.from
