@@ -46,9 +46,6 @@ module _ {w : Way} {mask : ℕ} {whole : Walked} {count p cap v : ℕ} (g : Goin
   one_less : 0 < w.left p → suc (g.fuel - 1) ≡ g.fuel
   one_less h = omega (arith, g.enough)
 
-  pub going_counts : count ≤ whole.steps
-  going_counts = omega (arith, ap (λ (r : Walked). r.steps) g.same)
-
   pub going_end : w.left p ≡ 0 → told None count ≡ whole
   going_end h = sym (from_end count) ∙ sym (ap (counted_from count) (walk_ended w mask (suc g.fuel) p cap v h)) ∙ g.same
 

@@ -1,7 +1,7 @@
 -- The next few samples, none of them at a border of a level above 0, are a stretch of level 0 of the walk in their chunk.
 use Prim.Native.Nat.{ℕ, ◌+◌, ◌-◌, ◌*◌, ◌%◌, ◌≤◌, ◌<◌, min}
 use mathlib.Core.Path.{◌≡◌, refl, sym, ap, ap₂, ◌∙◌, subst}
-use mathlib.Core.Bool.{Bool, true, false, cond, true≢false, false≢true}
+use mathlib.Core.Bool.{Bool, true, false, cond}
 use mathlib.Core.List.{List}
 use Rattle.std.specs.Prelude.{None, Some}
 use native.Mathlib.Nat.{div-one}
@@ -10,13 +10,9 @@ use native.Mathlib.Omega.{arith}
 use borrow.Author.Tests.{eq-eqb, ne_eqb, lt-ltb, le-ltb}
 use Rattle.rules.specs.Node.{mirror, chunk, top_level}
 use Rattle.rules.specs.Walk.{Walked, nothing, walk_from}
-use Rattle.node.specs.Lent.{levels_of}
+use Rattle.node.specs.Memory.{reader_of}
 use Rattle.node.proofs.NodeMemory.{reads_sample}
-use Rattle.capture.specs.Backed.{Bytes}
-use Rattle.capture.specs.Stored.{reader_in}
-use Rattle.capture.specs.declared.stored.Stored.{Stored}
-use Rattle.capture.proofs.Backed.{sample_held}
-use Rattle.find.specs.Run.{nth_node, NthHeld, RunHeld, Run}
+use Rattle.find.specs.Run.{nth_node, Run}
 use Rattle.find.specs.Way.{way_in, moved, left_in, to_border}
 use Rattle.find.specs.Near.{few, few_stored, leaf_in, found_after, Near}
 use Rattle.find.proofs.Going.{told, going_starts}
@@ -47,29 +43,21 @@ free back p n h = go (ℕ_discrete (p % 32) 0)
     go (yes z) = let e : few back p ≡ 0 = ap (λ (b : Bool). cond b 0 (min (to_border back p) 8)) (eq-eqb _ _ z) in record { between = λ i _. omega arith; border = omega arith }
     go (no z) = let e : few back p ≡ min (to_border back p) 8 = ap (λ (b : Bool). cond b 0 (min (to_border back p) 8)) (ne_eqb _ _ z) in record { between = λ _. z; border = omega arith }
 
--- what few asks of memory
-pub few_held : {unit len : ℕ} {samples : List ℕ} → Bytes unit len samples → len < 18446744073709551616 → (back : Bool) (p : ℕ) → p ≤ len → (level : List ℕ) → RunHeld unit samples level 0 back p (few_stored back len p)
-few_held {unit} {len} {samples} bytes small back p hp level = record { each = λ k h. each k h back (omega arith) }
-  where
-    each : (k : ℕ) → k < few_stored back len p → (b : Bool) → few_stored back len p ≤ left_in b 0 len p → NthHeld unit samples level 0 b p k
-    each k h true i = record { behind = λ _. omega arith; ahead = λ z. absurd (true≢false z); held = record { sample = λ _. sample_held bytes (p - (k + 1)) (omega arith); node = λ z. absurd (z refl) } }
-    each k h false i = record { behind = λ z. absurd (false≢true z); ahead = λ _. omega arith; held = record { sample = λ _. sample_held bytes (p + k) (omega arith); node = λ z. absurd (z refl) } }
-
-module _ (s : Stored) (back : Bool) (p : ℕ) (hp : p ≤ s.len) where
+module _ (unit len : ℕ) (samples : List ℕ) (back : Bool) (p : ℕ) (hp : p ≤ len) where
   abbrev n : ℕ
-  n = few_stored back s.len p
+  n = few_stored back len p
 
-  module _ (mask v k u : ℕ) (r : Run (nth_node back (leaf_in s.unitsize s.memory.samples.now) p) mask v n k u) (h : k < n) where
-    module _ (c : ℕ) (low : c * chunk ≤ p) (high : p ≤ (c + 1) * chunk) where
+  module _ (mask v k u : ℕ) (r : Run (nth_node back (leaf_in unit samples) p) mask v n k u) (h : k < n) where
+    module _ (levels : ℕ → List ℕ) (c : ℕ) (low : c * chunk ≤ p) (high : p ≤ (c + 1) * chunk) where
       abbrev hi : ℕ
-      hi = min ((c + 1) * chunk) s.len
+      hi = min ((c + 1) * chunk) len
 
-      inside : (b : Bool) → n ≤ left_in b 0 s.len p → n ≤ to_border b p → n ≤ left_in b (c * chunk) hi p
+      inside : (b : Bool) → n ≤ left_in b 0 len p → n ≤ to_border b p → n ≤ left_in b (c * chunk) hi p
       inside true i j = let z : p % 32 ≡ 0 → ⊥ = (free back p n (omega arith)).between (omega arith) in omega arith
       inside false i j = let z : p % 32 ≡ 0 → ⊥ = (free back p n (omega arith)).between (omega arith) in omega arith
 
-      found_there : found_after back p k ≡ walk_from (way_in back (reader_in s) (c * chunk) hi) mask p v
-      found_there = ap₂ (λ (x n : ℕ). told (Some (moved back p x)) n) place counts ∙ run_found (going_starts (way_in back (reader_in s) (c * chunk) hi) mask p v) (stretch_line back (reader_in s) (c * chunk) hi p (left_in back (c * chunk) hi p) top_level 0 1 n placed taken (nth_node back (leaf_in s.unitsize s.memory.samples.now) p) (λ j _. reads j back)) r h refl
+      found_there : found_after back p k ≡ walk_from (way_in back (reader_of unit samples levels) (c * chunk) hi) mask p v
+      found_there = ap₂ (λ (x n : ℕ). told (Some (moved back p x)) n) place counts ∙ run_found (going_starts (way_in back (reader_of unit samples levels) (c * chunk) hi) mask p v) (stretch_line back (reader_of unit samples levels) (c * chunk) hi p (left_in back (c * chunk) hi p) top_level 0 1 n placed taken (nth_node back (leaf_in unit samples) p) (λ j _. reads j back)) r h refl
         where
           place : k ≡ k * 1
           place = omega arith
@@ -91,18 +79,18 @@ module _ (s : Stored) (back : Bool) (p : ℕ) (hp : p ≤ s.len) where
             fits = omega (arith, fits);
           }
 
-          reads : (j : ℕ) (b : Bool) → nth_node b (leaf_in s.unitsize s.memory.samples.now) p j ≡ (way_in b (reader_in s) (c * chunk) hi).node 0 (moved b p (j * 1))
-          reads j true = ap mirror (ap (leaf_in s.unitsize s.memory.samples.now) (omega arith) ∙ sym (reads_sample s.unitsize s.memory.samples.now (levels_of s.memory.levels) 0 (p - j * 1 - 1) refl))
-          reads j false = ap (leaf_in s.unitsize s.memory.samples.now) (omega arith) ∙ sym (reads_sample s.unitsize s.memory.samples.now (levels_of s.memory.levels) 0 (p + j * 1) refl)
+          reads : (j : ℕ) (b : Bool) → nth_node b (leaf_in unit samples) p j ≡ (way_in b (reader_of unit samples levels) (c * chunk) hi).node 0 (moved b p (j * 1))
+          reads j true = ap mirror (ap (leaf_in unit samples) (omega arith) ∙ sym (reads_sample unit samples levels 0 (p - j * 1 - 1) refl))
+          reads j false = ap (leaf_in unit samples) (omega arith) ∙ sym (reads_sample unit samples levels 0 (p + j * 1) refl)
 
-  -- what is found is what the walk in p's chunk finds, in as many steps, whatever memory holds
-  pub near_finds : {mask v : ℕ} {answer : Walked} → Near s.unitsize s.len s.memory.samples.now back mask p v answer → (answer.found ≡ None → ⊥) → (c : ℕ) → c * chunk ≤ p → p ≤ (c + 1) * chunk
-      → answer ≡ walk_from (way_in back (reader_in s) (c * chunk) (min ((c + 1) * chunk) s.len)) mask p v
-  near_finds {mask} {v} {answer} r t c low high = go (dec_lt r.count n)
+  -- what is found is what the walk in p's chunk finds, in as many steps, whatever levels hold
+  pub near_finds : {mask v : ℕ} {answer : Walked} → Near unit len samples back mask p v answer → (answer.found ≡ None → ⊥) → (levels : ℕ → List ℕ) (c : ℕ) → c * chunk ≤ p → p ≤ (c + 1) * chunk
+      → answer ≡ walk_from (way_in back (reader_of unit samples levels) (c * chunk) (min ((c + 1) * chunk) len)) mask p v
+  near_finds {mask} {v} {answer} r t levels c low high = go (dec_lt r.count n)
     where
       answers : Bool → Walked
       answers b = cond b (found_after back p r.count) nothing
 
-      go : Dec (r.count < n) → answer ≡ walk_from (way_in back (reader_in s) (c * chunk) (min ((c + 1) * chunk) s.len)) mask p v
-      go (yes h) = r.answer_is ∙ ap answers (lt-ltb r.count n h) ∙ found_there mask v r.count r.value r.passed h c low high
+      go : Dec (r.count < n) → answer ≡ walk_from (way_in back (reader_of unit samples levels) (c * chunk) (min ((c + 1) * chunk) len)) mask p v
+      go (yes h) = r.answer_is ∙ ap answers (lt-ltb r.count n h) ∙ found_there mask v r.count r.value r.passed h levels c low high
       go (no h) = absurd (t (ap (λ (w : Walked). w.found) (r.answer_is ∙ ap answers (le-ltb r.count n (omega arith)))))

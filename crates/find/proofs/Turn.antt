@@ -5,7 +5,6 @@ use mathlib.Core.Bool.{Bool, true, false}
 use mathlib.Core.List.{List}
 use Rattle.std.specs.Prelude.{None, Some}
 use native.Mathlib.Nat.{mul-le-mul_right}
-use native.Mathlib.Decide.{ℕ_discrete}
 use native.Mathlib.Omega.{arith}
 use Rattle.rules.specs.Node.{Node, span, top_level, chunk}
 use Rattle.rules.specs.Walk.{Walked, walk_from}
@@ -13,11 +12,11 @@ use Rattle.rules.proofs.Walk.{span_pos}
 use Rattle.rules.proofs.Steps.{walk_steps_le}
 use Rattle.level.specs.Best.{Best}
 use Rattle.find.specs.Part.{reader_from, PartBacked}
-use Rattle.find.specs.Run.{node_at, nth_node, RunHeld, Run}
+use Rattle.find.specs.Run.{node_at, nth_node, RunHeld}
 use Rattle.find.specs.Way.{way_in, moved, left_in, to_border, number_in}
 use Rattle.find.specs.Takes.{Takes}
-use Rattle.find.proofs.Going.{told, Going, going_starts, going_counts, going_end}
-use Rattle.find.proofs.Way.{Placed, room_most, placed_moved, moves_fit, Stretch, stretch_of, stretch_some, left_is}
+use Rattle.find.proofs.Going.{told, Going, going_starts, going_end}
+use Rattle.find.proofs.Way.{Placed, placed_moved, moves_fit, Stretch, stretch_of, stretch_some, left_is}
 use Rattle.find.proofs.Line.{Line, run_past, run_found, run_lower, stretch_line}
 use Rattle.find.proofs.Parts.{run_reads, run_held}
 
@@ -29,14 +28,6 @@ module _ (back : Bool) (unit base hi : ℕ) (part : List ℕ) (levels : ℕ → 
   take_held r low high top m =
       subst₂ (λ (t : List ℕ) (f : ℕ). RunHeld unit part t l back f n) (sym el) (sym ef)
       (run_held back base hi pos room cap l s n (record { low = low; high = high; room_is = e }) (stretch_of back pos room cap l s n b es en) unit part levels r (omega (arith, b.below)) m)
-
-  pub taken : (mask v k u : ℕ) → Run (nth_node back (node_at unit part level l) from) mask v n k u → Takes back unit base hi part levels mask pos cap v l s n k u
-  taken mask v k u r = record {
-    best = subst (λ (y : ℕ). Best pos y cap l) e b;
-    span_is = es;
-    asked = en ∙ ap (λ (y : ℕ). min (to_border back (pos / s)) (y / s)) e;
-    passed = subst₂ (λ (t : List ℕ) (f : ℕ). Run (nth_node back (node_at unit part t l) f) mask v n k u) el ef r;
-  }
 
 -- ---- the loop
 -- the walk in a chunk has few steps, whatever memory holds
@@ -86,26 +77,12 @@ module _ {back : Bool} {unit base hi : ℕ} {part : List ℕ} {levels : ℕ → 
     pub turn_room : k * s ≤ room
     turn_room = omega (arith, stretch.fits, mul-le-mul_right {m = k} {n = n} s t.passed.most)
 
-    pub turn_most : k * s ≤ hi
-    turn_most = omega (arith, turn_room, room_most back base hi pos room x.placed)
-
     pub turn_moves : hi < 18446744073709551616 → (back ≡ true → k * s ≤ pos) × (back ≡ false → pos + k * s < 18446744073709551616)
     turn_moves m = moves_fit back base hi pos room x.placed (k * s) turn_room m
 
     -- where all are passed, at least one sample is
     pub turn_some : n ≤ k → 1 ≤ k * s
     turn_some h = omega (arith, t.span_is, span_pos l, mul-le-mul_right {m = 1} {n = k} s (omega (arith, some_asked)))
-
-    -- the nodes passed count, and so does one that is not
-    pub turn_counts : count + k ≤ chunk + 5
-    turn_counts = omega (arith, x.few_steps, going_counts (run_past x.going line t.passed))
-
-    pub turn_stops : k < n → count + k + 1 ≤ chunk + 5
-    turn_stops h = go (ℕ_discrete l 0)
-      where
-        go : Dec (l ≡ 0) → count + k + 1 ≤ chunk + 5
-        go (yes z) = omega (arith, x.few_steps, ap (λ (r : Walked). r.steps) (run_found x.going line t.passed h z))
-        go (no z) = omega (arith, x.few_steps, going_counts (run_lower x.going line t.passed h t.best.below z))
 
     module _ {q : ℕ} (eq : q ≡ moved back pos (k * s)) where
       placed_there : Placed back base hi q (room - k * s)

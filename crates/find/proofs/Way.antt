@@ -19,13 +19,6 @@ pub record Placed (back : Bool) (base hi pos room : ℕ) : Type 0 where
   pub room_is : room ≡ left_in back base hi pos
 
 module _ (back : Bool) (base hi pos room : ℕ) where
-  pub room_most : Placed back base hi pos room → room ≤ hi
-  room_most p = go back p.high p.room_is
-    where
-      go : (b : Bool) → pos ≤ hi → room ≡ left_in b base hi pos → room ≤ hi
-      go true j e = omega arith
-      go false j e = omega arith
-
   -- it can move
   pub moves_fit : Placed back base hi pos room → (d : ℕ) → d ≤ room → hi < 18446744073709551616 → (back ≡ true → d ≤ pos) × (back ≡ false → pos + d < 18446744073709551616)
   moves_fit p d h m = go back p.low p.high p.room_is

@@ -30,7 +30,7 @@ struct Passed {
     value: Mask,
 }
 
-// The nodes of one level; those of level 0 are the samples, of a part or of a whole capture, and then `level` is any level's slice.
+// The nodes of one level; those of level 0 are the samples, of a part or of a whole capture, and then `level` is not read.
 #[derive(Clone, Copy)]
 pub struct Row<'a> {
     pub unitsize: usize,
@@ -213,10 +213,9 @@ fn few(back: bool, pos: usize) -> usize
 
 // The find of a capture of len samples, where it is one of the next few: with dense changes nothing more is looked at.
 // What it finds is the walk's, and so is the count (proofs/Samples.antt, near_finds); where it finds nothing the walk starts anew, and it
-// counts nothing. It asks for the samples' bytes alone; level is any level's slice.
+// counts nothing. It asks for the samples' bytes alone.
 pub fn near(
     samples: &[u8],
-    level: &[Mask],
     unitsize: usize,
     len: usize,
     back: bool,
@@ -230,7 +229,7 @@ pub fn near(
     let row = Row {
         unitsize,
         samples,
-        level,
+        level: &[],
         l: 0,
     };
     let n = few(back, start).min(left(back, 0, len, start));

@@ -1,11 +1,11 @@
--- Questions with nothing to search; and the answers of a capture that is opened, or not.
-use Prim.Native.Nat.{ℕ, ◌+◌, ◌-◌, ◌/◌, ◌≤◌, min}
+-- Where a search back starts, and the answers of a capture that is opened.
+use Prim.Native.Nat.{ℕ, ◌-◌, min}
 use mathlib.Core.Path.{◌≡◌, sym, ap, ◌∙◌}
 use mathlib.Core.Bool.{Bool, cond}
-use borrow.Author.Tests.{le-ltb, eq-eqb, ne_eqb}
+use borrow.Author.Tests.{ne_eqb}
 use Rattle.rules.specs.Node.{Node}
 use Rattle.rules.specs.Answer.{given}
-use Rattle.rules.specs.Walk.{Walked, all_levels, nothing, next_walk, previous_from, previous_walk, ahead, chunks, chunks_for}
+use Rattle.rules.specs.Walk.{Walked, all_levels, nothing, next_walk, previous_from, previous_walk}
 use Rattle.node.specs.Memory.{reader_of}
 use Rattle.capture.specs.declared.Capture.{Capture}
 use Rattle.answer.proofs.Answered.{goes}
@@ -15,15 +15,8 @@ use Rattle.capture.specs.Stored.{reader_in, Opened}
 use Rattle.capture.specs.declared.stored.Stored.{Stored}
 use Rattle.search.specs.Answer.{next_of, previous_of}
 
--- ---- questions with nothing to search
+-- ---- what is stored is searched
 module _ (has : ℕ → Bool) (reader : ℕ → ℕ → Node) (len mask from : ℕ) where
-  pub next_nothing : len ≤ from + 1 → nothing ≡ next_walk has reader len mask from
-  next_nothing h =
-      sym (ap (λ (b : Bool). cond b (chunks (ahead has reader len) mask (chunks_for len - (from + 1) / 1048576) ((from + 1) / 1048576) (from + 1) (reader 0 from).first) nothing) (le-ltb (from + 1) len h))
-
-  pub previous_nothing : len ≡ 0 → nothing ≡ previous_walk has reader len mask from
-  previous_nothing h = sym (ap (λ (b : Bool). cond b nothing (previous_from has reader mask (min from (len - 1)))) (eq-eqb len 0 h))
-
   pub previous_something : (len ≡ 0 → ⊥) → (p : ℕ) → p ≡ min from (len - 1) → previous_from has reader mask p ≡ previous_walk has reader len mask from
   previous_something h p e =
       ap (previous_from has reader mask) e

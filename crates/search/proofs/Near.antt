@@ -6,6 +6,7 @@ use Rattle.std.specs.Prelude.{None}
 use native.Mathlib.Omega.{arith}
 use Rattle.rules.specs.Node.{chunk}
 use Rattle.rules.specs.Walk.{Walked, Course, chunks_for, walk_from, next_walk, previous_from, all_levels}
+use Rattle.node.specs.Lent.{levels_of}
 use Rattle.capture.specs.Stored.{sample_in, reader_in}
 use Rattle.capture.specs.declared.stored.Stored.{Stored}
 use Rattle.find.specs.Near.{Near}
@@ -24,7 +25,7 @@ module _ (s : Stored) {mask v : ℕ} {w : Walked} (some : w.found ≡ None → �
   pub near_next : (from : ℕ) → from + 1 < s.len → v ≡ sample_in s from → Near s.unitsize s.len s.memory.samples.now false mask (from + 1) v w → w ≡ next_walk all_levels (reader_in s) s.len mask from
   near_next from h e a =
       first_chunk (next_starts all_levels (reader_in s) mask s.len s.backed.most from h) (chunks_for s.len - ((from + 1) / chunk + 1)) (omega arith) v (stored_value s (from + 1 - 1) v (e ∙ ap (sample_in s) back))
-      w (near_finds s false (from + 1) (omega arith) a some ((from + 1) / chunk) (omega arith) (omega arith)) some
+      w (near_finds s.unitsize s.len s.memory.samples.now false (from + 1) (omega arith) a some (levels_of s.memory.levels) ((from + 1) / chunk) (omega arith) (omega arith)) some
     where
       back : from ≡ from + 1 - 1
       back = omega arith
@@ -32,4 +33,4 @@ module _ (s : Stored) {mask v : ℕ} {w : Walked} (some : w.found ≡ None → �
   pub near_previous : (p : ℕ) → p < s.len → v ≡ sample_in s p → Near s.unitsize s.len s.memory.samples.now true mask p v w → w ≡ previous_from all_levels (reader_in s) mask p
   near_previous p h e a =
       first_chunk (previous_starts all_levels (reader_in s) mask s.len s.backed.most p h) (p / chunk) (omega arith) v (stored_value s p v e)
-      w (near_finds s true p (omega arith) a some (p / chunk + 1 - 1) (omega arith) (omega arith)) some
+      w (near_finds s.unitsize s.len s.memory.samples.now true p (omega arith) a some (levels_of s.memory.levels) (p / chunk + 1 - 1) (omega arith) (omega arith)) some

@@ -167,7 +167,6 @@ fn near_in(stored: &Stored<'_>, back: bool, mask: Mask, at: usize, seen: usize) 
 {
     near(
         stored.memory.samples,
-        stored.memory.levels.l1,
         stored.unitsize,
         stored.len,
         back,
@@ -214,6 +213,7 @@ pub fn prev_in(stored: &Stored<'_>, mask: Mask, from: usize) -> Counted<usize>
 
 // 01's Next: the smallest place after from, and below len, at which a masked line changes; and the nodes read.
 // Theorems, in proofs/Change.antt: next_right, that on right levels it is the rules' next, in the steps of 01's walk; next_range, on any memory.
+#[tactic(auto, using(crate::proofs::Asked::next_open), unfolding(crate::specs::Answer::next_of))]
 pub fn next_change(
     c: Capture,
     memory: Memory<'_>,
@@ -228,6 +228,7 @@ pub fn next_change(
 
 // 01's Previous: the largest place up to from, from 1 on and below len, at which a masked line changes; and the nodes read.
 // Theorems, in proofs/Change.antt: previous_right, that on right levels it is the rules' previous, in the steps of 01's walk; previous_range, on any memory.
+#[tactic(auto, using(crate::proofs::Asked::previous_open), unfolding(crate::specs::Answer::previous_of))]
 pub fn prev_change(
     c: Capture,
     memory: Memory<'_>,

@@ -1,7 +1,7 @@
 -- The loop follows the walk, run by run.
 use Rattle.std.proofs.Common.{arith}
 use Rattle.node.specs.Lent.{levels_of}
-use Rattle.find.proofs.Turn.{stands_first, stands_last, turn_room, turn_most, turn_moves, turn_some, turn_counts, turn_stops, turn_past, turn_found, turn_lower}
+use Rattle.find.proofs.Turn.{stands_first, stands_last, turn_room, turn_moves, turn_some, turn_past, turn_found, turn_lower}
 use Rattle.find.proofs.find.Goals as goal
 
 pub loop-room-init : goal.loop-room-init
@@ -10,29 +10,11 @@ loop-room-init c =
     let p = a.part.now in
     stands_first a.back p.unitsize p.base p.hi p.samples.now (levels_of p.levels) a.mask a.start c.left-room.result a.before c.requires.0 c.requires.1 c.requires.2 c.left-room.ensures
 
-pub take-t-requires : goal.take-t-requires
-take-t-requires c = let x = c.loop-room.invariant in (x.placed.low, x.placed.high, omega (arith, x.placed.room_is), x.going.capped)
-
-pub overflow_mul-d : goal.overflow_mul-d
-overflow_mul-d c = omega (arith, turn_most c.loop-room.invariant c.take-t.ensures)
-
 pub moved-pos-requires : goal.moved-pos-requires
 moved-pos-requires c = turn_moves c.loop-room.invariant c.take-t.ensures (omega arith)
 
-pub overflow_sub-room : goal.overflow_sub-room
-overflow_sub-room c = turn_room c.loop-room.invariant c.take-t.ensures
-
-pub overflow_add-count : goal.overflow_add-count
-overflow_add-count c = omega (arith, turn_counts c.loop-room.invariant c.take-t.ensures)
-
-pub overflow_add-count-then-t : goal.overflow_add-count-then-t
-overflow_add-count-then-t c = omega (arith, turn_stops c.loop-room.invariant c.take-t.ensures c.if-t.true)
-
 pub returns-then-t-eq0 : goal.returns-then-t-eq0
 returns-then-t-eq0 c = turn_found c.loop-room.invariant c.take-t.ensures c.moved-pos.ensures c.if-t.true c.if-t-eq0.true
-
-pub loop-room-smaller-then-t : goal.loop-room-smaller-then-t
-loop-room-smaller-then-t c = omega (arith, turn_room c.loop-room.invariant c.take-t.ensures, c.take-t.ensures.best.below)
 
 pub loop-room-preserved-then-t : goal.loop-room-preserved-then-t
 loop-room-preserved-then-t c = turn_lower c.loop-room.invariant c.take-t.ensures c.moved-pos.ensures c.if-t.true c.if-t-eq0.false

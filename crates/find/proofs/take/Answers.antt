@@ -2,7 +2,7 @@
 use Rattle.std.proofs.Common.{ℕ, ◌/◌, ap, ◌∙◌, arith}
 use Rattle.std.specs.Prelude.{min}
 use Rattle.node.specs.Lent.{levels_of}
-use Rattle.find.proofs.Turn.{take_held, taken}
+use Rattle.find.proofs.Turn.{take_held}
 use Rattle.find.proofs.take.Goals as goal
 
 pub run-r-requires : goal.run-r-requires
@@ -14,13 +14,3 @@ run-r-requires c =
     c.left-room.ensures c.best_level-l.ensures c.span-s.ensures.0
     (c.min-n.ensures ∙ ap (λ (x : ℕ). min x (c.left-room.result / c.span-s.result)) c.to_border.ensures) c.number-from.ensures c.level.ensures
     p.backed c.requires.0 c.requires.1 c.requires.3 (omega arith)
-
-pub returns : goal.returns
-returns c =
-    let a = c.args in
-    let p = a.part.now in
-    taken a.back p.unitsize p.base p.hi p.samples.now (levels_of p.levels)
-    a.pos c.left-room.result a.maxl c.best_level-l.result c.span-s.result c.min-n.result c.number-from.result c.level.result.now
-    c.left-room.ensures c.best_level-l.ensures c.span-s.ensures.0
-    (c.min-n.ensures ∙ ap (λ (x : ℕ). min x (c.left-room.result / c.span-s.result)) c.to_border.ensures) c.number-from.ensures c.level.ensures
-    a.mask a.before c.run-r.result.count c.run-r.result.value c.run-r.ensures
