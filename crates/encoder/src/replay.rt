@@ -1,9 +1,18 @@
 // Two lines of what is stored, as those of an encoder: rows 1, 2 and 14 let them pass.
-ghost use Rattle.std.specs.Prelude.{◌≤◌};
+ghost use Rattle.std.specs.Prelude.{◌≡◌, ◌≤◌};
 ghost use Rattle.rules.specs.Refusal.{top_line};
+ghost use Rattle.rules.specs.Encoder.{pair_mask};
 
 use capture::stored::Stored;
 use lines::{Mask, line_bit};
+
+// The mask of two lines.
+pub fn pair_mask(a: u8, b: u8) -> Mask
+    requires { (a ≤ top_line) × (b ≤ top_line) }
+    ensures { result ≡ pair_mask a b }
+{
+    line_bit(a) | line_bit(b)
+}
 
 #[derive(Clone, Copy)]
 pub struct Replay<'a> {
@@ -21,6 +30,6 @@ impl Replay<'_> {
     pub fn mask(&self) -> Mask
         ensures { result ≡ pair_mask self.now.a self.now.b }
     {
-        line_bit(self.a) | line_bit(self.b)
+        pair_mask(self.a, self.b)
     }
 }
