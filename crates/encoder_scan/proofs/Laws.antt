@@ -1,14 +1,14 @@
 -- Laws of a scan: what a mask asks, a step by its four bits, and steps added up.
-use Prim.Native.Nat.{ℕ, suc, ◌+◌, ◌-◌, ◌*◌, ◌/◌, ◌%◌, ◌^◌, ◌≤◌, ◌<◌}
+use Prim.Native.Nat.{ℕ, zero, suc, ◌+◌, ◌-◌, ◌*◌, ◌%◌, ◌^◌, ◌≤◌, ◌<◌}
 use mathlib.Core.Path.{◌≡◌, refl, sym, ap, ap₂, ◌∙◌, subst}
 use mathlib.Core.Bool.{Bool, true, false, cond}
-use native.Mathlib.Nat.{one-mul, mod-eq_of_lt, div-eq_of_lt}
+use native.Mathlib.Nat.{add-zero, pow-suc, mod-eq_of_lt, div-eq_of_lt}
 use native.Mathlib.Numerals.{add-one}
 use native.Mathlib.Omega.{arith}
-use native.Mathlib.Decide.{ℕ_discrete}
-use lib.Bits.{bit_and, bit_xor, and_zero_r, and_mask}
+use native.Mathlib.Decide.{ℕ_discrete, dec_lt}
+use lib.Bits.{bit_and, bit_xor, and_zero_r}
 use lib.Dec.{eqb}
-use lib.Pow.{pow_mono, pow-lt}
+use lib.Pow.{pow_pos, pow_mono, pow-lt, pow-add, low}
 use borrow.Author.Tests.{eq-eqb, ne_eqb}
 use Rattle.rules.specs.Sample.{line}
 use Rattle.rules.specs.Encoder.{Turns, step_of, turn_of, turns_of}
@@ -18,7 +18,7 @@ use Rattle.encoder_scan.specs.Scan.{is_set, Asks, Stepped, StepBy, Counts}
 
 -- ---- masks
 -- the mask of line k asks any sample for it
-pub asks_line : (w k : ℕ) → Asks w (2 ^ k) k
+asks_line : (w k : ℕ) → Asks w (2 ^ k) k
 asks_line w k = record { is = λ v h. two_cases (λ (x : ℕ). line v k ≡ x → is_set (bit_and v (2 ^ k)) ≡ x) (clear v) (has v) (line v k) (line_lt v k) refl }
   where
     there : (v : ℕ) → line (bit_and v (2 ^ k)) k ≡ line v k
@@ -40,14 +40,37 @@ asks_line w k = record { is = λ v h. two_cases (λ (x : ℕ). line v k ≡ x �
     has : (v : ℕ) → line v k ≡ 1 → is_set (bit_and v (2 ^ k)) ≡ 1
     has v e = ap (λ (b : Bool). cond b 0 1) (ne_eqb (bit_and v (2 ^ k)) 0 (λ z. omega (arith, there v, e, ap (λ (x : ℕ). line x k) z, line_zero k)))
 
--- the mask as it is shifted into a byte
-pub asks_shifted : (k : ℕ) → k < 8 → Asks 256 ((1 * 2 ^ k) % 256) k
-asks_shifted k h = subst (λ (m : ℕ). Asks 256 m k) (sym (ap (λ (x : ℕ). x % 256) (one-mul (2 ^ k)) ∙ mod-eq_of_lt (pow-lt {i = k} {j = 8} h))) (asks_line 256 k)
-
--- a line above those of a byte is 0 in every byte
-pub asks_none : (k : ℕ) → 8 ≤ k → Asks 256 0 k
+-- a line above those of b bits is 0 in every sample of these
+asks_none : (b k : ℕ) → b ≤ k → Asks (2 ^ b) 0 k
 unfolding line
-asks_none k h = record { is = λ v l. ap is_set (and_zero_r v) ∙ sym (ap (λ (x : ℕ). x % 2) (div-eq_of_lt (omega (arith, l, pow_mono h)))) }
+asks_none b k h = record { is = λ v l. ap is_set (and_zero_r v) ∙ sym (ap (λ (x : ℕ). x % 2) (div-eq_of_lt (omega (arith, l, pow_mono h)))) }
+
+asks_bits : (b k : ℕ) → Asks (2 ^ b) (2 ^ k % 2 ^ b) k
+asks_bits b k = go (dec_lt k b)
+  where
+    go : Dec (k < b) → Asks (2 ^ b) (2 ^ k % 2 ^ b) k
+    go (yes h) = subst (λ (m : ℕ). Asks (2 ^ b) m k) (sym (mod-eq_of_lt (pow-lt {i = k} {j = b} h))) (asks_line (2 ^ b) k)
+    go (no h) = subst (λ (m : ℕ). Asks (2 ^ b) m k) (sym none) (asks_none b k (omega arith))
+      where
+        apart : k ≡ (k - b) + b
+        apart = omega arith
+
+        none : 2 ^ k % 2 ^ b ≡ 0
+        none =
+            ap (λ (x : ℕ). 2 ^ x % 2 ^ b) apart
+            ∙ ap (λ (x : ℕ). x % 2 ^ b) (pow-add 2 (k - b) b ∙ sym (add-zero (2 ^ (k - b) * 2 ^ b)))
+            ∙ low (2 ^ (k - b)) b {lo = 0} (pow_pos b)
+
+room_bits : (u : ℕ) → 256 ^ u ≡ 2 ^ (8 * u)
+room_bits zero = refl
+room_bits (suc u) = pow-suc 256 u ∙ ap (λ (x : ℕ). x * 256) (room_bits u) ∙ sym (pow-add 2 (8 * u) 8) ∙ ap (λ (x : ℕ). 2 ^ x) next
+  where
+    next : 8 * u + 8 ≡ 8 * suc u
+    next = omega arith
+
+-- the mask of a line, cut down to the lines of a unit
+pub asks_cut : (u k : ℕ) → Asks (256 ^ u) (2 ^ k % 256 ^ u) k
+asks_cut u k = rw (room_bits u) (asks_bits (8 * u) k)
 
 -- ---- a step
 -- its four bits: A and B before, A and B after
@@ -104,23 +127,6 @@ module _ (w x y before after : ℕ) {a b a' b' : ℕ} (hb : before < w) (ha : af
     few = known.few;
     less = known.less;
   }
-
--- the bits of two lines, by a shift
-bit_is : (v k : ℕ) → bit_and (v / 2 ^ k) 1 ≡ line v k
-unfolding line
-bit_is v k = and_mask (v / 2 ^ k) 1
-
-pub step_shifted : (a b before after : ℕ) →
-    let x = bit_and (before / 2 ^ a) 1 in
-    let y = bit_and (before / 2 ^ b) 1 in
-    let x' = bit_and (after / 2 ^ a) 1 in
-    let y' = bit_and (after / 2 ^ b) 1 in
-    Stepped (turn_of a b before after) (move_bit x y x' y') (back_bit x y x' y') (skip_bit x y x' y') × (move_bit x y x' y' + skip_bit x y x' y' ≤ 1) × (back_bit x y x' y' ≤ move_bit x y x' y')
-unfolding turn_of
-step_shifted a b before after = rw (bit_is before a) (rw (bit_is before b) (rw (bit_is after a) (rw (bit_is after b) (known.is, known.few, known.less))))
-  where
-    known : Bits (line before a) (line before b) (line after a) (line after b)
-    known = bits (line before a) (line before b) (line after a) (line after b) (line_lt before a) (line_lt before b) (line_lt after a) (line_lt after b)
 
 -- ---- steps added up
 pub stepped_none : (s : ℕ → ℕ) (a b p : ℕ) → Stepped (turns_of s a b p 0) 0 0 0

@@ -27,8 +27,7 @@ pub fn nodes_of(len: usize, level: usize) -> usize
     requires { (len ≤ most_samples) × (level ≤ top_level) }
     ensures { result ≡ nodes_for len level }
 {
-    let s = span(level);
-    (len + (s - 1)) / s
+    len.div_ceil(span(level))
 }
 
 // The highest level up to maxl that has a border at pos and whose nodes fit in room samples.
@@ -37,16 +36,11 @@ pub fn best_level(pos: usize, room: usize, maxl: usize) -> usize
     requires { (1 ≤ room) × (maxl ≤ top_level) }
     ensures { Best pos room maxl result }
 {
-    let mut l = 0;
-    while l < maxl {
+    for l in 0..maxl {
         let s = span(l + 1);
-        if pos & (s - 1) != 0 {
+        if pos & (s - 1) != 0 || room < s {
             return l;
         }
-        if room < s {
-            return l;
-        }
-        l += 1;
     }
-    l
+    maxl
 }

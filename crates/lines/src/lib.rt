@@ -1,11 +1,15 @@
 // Samples in lent bytes: one bit a line, `unitsize` bytes a sample, low byte first.
 #![tactic(auto)]
 
+pub mod lane;
+
 ghost use Rattle.std.specs.Prelude.{◌≡◌, ◌+◌, ◌*◌, ◌^◌, ◌≤◌, ◌<◌, length};
-ghost use Rattle.rules.specs.Sample.{UnitSize, little, sample_of};
+ghost use Rattle.rules.specs.Sample.{UnitSize, sample_of};
 ghost use Rattle.rules.specs.Refusal.{top_line};
 ghost use Rattle.rules.specs.Unknown.{has_line};
 ghost use Rattle.lines.specs.Held.{Held};
+
+use lane::Lane;
 
 // The word that holds a mask or a sample, a bit for each line.
 pub type Mask = u16;
@@ -27,9 +31,10 @@ pub fn has_line(mask: Mask, unitsize: usize) -> bool
     ensures { result ≡ has_line unitsize mask }
 {
     if unitsize == 1 {
-        return mask & 255 != 0;
+        mask & 255 != 0
+    } else {
+        mask != 0
     }
-    mask != 0
 }
 
 // Sample i (01's s[i]).
@@ -38,24 +43,10 @@ pub fn get(bytes: &[u8], unitsize: usize, i: usize) -> Mask
     ensures { result ≡ sample_of unitsize bytes.now i }
 {
     if unitsize == 1 {
-        one_byte(bytes, i)
+        u8::at(bytes, i).wide()
     } else {
-        two_bytes(bytes, i * 2)
+        u16::at(bytes, i)
     }
-}
-
-fn one_byte(bytes: &[u8], at: usize) -> Mask
-    requires { at < length bytes.now }
-    ensures { result ≡ little 1 bytes.now at }
-{
-    wide(bytes[at])
-}
-
-fn two_bytes(bytes: &[u8], at: usize) -> Mask
-    requires { at + 1 < length bytes.now }
-    ensures { result ≡ little 2 bytes.now at }
-{
-    wide(bytes[at]) + 256 * wide(bytes[at + 1])
 }
 
 // A byte as a mask.

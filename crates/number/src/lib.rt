@@ -11,17 +11,14 @@ pub const MOST_SAMPLES: usize = 67108864;
 pub fn lesser(a: usize, b: usize) -> usize
     ensures { result ≡ min a b }
 {
-    if a < b { a } else { b }
+    a.min(b)
 }
 
 // How far p is from 0 or, where it is negative, from −1: the smallest number has no opposite.
 pub fn magnitude(p: i64) -> usize
     ensures { result ≡ mag p }
 {
-    if p < 0 {
-        return (-1 - p) as usize;
-    }
-    p as usize
+    if p < 0 { (-1 - p) as usize } else { p as usize }
 }
 
 // The signed difference of two numbers.

@@ -1,12 +1,12 @@
 // The changes of the two halves of a whole node. They are counted in as few bits as hold a sample, so that many are taken at once, and up to an end that the
 // compiler does not know: a loop whose turns it can count is taken apart.
-ghost use Rattle.std.specs.Prelude.{◌≡◌, ◌+◌, ◌*◌, ◌≤◌, length};
-ghost use Rattle.rules.specs.Node.{differs};
+ghost use Rattle.std.specs.Prelude.{◌+◌, ◌≤◌, length};
 ghost use Rattle.rules.specs.Sample.{sample_of};
 ghost use Rattle.range.specs.Part.{RangeIn};
 ghost use Rattle.range.specs.Run.{Both};
 
-use lines::{Mask, get, wide};
+use lines::Mask;
+use lines::lane::Lane;
 
 // Their lines, and how many they are.
 #[derive(Clone, Copy)]
@@ -15,71 +15,35 @@ pub struct Halves {
     pub count: u64,
 }
 
-// 1 where two samples differ, else 0.
-fn differ_one(x: u8, y: u8) -> u8
-    ensures { (result ≡ differs x y) × (result ≤ 1) }
-{
-    if x == y { 0 } else { 1 }
-}
-
-fn differ_two(x: Mask, y: Mask) -> Mask
-    ensures { (result ≡ differs x y) × (result ≤ 1) }
-{
-    if x == y { 0 } else { 1 }
-}
-
 // The changes at the n places behind place a and at the n behind place a + 15, side by side.
 pub fn both(part: &[u8], unitsize: usize, a: usize, n: usize) -> Halves
     requires { (n ≤ 16) × RangeIn unitsize a (a + n + 16) (length part.now) }
     ensures { Both (sample_of unitsize part.now) a n result.mask result.count }
 {
     if unitsize == 1 {
-        both_one(part, a, n)
+        both_in::<u8>(part, a, n)
     } else {
-        both_two(part, a, n)
+        both_in::<u16>(part, a, n)
     }
 }
 
-fn both_one(part: &[u8], a: usize, n: usize) -> Halves
-    requires { (n ≤ 16) × (a + n + 16 ≤ length part.now) }
-    ensures { Both (sample_of 1 part.now) a n result.mask result.count }
+// The same, in a unit's own width.
+fn both_in<L: Lane>(part: &[u8], a: usize, n: usize) -> Halves
+    requires { (n ≤ 16) × RangeIn L.size a (a + n + 16) (length part.now) }
+    ensures { Both (sample_of L.size part.now) a n result.mask result.count }
 {
-    let mut mask: u8 = 0;
-    let mut count: u8 = 0;
-    let mut k = 0;
-    while k < n {
-        let x = part[a + k];
-        let y = part[a + k + 1];
-        let z = part[a + k + 15];
-        let w = part[a + k + 16];
-        mask = mask | (y ^ x) | (w ^ z);
-        count = count + differ_one(y, x) + differ_one(w, z);
-        k += 1;
+    let mut mask = L::narrow(0);
+    let mut count = L::narrow(0);
+    for k in 0..n {
+        let x = L::at(part, a + k);
+        let y = L::at(part, a + k + 1);
+        let z = L::at(part, a + k + 15);
+        let w = L::at(part, a + k + 16);
+        mask = mask.or(y.xor(x)).or(w.xor(z));
+        count = count.plus(y.differs(x)).plus(w.differs(z));
     }
     Halves {
-        mask: wide(mask),
-        count: count as u64,
-    }
-}
-
-fn both_two(part: &[u8], a: usize, n: usize) -> Halves
-    requires { (n ≤ 16) × ((a + n + 16) * 2 ≤ length part.now) }
-    ensures { Both (sample_of 2 part.now) a n result.mask result.count }
-{
-    let mut mask: Mask = 0;
-    let mut count: Mask = 0;
-    let mut k = 0;
-    while k < n {
-        let x = get(part, 2, a + k);
-        let y = get(part, 2, a + k + 1);
-        let z = get(part, 2, a + k + 15);
-        let w = get(part, 2, a + k + 16);
-        mask = mask | (y ^ x) | (w ^ z);
-        count = count + differ_two(y, x) + differ_two(w, z);
-        k += 1;
-    }
-    Halves {
-        mask,
-        count: count as u64,
+        mask: mask.wide(),
+        count: count.wide() as u64,
     }
 }

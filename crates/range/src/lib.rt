@@ -13,7 +13,8 @@ ghost use Rattle.range.specs.Join.{join_over, join_on};
 ghost use Rattle.range.specs.Part.{RangeIn, NodesIn};
 
 use halves::both;
-use lines::{Mask, get, wide};
+use lines::lane::Lane;
+use lines::{Mask, get};
 use node::{Node, border, capped, changes_to, node_in};
 
 // The node of the samples a to b, b not among them; its count where that is asked for. Lines and count have a loop each: who draws pays for the lines alone.
@@ -23,9 +24,10 @@ pub fn raw_node(part: &[u8], unitsize: usize, a: usize, b: usize, counted: bool)
 {
     let lines = raw_lines(part, unitsize, a, b);
     if counted {
-        return lines.with_count(raw_count(part, unitsize, a, b));
+        lines.with_count(raw_count(part, unitsize, a, b))
+    } else {
+        lines
     }
-    lines
 }
 
 // Its count.
@@ -35,12 +37,10 @@ fn raw_count(part: &[u8], unitsize: usize, a: usize, b: usize) -> u32
 {
     let mut last = get(part, unitsize, a);
     let mut count: u64 = 0;
-    let mut i = a + 1;
-    while i < b {
+    for i in a + 1..b {
         let v = get(part, unitsize, i);
         count += border(v, last);
         last = v;
-        i += 1;
     }
     capped(count)
 }
@@ -51,48 +51,26 @@ fn raw_lines(part: &[u8], unitsize: usize, a: usize, b: usize) -> Node
     ensures { lines_of (as_node result) ≡ lines_of (node_of (sample_of unitsize part.now) a b) }
 {
     if unitsize == 1 {
-        raw_one(part, a, b)
+        raw_in::<u8>(part, a, b)
     } else {
-        raw_two(part, a, b)
+        raw_in::<u16>(part, a, b)
     }
 }
 
-// Unit 1: in bytes, so that many are taken at once.
-fn raw_one(part: &[u8], a: usize, b: usize) -> Node
-    requires { (a < b) × (b ≤ length part.now) }
-    ensures { lines_of (as_node result) ≡ lines_of (node_of (sample_of 1 part.now) a b) }
+// The same, in a unit's own width.
+fn raw_in<L: Lane>(part: &[u8], a: usize, b: usize) -> Node
+    requires { RangeIn L.size a b (length part.now) }
+    ensures { lines_of (as_node result) ≡ lines_of (node_of (sample_of L.size part.now) a b) }
 {
-    let first = part[a];
-    let mut mask: u8 = 0;
-    let mut i = a;
-    while i < b {
-        mask = mask | (part[i] ^ first);
-        i += 1;
+    let first = L::at(part, a);
+    let mut mask = L::narrow(0);
+    for i in a..b {
+        mask = mask.or(L::at(part, i).xor(first));
     }
     Node {
-        first: wide(first),
-        last: wide(part[b - 1]),
-        mask: wide(mask),
-        count: 0,
-    }
-}
-
-// Unit 2.
-fn raw_two(part: &[u8], a: usize, b: usize) -> Node
-    requires { (a < b) × (b * 2 ≤ length part.now) }
-    ensures { lines_of (as_node result) ≡ lines_of (node_of (sample_of 2 part.now) a b) }
-{
-    let first = get(part, 2, a);
-    let mut mask: Mask = 0;
-    let mut i = a;
-    while i < b {
-        mask = mask | (get(part, 2, i) ^ first);
-        i += 1;
-    }
-    Node {
-        first,
-        last: get(part, 2, b - 1),
-        mask,
+        first: first.wide(),
+        last: L::at(part, b - 1).wide(),
+        mask: mask.wide(),
         count: 0,
     }
 }
@@ -117,6 +95,7 @@ pub fn raw_whole(part: &[u8], unitsize: usize, a: usize, half: usize) -> Node
 }
 
 // The nodes a to b, b not among them, of a level joined.
+#[tactic(auto, using(crate::proofs::Joins::over_all))]
 pub fn join_nodes(below: &[Mask], a: usize, b: usize) -> Node
     requires { (a < b) × NodesIn a b (length below.now) }
     ensures { as_node result ≡ join_over (node_in below.now) a (b - 1 - a) }
@@ -125,6 +104,7 @@ pub fn join_nodes(below: &[Mask], a: usize, b: usize) -> Node
 }
 
 // Their lines.
+#[tactic(auto, using(crate::proofs::Joins::over_all))]
 pub fn join_lines(below: &[Mask], a: usize, b: usize) -> Node
     requires { (a < b) × NodesIn a b (length below.now) }
     ensures { Told false (as_node result) (join_over (node_in below.now) a (b - 1 - a)) }
@@ -133,14 +113,16 @@ pub fn join_lines(below: &[Mask], a: usize, b: usize) -> Node
 }
 
 // Their count, where it is asked for.
+#[tactic(auto, using(crate::proofs::Joins::over_all))]
 pub fn join_count(below: &[Mask], a: usize, b: usize, counted: bool) -> u32
     requires { (a < b) × NodesIn a b (length below.now) }
     ensures { counted ≡ true → result ≡ (join_over (node_in below.now) a (b - 1 - a)).count }
 {
     if counted {
-        return count_on(node_in(below, a), below, a + 1, b);
+        count_on(node_in(below, a), below, a + 1, b)
+    } else {
+        0
     }
-    0
 }
 
 // The nodes from number from on, up to b, join n. Lines and count have a loop each: who draws pays for the lines alone.
@@ -159,12 +141,10 @@ fn count_on(n: Node, below: &[Mask], from: usize, b: usize) -> u32
 {
     let mut sum = n.count as u64;
     let mut last = n;
-    let mut i = from;
-    while i < b {
+    for i in from..b {
         let m = node_in(below, i);
         sum += changes_to(last.last, m);
         last = m;
-        i += 1;
     }
     capped(sum)
 }
@@ -200,10 +180,8 @@ fn lines_rest(n: Node, below: &[Mask], from: usize, b: usize) -> Node
     ensures { Told false (as_node result) (join_on (as_node n) (node_in below.now) from (b - from)) }
 {
     let mut acc = n;
-    let mut i = from;
-    while i < b {
+    for i in from..b {
         acc = acc.join_lines(node_in(below, i));
-        i += 1;
     }
     acc
 }
