@@ -1,24 +1,23 @@
 -- Laws of a scan: what a mask asks, a step by its four bits, and steps added up.
-use Prim.Native.Nat.{ℕ, zero, suc, ◌+◌, ◌-◌, ◌*◌, ◌%◌, ◌^◌, ◌≤◌, ◌<◌}
+use Prim.Native.Nat.{ℕ, suc, ◌+◌, ◌-◌, ◌*◌, ◌/◌, ◌%◌, ◌^◌, ◌≤◌, ◌<◌}
 use mathlib.Core.Path.{◌≡◌, refl, sym, ap, ap₂, ◌∙◌, subst}
-use mathlib.Core.Bool.{Bool, true, false, cond}
-use native.Mathlib.Nat.{add-zero, pow-suc, mod-eq_of_lt, div-eq_of_lt}
+use mathlib.Core.Bool.{Bool, cond}
+use native.Mathlib.Nat.{one-mul, mod-eq_of_lt, div-eq_of_lt}
 use native.Mathlib.Numerals.{add-one}
 use native.Mathlib.Omega.{arith}
-use native.Mathlib.Decide.{ℕ_discrete, dec_lt}
-use lib.Bits.{bit_and, bit_xor, and_zero_r}
-use lib.Dec.{eqb}
-use lib.Pow.{pow_pos, pow_mono, pow-lt, pow-add, low}
+use native.Mathlib.Decide.{ℕ_discrete}
+use lib.Bits.{bit_and, bit_xor, and_zero_r, and_mask}
+use lib.Pow.{pow_mono, pow-lt}
 use borrow.Author.Tests.{eq-eqb, ne_eqb}
 use Rattle.rules.specs.Sample.{line}
 use Rattle.rules.specs.Encoder.{Turns, step_of, turn_of, turns_of}
 use Rattle.rules.proofs.Bits.{line_lt, line_zero, two_cases, sixteen, lines_ext, line_and, power_has, power_only}
 use Rattle.rules.proofs.Encoder.{steps, step_ind}
-use Rattle.encoder_scan.specs.Scan.{is_set, Asks, Stepped, StepBy, Counts}
+use Rattle.encoder_scan.specs.Scan.{is_set, by_mask, by_shift, Asks, Stepped, StepBy, Counts}
 
 -- ---- masks
 -- the mask of line k asks any sample for it
-asks_line : (w k : ℕ) → Asks w (2 ^ k) k
+asks_line : (w k : ℕ) → Asks by_mask w (2 ^ k) k
 asks_line w k = record { is = λ v h. two_cases (λ (x : ℕ). line v k ≡ x → is_set (bit_and v (2 ^ k)) ≡ x) (clear v) (has v) (line v k) (line_lt v k) refl }
   where
     there : (v : ℕ) → line (bit_and v (2 ^ k)) k ≡ line v k
@@ -40,37 +39,22 @@ asks_line w k = record { is = λ v h. two_cases (λ (x : ℕ). line v k ≡ x �
     has : (v : ℕ) → line v k ≡ 1 → is_set (bit_and v (2 ^ k)) ≡ 1
     has v e = ap (λ (b : Bool). cond b 0 1) (ne_eqb (bit_and v (2 ^ k)) 0 (λ z. omega (arith, there v, e, ap (λ (x : ℕ). line x k) z, line_zero k)))
 
--- a line above those of b bits is 0 in every sample of these
-asks_none : (b k : ℕ) → b ≤ k → Asks (2 ^ b) 0 k
+-- the mask as it is shifted into a byte
+pub asks_shifted : (k : ℕ) → k < 8 → Asks by_mask 256 ((1 * 2 ^ k) % 256) k
+asks_shifted k h = subst (λ (m : ℕ). Asks by_mask 256 m k) (sym (ap (λ (x : ℕ). x % 256) (one-mul (2 ^ k)) ∙ mod-eq_of_lt (pow-lt {i = k} {j = 8} h))) (asks_line 256 k)
+
+-- a line above those of a byte is 0 in every byte
+pub asks_none : (k : ℕ) → 8 ≤ k → Asks by_mask 256 0 k
 unfolding line
-asks_none b k h = record { is = λ v l. ap is_set (and_zero_r v) ∙ sym (ap (λ (x : ℕ). x % 2) (div-eq_of_lt (omega (arith, l, pow_mono h)))) }
+asks_none k h = record { is = λ v l. ap is_set (and_zero_r v) ∙ sym (ap (λ (x : ℕ). x % 2) (div-eq_of_lt (omega (arith, l, pow_mono h)))) }
 
-asks_bits : (b k : ℕ) → Asks (2 ^ b) (2 ^ k % 2 ^ b) k
-asks_bits b k = go (dec_lt k b)
+-- ---- shifts
+pub asks_number : (w k : ℕ) → k ≤ 15 → Asks by_shift w k k
+unfolding line
+asks_number w k h = record { is = λ v l. and_mask (v / 2 ^ bit_and k 15) 1 ∙ ap (λ (x : ℕ). v / 2 ^ x % 2) (and_mask k 4 ∙ mod-eq_of_lt small) }
   where
-    go : Dec (k < b) → Asks (2 ^ b) (2 ^ k % 2 ^ b) k
-    go (yes h) = subst (λ (m : ℕ). Asks (2 ^ b) m k) (sym (mod-eq_of_lt (pow-lt {i = k} {j = b} h))) (asks_line (2 ^ b) k)
-    go (no h) = subst (λ (m : ℕ). Asks (2 ^ b) m k) (sym none) (asks_none b k (omega arith))
-      where
-        apart : k ≡ (k - b) + b
-        apart = omega arith
-
-        none : 2 ^ k % 2 ^ b ≡ 0
-        none =
-            ap (λ (x : ℕ). 2 ^ x % 2 ^ b) apart
-            ∙ ap (λ (x : ℕ). x % 2 ^ b) (pow-add 2 (k - b) b ∙ sym (add-zero (2 ^ (k - b) * 2 ^ b)))
-            ∙ low (2 ^ (k - b)) b {lo = 0} (pow_pos b)
-
-room_bits : (u : ℕ) → 256 ^ u ≡ 2 ^ (8 * u)
-room_bits zero = refl
-room_bits (suc u) = pow-suc 256 u ∙ ap (λ (x : ℕ). x * 256) (room_bits u) ∙ sym (pow-add 2 (8 * u) 8) ∙ ap (λ (x : ℕ). 2 ^ x) next
-  where
-    next : 8 * u + 8 ≡ 8 * suc u
-    next = omega arith
-
--- the mask of a line, cut down to the lines of a unit
-pub asks_cut : (u k : ℕ) → Asks (256 ^ u) (2 ^ k % 256 ^ u) k
-asks_cut u k = rw (room_bits u) (asks_bits (8 * u) k)
+    small : k < 16
+    small = omega arith
 
 -- ---- a step
 -- its four bits: A and B before, A and B after
@@ -105,25 +89,18 @@ bits a b a' b' h i j k =
       less = omega (arith, t.moved_is, t.back_is);
     }
 
-set_lt : (v : ℕ) → is_set v < 2
-set_lt v = go (eqb v 0)
-  where
-    go : (b : Bool) → cond b 0 1 < 2
-    go true = omega arith
-    go false = omega arith
-
-module _ (w x y before after : ℕ) {a b a' b' : ℕ} (hb : before < w) (ha : after < w)
-    (p : a ≡ is_set (bit_and before x)) (q : b ≡ is_set (bit_and before y)) (r : a' ≡ is_set (bit_and after x)) (t : b' ≡ is_set (bit_and after y)) where
+module _ (told : ℕ → ℕ → ℕ) (w x y before after : ℕ) {a b a' b' : ℕ} (hb : before < w) (ha : after < w)
+    (p : (a ≡ told before x) × (a ≤ 1)) (q : (b ≡ told before y) × (b ≤ 1)) (r : (a' ≡ told after x) × (a' ≤ 1)) (t : (b' ≡ told after y) × (b' ≤ 1)) where
   -- as the bits of any step
   known : Bits a b a' b'
-  known = bits a b a' b' (omega (arith, p, set_lt (bit_and before x))) (omega (arith, q, set_lt (bit_and before y))) (omega (arith, r, set_lt (bit_and after x))) (omega (arith, t, set_lt (bit_and after y)))
+  known = bits a b a' b' (omega (arith, p.1)) (omega (arith, q.1)) (omega (arith, r.1)) (omega (arith, t.1))
 
-  pub step_by : StepBy w x y before after (move_bit a b a' b') (back_bit a b a' b') (skip_bit a b a' b')
+  pub step_by : StepBy told w x y before after (move_bit a b a' b') (back_bit a b a' b') (skip_bit a b a' b')
   unfolding turn_of
   step_by = record {
     is = λ i j hx hy.
         subst (λ (u : Turns). Stepped u (move_bit a b a' b') (back_bit a b a' b') (skip_bit a b a' b'))
-        (ap₂ (λ (c d : ℕ). step_of c d a' b') (p ∙ hx.is before hb) (q ∙ hy.is before hb) ∙ ap₂ (λ (c d : ℕ). step_of (line before i) (line before j) c d) (r ∙ hx.is after ha) (t ∙ hy.is after ha)) known.is;
+        (ap₂ (λ (c d : ℕ). step_of c d a' b') (p.0 ∙ hx.is before hb) (q.0 ∙ hy.is before hb) ∙ ap₂ (λ (c d : ℕ). step_of (line before i) (line before j) c d) (r.0 ∙ hx.is after ha) (t.0 ∙ hy.is after ha)) known.is;
     few = known.few;
     less = known.less;
   }

@@ -1,14 +1,13 @@
 // What two lines do over a stretch of samples, counted place by place without a branch. 02: CR 6.
 #![tactic(auto)]
 
-ghost use Rattle.std.specs.Prelude.{◌≡◌, ◌+◌, ◌*◌, ◌^◌, ◌≤◌, ◌<◌, length};
+ghost use Rattle.std.specs.Prelude.{◌≡◌, ℕ, ◌+◌, ◌*◌, ◌^◌, ◌≤◌, ◌<◌, length};
 ghost use Rattle.rules.specs.Sample.{sample_of, UnitSize};
 ghost use Rattle.rules.specs.Refusal.{top_line};
 ghost use Rattle.rules.specs.Encoder.{turns_of};
-ghost use Rattle.encoder_scan.specs.Scan.{widest, is_set, Asks, StepBy, Counts};
+ghost use Rattle.encoder_scan.specs.Scan.{widest, by_mask, by_shift, Asks, StepBy, Counts};
 
 use lines::lane::Lane;
-use lines::line_bit;
 
 // The most places of a stretch: a sample's width holds each of their counts.
 pub const WIDEST_ONE: usize = 128;
@@ -32,30 +31,56 @@ struct Step<L> {
     skipped: L,
 }
 
-// The mask of a line in samples of a unit; a line that they lack is 0 in all of them.
-fn bit<L: Lane>(line: u8) -> L
-    requires { line ≤ top_line }
-    ensures { Asks (256 ^ L.size) (L.value result) line }
-{
-    L::narrow(line_bit(line))
+// How samples are asked for a line: by a mask where a sample is a byte, since no shift takes many bytes at once, and by a shift where it is two, which is quicker there.
+trait Ask: Lane {
+    // what a sample tells of what it is asked
+    ghost told: { ℕ → ℕ → ℕ };
+
+    // What asks for a line; one that samples lack is 0 in all of them.
+    fn ask(line: u8) -> Self
+        requires { line ≤ top_line }
+        ensures { Asks told (256 ^ Self.size) (Self.value result) line };
+
+    // Whether a sample has the line that is asked for, as 0 or 1.
+    fn tell(self, asked: Self) -> Self
+        ensures { (Self.value result ≡ told (Self.value self) (Self.value asked)) × (Self.value result ≤ 1) };
 }
 
-// Whether a masked sample has its line, as 0 or 1.
-fn set<L: Lane>(v: L) -> L
-    ensures { L.value result ≡ is_set (L.value v) }
-{
-    v.differs(L::narrow(0))
+impl Ask for u8 {
+    ghost told = { by_mask };
+
+    #[tactic(auto, using(crate::proofs::Laws::asks_shifted, crate::proofs::Laws::asks_none))]
+    fn ask(line: u8) -> u8 {
+        if line < 8 { 1u8 << line } else { 0 }
+    }
+
+    fn tell(self, asked: u8) -> u8 {
+        if self & asked == 0 { 0 } else { 1 }
+    }
 }
 
-// x and y are the masks of A and B.
-fn between<L: Lane>(before: L, after: L, x: L, y: L) -> Step<L>
+impl Ask for u16 {
+    ghost told = { by_shift };
+
+    #[tactic(auto, using(crate::proofs::Laws::asks_number))]
+    fn ask(line: u8) -> u16 {
+        line as u16
+    }
+
+    fn tell(self, asked: u16) -> u16 {
+        (self >> (asked & 15)) & 1
+    }
+}
+
+// x and y ask for A and B.
+fn between<L: Ask>(before: L, after: L, x: L, y: L) -> Step<L>
     requires { (L.value before < 256 ^ L.size) × (L.value after < 256 ^ L.size) }
-    ensures { StepBy (256 ^ L.size) (L.value x) (L.value y) (L.value before) (L.value after) (L.value result.moved) (L.value result.back) (L.value result.skipped) }
+    ensures { StepBy L.told (256 ^ L.size) (L.value x) (L.value y) (L.value before) (L.value after) (L.value result.moved) (L.value result.back) (L.value result.skipped) }
 {
-    let a = set(before.and(x));
-    let b = set(before.and(y));
-    let a2 = set(after.and(x));
-    let b2 = set(after.and(y));
+    let a = before.tell(x);
+    let b = before.tell(y);
+    let a2 = after.tell(x);
+    let b2 = after.tell(y);
     let moved = a.xor(a2).xor(b.xor(b2));
     Step {
         moved,
@@ -65,15 +90,15 @@ fn between<L: Lane>(before: L, after: L, x: L, y: L) -> Step<L>
 }
 
 // In a unit's own width, which holds each of the counts.
-fn scan_in<L: Lane>(samples: &[u8], p: usize, n: usize, a: u8, b: u8) -> Steps
+fn scan_in<L: Ask>(samples: &[u8], p: usize, n: usize, a: u8, b: u8) -> Steps
     requires { (n < 256 ^ L.size) × ((p + n + 1) * L.size ≤ length samples.now) × (a ≤ top_line) × (b ≤ top_line) }
     ensures { Counts (turns_of (sample_of L.size samples.now) a b p n) result.forward result.backward result.skipped }
 {
-    let x: L = bit(a);
-    let y: L = bit(b);
-    let mut moved = L::narrow(0);
-    let mut back = L::narrow(0);
-    let mut skipped = L::narrow(0);
+    let x = L::ask(a);
+    let y = L::ask(b);
+    let mut moved = L::zero();
+    let mut back = L::zero();
+    let mut skipped = L::zero();
     for k in 0..n {
         let t = between(L::at(samples, p + k), L::at(samples, p + k + 1), x, y);
         moved = moved.plus(t.moved);

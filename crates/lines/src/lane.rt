@@ -1,5 +1,5 @@
 // A sample in its own width: a unit's bytes, low byte first. A loop that takes many samples at once is written once over it, and counts in that width.
-ghost use Rattle.std.specs.Prelude.{◌≡◌, ℕ, ◌+◌, ◌-◌, ◌%◌, ◌^◌, ◌≤◌, ◌<◌, length};
+ghost use Rattle.std.specs.Prelude.{◌≡◌, ℕ, ◌+◌, ◌-◌, ◌^◌, ◌≤◌, ◌<◌, length};
 ghost use Rattle.std.specs.Int.Bits.{bit_and, bit_or, bit_xor};
 ghost use Rattle.std.proofs.Common.{rules};
 ghost use Rattle.rules.specs.Sample.{UnitSize, sample_of};
@@ -20,9 +20,9 @@ pub trait Lane: Copy {
         requires { Held size i (length bytes.now) }
         ensures { (value result ≡ sample_of size bytes.now i) × (value result < 256 ^ size) };
 
-    // Those lines of a mask that it has.
-    fn narrow(mask: Mask) -> Self
-        ensures { value result ≡ mask % 256 ^ size };
+    // None of its lines.
+    fn zero() -> Self
+        ensures { value result ≡ 0 };
 
     fn wide(self) -> Mask
         ensures { result ≡ value self };
@@ -64,8 +64,8 @@ impl Lane for u8 {
         bytes[i]
     }
 
-    fn narrow(mask: Mask) -> u8 {
-        (mask & 255) as u8
+    fn zero() -> u8 {
+        0
     }
 
     fn wide(self) -> Mask {
@@ -109,8 +109,8 @@ impl Lane for u16 {
         wide(bytes[i * 2]) + 256 * wide(bytes[i * 2 + 1])
     }
 
-    fn narrow(mask: Mask) -> u16 {
-        mask
+    fn zero() -> u16 {
+        0
     }
 
     fn wide(self) -> Mask {

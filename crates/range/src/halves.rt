@@ -32,8 +32,8 @@ fn both_in<L: Lane>(part: &[u8], a: usize, n: usize) -> Halves
     requires { (n ≤ 16) × RangeIn L.size a (a + n + 16) (length part.now) }
     ensures { Both (sample_of L.size part.now) a n result.mask result.count }
 {
-    let mut mask = L::narrow(0);
-    let mut count = L::narrow(0);
+    let mut mask = L::zero();
+    let mut count = L::zero();
     for k in 0..n {
         let x = L::at(part, a + k);
         let y = L::at(part, a + k + 1);

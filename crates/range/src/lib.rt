@@ -63,7 +63,7 @@ fn raw_in<L: Lane>(part: &[u8], a: usize, b: usize) -> Node
     ensures { lines_of (as_node result) ≡ lines_of (node_of (sample_of L.size part.now) a b) }
 {
     let first = L::at(part, a);
-    let mut mask = L::narrow(0);
+    let mut mask = L::zero();
     for i in a..b {
         mask = mask.or(L::at(part, i).xor(first));
     }

@@ -3,15 +3,12 @@ use Rattle.std.proofs.Common.{ℕ, arith, ◌-◌, subst}
 use native.Mathlib.Nat.{le_antisymm}
 use Rattle.rules.specs.Sample.{sample_of}
 use Rattle.rules.specs.Encoder.{turns_of}
-use Rattle.lines.proofs.Narrow.{narrow_none}
 use Rattle.encoder_scan.specs.Scan.{Counts}
 use Rattle.encoder_scan.proofs.Laws.{stepped_none, stepped_on, counts_of}
 use Rattle.encoder_scan.proofs.scan_in.Goals as goal
 
 pub loop-k-init : goal.loop-k-init
-loop-k-init g c =
-    let h = g.met.L.Lane.unit.least in
-    rw (narrow_none h c.narrow-moved.ensures, narrow_none h c.narrow-back.ensures, narrow_none h c.narrow-skipped.ensures) (omega arith, omega arith, stepped_none _ _ _ _)
+loop-k-init g c = rw (c.zero-moved.ensures, c.zero-back.ensures, c.zero-skipped.ensures) (omega arith, omega arith, stepped_none _ _ _ _)
 
 pub plus-moved-requires : goal.plus-moved-requires
 plus-moved-requires g c = omega (arith, c.loop-k.invariant.0, c.between-t.ensures.few, c.loop-k-test.true, c.requires.0)
@@ -31,7 +28,7 @@ loop-k-preserved g c =
     rw (c.plus-moved.ensures, c.plus-back.ensures, c.plus-skipped.ensures) (
       omega (arith, p.invariant.0, t.few),
       omega (arith, p.invariant.1, t.less),
-      stepped_on (sample_of g.L.Lane.size a.samples.now) a.a a.b a.p p.k _ _ (v p.moved) (v p.back) (v p.skipped) _ _ _ p.invariant.2 c.at.ensures.0 c.at-in-loop-k.ensures.0 (t.is a.a a.b c.bit-x.ensures c.bit-y.ensures),
+      stepped_on (sample_of g.L.Lane.size a.samples.now) a.a a.b a.p p.k _ _ (v p.moved) (v p.back) (v p.skipped) _ _ _ p.invariant.2 c.at.ensures.0 c.at-in-loop-k.ensures.0 (t.is a.a a.b c.ask-x.ensures c.ask-y.ensures),
     )
 
 pub returns : goal.returns

@@ -1,12 +1,11 @@
 -- One sample more, and the end.
 use Rattle.std.proofs.Common.{arith, sym, ◌∙◌}
 use Rattle.rules.specs.Sample.{sample_of}
-use Rattle.lines.proofs.Narrow.{narrow_none}
 use Rattle.range.proofs.Apart.{apart_none, apart_turn, scanned}
 use Rattle.range.proofs.raw_in.Goals as goal
 
 pub loop-i-init : goal.loop-i-init
-loop-i-init g c = narrow_none g.met.L.Lane.unit.least c.narrow-mask.ensures ∙ sym (apart_none (sample_of g.L.Lane.size c.args.part.now) c.args.a)
+loop-i-init g c = c.zero-mask.ensures ∙ sym (apart_none (sample_of g.L.Lane.size c.args.part.now) c.args.a)
 
 pub loop-i-preserved : goal.loop-i-preserved
 loop-i-preserved g c =

@@ -2,14 +2,12 @@
 use Rattle.std.proofs.Common.{arith}
 use native.Mathlib.Nat.{le_antisymm}
 use Rattle.rules.specs.Sample.{sample_of}
-use Rattle.lines.proofs.Narrow.{room_least, narrow_none}
+use Rattle.lines.proofs.Room.{room_least}
 use Rattle.range.proofs.Raw.{both_starts, both_on, both_ends}
 use Rattle.range.proofs.halves.both_in.Goals as goal
 
 pub loop-k-init : goal.loop-k-init
-loop-k-init g c =
-    let h = g.met.L.Lane.unit.least in
-    rw (narrow_none h c.narrow-mask.ensures, narrow_none h c.narrow-count.ensures) (omega arith, both_starts _ _)
+loop-k-init g c = rw (c.zero-mask.ensures, c.zero-count.ensures) (omega arith, both_starts _ _)
 
 pub plus-requires : goal.plus-requires
 plus-requires g c = omega (arith, room_least {u = g.L.Lane.size} g.met.L.Lane.unit.least, c.differs.ensures.1, c.loop-k.invariant.0, c.loop-k-test.true, c.requires.0)
