@@ -21,7 +21,7 @@ use Rattle.rules.proofs.Stretches.{stretches_places}
 use Rattle.shelf_head.specs.declared.Heading.{Heading}
 use Rattle.shelf_head.specs.Head.{heading_as}
 use Rattle.shelf_stretches.specs.declared.Run.{Run}
-use Rattle.shelf_stretches.specs.declared.Outcome.TheVariants as outcome
+use Rattle.std.specs.Prelude.{Some}
 use Rattle.shelf_stretches.specs.Told.{StretchRoom, told_to, closed, closed_list, stepped, stepped_list, Measured, Tallied, Surveys}
 use Rattle.shelf_stretches.proofs.Told.{told_length}
 use Rattle.shelf_stretches.proofs.Surveying.{Survey, fresh, survey_starts, closed_none, closed_one, known_on, unknown_on, survey_ends}
@@ -221,9 +221,9 @@ module _ {file : List ℕ} {n len per : ℕ} (t : Measured file n len per) {list
     pub last_room : StretchRoom run len
     last_room = subst⁻¹ (StretchRoom run) t.samples (end_room t.unit_size s all_done (omega (arith, t.samples, t.few)) (omega (arith, s.inside, ap blocks_for t.bytes, blocks_few t)))
 
-    pub surveyed : (room : ℕ) {last : Run} {list' : List ℕ} → last ≡ closed run → list' ≡ closed_list run len list
-        → Surveys room file list₀ (outcome.Whole (record { stretches = last.stretches; replaced = last.replaced })) list'
-    surveyed room {last} {list'} last_is list_is =
+    pub surveyed : (numbers : ℕ) {last : Run} {list' : List ℕ} → last ≡ closed run → list' ≡ closed_list run len list
+        → Surveys numbers file list₀ (Some (record { stretches = last.stretches; replaced = last.replaced })) list'
+    surveyed numbers {last} {list'} last_is list_is =
         let e = loop_ends t.unit_size s all_done in (
           subst⁻¹ (λ (x : Run). Tallied file (record { stretches = x.stretches; replaced = x.replaced })) last_is e.0,
           list_is ∙ ap (λ (p : ℕ). closed_list run p list) t.samples ∙ e.1,

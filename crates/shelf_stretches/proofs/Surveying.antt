@@ -11,7 +11,7 @@ use borrow.Author.Tests.{eq-eqb, ne_eqb}
 use Rattle.rules.specs.Stretches.{Stretch, joined, stretches_in, places_of}
 use Rattle.rules.proofs.Stretches.{joined_alone, joined_twice, all_known, all_unknown, stretches_apart}
 use Rattle.shelf_stretches.specs.declared.Run.{Run}
-use Rattle.shelf_stretches.specs.Told.{with_pair, told_to, closed, closed_list, stepped, stepped_list}
+use Rattle.shelf_stretches.specs.Told.{with_pair, told_to, closed, closed_list}
 use Rattle.shelf_stretches.proofs.Told.{told_next}
 
 -- ---- any places
@@ -62,28 +62,6 @@ module _ (run : Run) where
 
   pub closed_one : (run.count ≡ 0 → ⊥) → closed run ≡ ended
   closed_one z = ap (λ (b : Bool). cond b run ended) (ne_eqb run.count 0 z)
-
-  module _ (end : ℕ) (list : List ℕ) where
-    abbrev put_here : List ℕ
-    put_here = with_pair run.stretches (end - run.count) run.count list
-
-    pub closing_none : run.count ≡ 0 → (run ≡ closed run) × (list ≡ closed_list run end list)
-    closing_none z = (sym (closed_none z), sym (ap (λ (b : Bool). cond b list put_here) (eq-eqb run.count 0 z)))
-
-    pub closing_one : (run.count ≡ 0 → ⊥) → {list' : List ℕ} → list' ≡ put_here → (ended ≡ closed run) × (list' ≡ closed_list run end list)
-    closing_one z e = (sym (closed_one z), e ∙ sym (ap (λ (b : Bool). cond b list put_here) (ne_eqb run.count 0 z)))
-
--- a turn of the loop, by whether the block is known
-module _ (run : Run) (place many : ℕ) (list : List ℕ) where
-  abbrev longer : Run
-  longer = record { stretches = run.stretches; replaced = run.replaced; count = run.count + many }
-
-  pub stepping_known : {known : Bool} → known ≡ true → {run' : Run} {list' : List ℕ} → (run' ≡ closed run) × (list' ≡ closed_list run place list)
-      → (run' ≡ stepped run known many) × (list' ≡ stepped_list run place known list)
-  stepping_known k t = (t.0 ∙ sym (ap (λ (b : Bool). cond b (closed run) longer) k), t.1 ∙ sym (ap (λ (b : Bool). cond b (closed_list run place list) list) k))
-
-  pub stepping_unknown : {known : Bool} → known ≡ false → (longer ≡ stepped run known many) × (list ≡ stepped_list run place known list)
-  stepping_unknown k = (sym (ap (λ (b : Bool). cond b (closed run) longer) k), sym (ap (λ (b : Bool). cond b (closed_list run place list) list) k))
 
 module _ {known : ℕ → Bool} {len : ℕ} {list₀ : List ℕ} {p : ℕ} {run : Run} {list : List ℕ} (s : Survey known len list₀ p run list) where
   abbrev count : ℕ

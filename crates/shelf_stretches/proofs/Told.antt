@@ -50,11 +50,6 @@ told_next (d ∷ done) s (x ∷ []) = sym (pair_none (length (d ∷ done)) s.fir
 told_next (d ∷ done) s (x ∷ y ∷ l) =
     ap (λ (r : List ℕ). d.first ∷ d.count ∷ r) (told_next done s l) ∙ sym (pair_past (length done) s.first s.count d.first d.count (told_to done l))
 
-pub told_nothing : (ss : List Stretch) → told_to ss [] ≡ []
-unfolding told_to
-told_nothing [] = refl
-told_nothing (s ∷ ss) = refl
-
 pub told_length : (ss : List Stretch) (l : List ℕ) → length (told_to ss l) ≡ length l
 unfolding told_to
 told_length [] l = refl

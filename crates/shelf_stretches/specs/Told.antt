@@ -9,10 +9,7 @@ use Rattle.rules.specs.Stretches.{Stretch, pairs_of}
 use Rattle.rules.specs.Salvage.{stretches_of, replaced_in, list_need}
 use Rattle.shelf_stretches.specs.declared.Found.{Found}
 use Rattle.shelf_stretches.specs.declared.Run.{Run}
-use Rattle.shelf_stretches.specs.declared.Outcome.{Outcome}
-use Rattle.shelf_stretches.specs.declared.Outcome.TheVariants as outcome
-use Rattle.shelf_stretches.specs.declared.Finding.{Finding}
-use Rattle.shelf_stretches.specs.declared.Finding.TheVariants as finding
+use Rattle.std.specs.Prelude.{Option, None, Some}
 
 -- pair number `at` of the list, where there is room for it
 abbrev pub with_pair : ℕ → ℕ → ℕ → List ℕ → List ℕ
@@ -64,14 +61,14 @@ pub record Tallied (file : List ℕ) (found : Found) : Type 0 where
   pub replaced_are : found.replaced ≡ replaced_in file
 
 -- and the list as far as it reaches; or so many numbers, not none, are enough
-abbrev pub Surveys : ℕ → List ℕ → List ℕ → Outcome → List ℕ → Type 0
-Surveys room file list outcome.Enough list' = (0 < room) × (list_need file ≤ room) × (length list' ≡ length list)
-Surveys room file list (outcome.Whole found) list' = Tallied file found × (list' ≡ told_to (stretches_of file) list)
+abbrev pub Surveys : ℕ → List ℕ → List ℕ → Option Found → List ℕ → Type 0
+Surveys room file list None list' = (0 < room) × (list_need file ≤ room) × (length list' ≡ length list)
+Surveys room file list (Some found) list' = Tallied file found × (list' ≡ told_to (stretches_of file) list)
 
 -- and told whole, or the list is too short, and as it was
-abbrev pub Finds : List ℕ → List ℕ → Finding → List ℕ → Type 0
-Finds file list finding.Short list' = (ltb (length list) (list_need file) ≡ true) × (list' ≡ list)
-Finds file list (finding.Found found) list' =
+abbrev pub Finds : List ℕ → List ℕ → Option Found → List ℕ → Type 0
+Finds file list None list' = (ltb (length list) (list_need file) ≡ true) × (list' ≡ list)
+Finds file list (Some found) list' =
     (ltb (length list) (list_need file) ≡ false)
     × (found.stretches ≡ length (stretches_of file))
     × (found.replaced ≡ replaced_in file)

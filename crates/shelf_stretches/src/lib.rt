@@ -6,7 +6,6 @@ ghost use Rattle.rules.specs.Shelf.{blocks_for, head_test};
 ghost use Rattle.rules.specs.Salvage.{block_in, good_in, list_need};
 ghost use Rattle.shelf_stretches.specs.Told.{with_pair, StretchRoom, closed, closed_list, stepped, stepped_list, most_numbers, Measured, Tallied, Surveys, Finds};
 
-use number::lesser;
 use shelf_block::{BLOCK, PAYLOAD, good};
 use shelf_head::{blocks_for, heading_in};
 
@@ -23,14 +22,8 @@ fn block_known(file: &[u8], i: usize, n: usize) -> bool
     ensures { result ≡ good_in n (i + 1) (block_in (i + 1) file.now) }
 {
     let at = (i + 1) * BLOCK;
-    if file.len() < at + BLOCK {
-        return false;
-    }
-    good(
-        &file[at..at + BLOCK],
-        i + 1,
-        lesser(PAYLOAD, n - i * PAYLOAD),
-    )
+    let count = PAYLOAD.min(n - i * PAYLOAD);
+    at + BLOCK <= file.len() && good(&file[at..at + BLOCK], i + 1, count)
 }
 
 // A stretch becomes the list's pair number `at`, where there is room for it.
@@ -53,68 +46,57 @@ struct Run {
     count: usize,
 }
 
-// A stretch ends before a place, and is told; there is none where its count is 0.
-fn close(list: &mut [usize], run: Run, end: usize) -> Run
-    requires { StretchRoom run end }
-    ensures { (result ≡ closed run) × (list.new ≡ closed_list run end list.old) }
-{
-    if run.count == 0 {
-        return run;
-    }
-    put_stretch(list, run.stretches, end - run.count, run.count);
-    Run {
-        stretches: run.stretches + 1,
-        replaced: run.replaced + run.count,
-        count: 0,
-    }
-}
-
-// The samples of a block follow, from a place on: they are known, or a stretch goes on.
-fn step(list: &mut [usize], run: Run, place: usize, known: bool, many: usize) -> Run
-    requires { StretchRoom run place × (many < 2 ^ 32) }
-    ensures { (result ≡ stepped run known many) × (list.new ≡ stepped_list run place known list.old) }
-{
-    if known {
-        return close(list, run, place);
-    }
-    Run {
-        stretches: run.stretches,
-        replaced: run.replaced,
-        count: run.count + many,
-    }
-}
-
-// How many numbers the stretches take at the most, where so many blocks are left: no two of them touch.
-fn most_numbers(run: Run, left: usize) -> usize
-    requires { (run.stretches < 2 ^ 32) × (left < 2 ^ 32) }
-    ensures { result ≡ most_numbers run left }
-{
-    2 * (run.stretches + lesser(1, run.count)) + (left + 1) / 2 * 2
-}
-
-// Whether so many numbers are sure to be enough, so that a count may end. Where all blocks were good so far it goes on: if the
-// others are, there is nothing to tell, and no second pass.
-fn settled(run: Run, i: usize, left: usize, room: usize) -> bool
-    requires { (run.stretches < 2 ^ 32) × (run.count < 2 ^ 32) × (left < 2 ^ 32) }
-    ensures { result ≡ true → most_numbers run left ≤ room }
-{
-    if i != 0 {
-        if run.stretches + run.count == 0 {
-            return false;
+impl Run {
+    // A stretch ends before a place, and is told; there is none where its count is 0.
+    fn close(self, list: &mut [usize], end: usize) -> Run
+        requires { StretchRoom self end }
+        ensures { (result ≡ closed self) × (list.new ≡ closed_list self end list.old) }
+    {
+        if self.count == 0 {
+            return self;
+        }
+        put_stretch(list, self.stretches, end - self.count, self.count);
+        Run {
+            stretches: self.stretches + 1,
+            replaced: self.replaced + self.count,
+            count: 0,
         }
     }
-    most_numbers(run, left) <= room
+
+    // The samples of a block follow, from a place on: they are known, or a stretch goes on.
+    fn step(self, list: &mut [usize], place: usize, known: bool, many: usize) -> Run
+        requires { StretchRoom self place × (many < 2 ^ 32) }
+        ensures { (result ≡ stepped self known many) × (list.new ≡ stepped_list self place known list.old) }
+    {
+        if known {
+            return self.close(list, place);
+        }
+        Run {
+            count: self.count + many,
+            ..self
+        }
+    }
+
+    // How many numbers the stretches take at the most, where so many blocks are left: no two of them touch.
+    fn most_numbers(self, left: usize) -> usize
+        requires { (self.stretches < 2 ^ 32) × (left < 2 ^ 32) }
+        ensures { result ≡ most_numbers self left }
+    {
+        2 * (self.stretches + self.count.min(1)) + left.div_ceil(2) * 2
+    }
+
+    // Whether so many numbers are sure to be enough, so that a count may end. Where all blocks were good so far it goes on: if the
+    // others are, there is nothing to tell, and no second pass.
+    fn is_settled(self, i: usize, left: usize, room: usize) -> bool
+        requires { (self.stretches < 2 ^ 32) × (self.count < 2 ^ 32) × (left < 2 ^ 32) }
+        ensures { result ≡ true → most_numbers self left ≤ room }
+    {
+        (i == 0 || self.stretches + self.count != 0) && self.most_numbers(left) <= room
+    }
 }
 
-// What a survey comes to: the numbers that it was given are enough for whatever may follow, or it saw all blocks.
-#[derive(Clone, Copy)]
-enum Outcome {
-    Enough,
-    Whole(Found),
-}
-
-// The stretches of the blocks of n bytes and len samples, so many in a block, told as far as the list reaches; no further than
-// until so many numbers are sure to be enough.
+// The stretches of the blocks of n bytes and len samples, so many in a block, told as far as the list reaches; nothing as soon as
+// so many numbers are sure to be enough.
 fn survey_blocks(
     list: &mut [usize],
     room: usize,
@@ -122,7 +104,7 @@ fn survey_blocks(
     n: usize,
     len: usize,
     per: usize,
-) -> Outcome
+) -> Option<Found>
     requires { Measured file.now n len per }
     ensures { Surveys room file.now list.old result list.new }
 {
@@ -132,30 +114,24 @@ fn survey_blocks(
         replaced: 0,
         count: 0,
     };
-    let mut i = 0;
-    while i < k {
-        if settled(run, i, k - i, room) {
-            return Outcome::Enough;
+    for i in 0..k {
+        if run.is_settled(i, k - i, room) {
+            return None;
         }
         let at = i * per;
-        run = step(
-            list,
-            run,
-            at,
-            block_known(file, i, n),
-            lesser(per, len - at),
-        );
-        i += 1;
+        let many = per.min(len - at);
+        run = run.step(list, at, block_known(file, i, n), many);
     }
-    let last = close(list, run, len);
-    Outcome::Whole(Found {
+    let last = run.close(list, len);
+    Some(Found {
         stretches: last.stretches,
         replaced: last.replaced,
     })
 }
 
 // The stretches of a file, so. A block holds whole samples.
-fn survey(list: &mut [usize], room: usize, file: &[u8]) -> Outcome
+#[tactic(auto, using(shelf_head::proofs::Head::head_room))]
+fn survey(list: &mut [usize], room: usize, file: &[u8]) -> Option<Found>
     requires { head_test file.now ≡ true }
     ensures { Surveys room file.now list.old result list.new }
 {
@@ -170,46 +146,20 @@ fn survey(list: &mut [usize], room: usize, file: &[u8]) -> Outcome
     )
 }
 
-#[derive(Clone, Copy)]
-pub enum Finding {
-    Short,
-    Found(Found),
-}
-
-// All stretches of a file, told to a list that has room. No survey ends early for no numbers.
-fn tell(list: &mut [usize], file: &[u8]) -> Finding
-    requires { (head_test file.now ≡ true) × (list_need file.now ≤ length list.old) }
-    ensures { Finds file.now list.old result list.new }
-{
-    match survey(list, 0, file) {
-        Outcome::Enough => Finding::Short,
-        Outcome::Whole(found) => Finding::Found(found),
-    }
-}
-
-// They were counted, and are told where the list has room for them.
-fn tell_counted(list: &mut [usize], file: &[u8], found: Found) -> Finding
-    requires { (head_test file.now ≡ true) × Tallied file.now found }
-    ensures { Finds file.now list.old result list.new }
-{
-    if list.len() < 2 * found.stretches {
-        return Finding::Short;
-    }
-    if found.stretches == 0 {
-        return Finding::Found(found);
-    }
-    tell(list, file)
-}
-
-// The stretches of a file, told to a list that has room for all of them. Nothing is written to one that has not: they are
-// counted first, with no list, until that is settled.
-pub fn find(list: &mut [usize], file: &[u8]) -> Finding
+// The stretches of a file, told to a list that has room for all of them, or nothing. Nothing is written to one that has not: they are
+// counted first, with no list, until that is settled. No survey ends early for no numbers.
+pub fn find(list: &mut [usize], file: &[u8]) -> Option<Found>
     requires { head_test file.now ≡ true }
     ensures { Finds file.now list.old result list.new }
 {
     let room = list.len();
-    match survey(&mut list[0..0], room, file) {
-        Outcome::Enough => tell(list, file),
-        Outcome::Whole(found) => tell_counted(list, file, found),
+    if let Some(found) = survey(&mut [], room, file) {
+        if room < 2 * found.stretches {
+            return None;
+        }
+        if found.stretches == 0 {
+            return Some(found);
+        }
     }
+    survey(list, 0, file)
 }
