@@ -1,18 +1,17 @@
--- A mill's call in front of a service's: where the mill's rows pass, the service's own rows decide, and what is found is the answer.
-use Prim.Native.Nat.{ℕ, ◌≤◌}
-use mathlib.Core.Path.{◌≡◌, refl, sym, ap, ◌∙◌}
+-- A mill's call in front of a service's: where none of the mill's rows refuses, the service's own rows decide.
+use Prim.Native.Nat.{ℕ}
+use mathlib.Core.Path.{◌≡◌, refl, sym, ◌∙◌}
 use mathlib.Core.Bool.{Bool, true, false, cond}
-use mathlib.Core.List.{List, [], ◌++◌}
-use Rattle.std.specs.Prelude.{Option, None, Some, Err}
+use mathlib.Core.List.{List, ◌++◌}
+use Rattle.std.specs.Prelude.{Err}
 use native.Mathlib.Omega.{arith}
 use lib.IntN.{ℤ}
-use Rattle.rules.specs.Answer.{refused, given, unless}
-use Rattle.rules.specs.Refusal.{Row, first_of, store_rows, most_samples}
-use Rattle.rules.specs.Mill.{origin_of, before_first}
-use Rattle.rules.proofs.Refusal.{rows_passed}
+use Rattle.rules.specs.Answer.{refused, unless}
+use Rattle.rules.specs.Refusal.{Row, first_of, store_rows}
+use Rattle.rules.specs.Mill.{before_first}
 use Rattle.answer.specs.declared.Refusal.{Refusal}
 use Rattle.answer.specs.Answered.{number}
-use Rattle.answer.proofs.Answered.{number_least, stops, goes}
+use Rattle.answer.proofs.Answered.{number_least, stops}
 use Rattle.node.specs.declared.Memory.{Memory}
 use Rattle.capture.specs.declared.Capture.{Capture}
 use Rattle.capture.specs.declared.stored.Stored.{Stored}
@@ -31,10 +30,6 @@ three_passed true d e h = absurd (omega arith)
 three_passed false true e h = absurd (omega arith)
 three_passed false false true h = absurd (omega arith)
 three_passed false false false h = (refl, refl, refl)
-
-pub origin_inside : (mark : Option ℕ) (len : ℕ) → ((k : ℕ) → mark ≡ Some k → k ≤ len) → origin_of mark ≤ len
-origin_inside None len h = omega arith
-origin_inside (Some k) len h = h k refl
 
 -- ---- a row refuses, whatever rows the service has after it
 module _ (c : Capture) (m : Memory) (outside : Bool) (p q : ℤ) (r : Refusal) (e : Passes c m outside p q (Err r)) (rest : List Row) where
@@ -55,19 +50,3 @@ module _ {c : Capture} {m : Memory} {outside : Bool} {p q : ℤ} {s : Stored} (k
   -- the service's own rows decide
   pub under_open : (rest : List Row) → mill_refusal c m outside p q rest ≡ first_of rest
   under_open rest = rows_open k.opened (mill_rows (store_of c) outside p q ++ rest) ∙ (λ i. three (left.0 i) (left.1 i) (left.2 i) (first_of rest))
-
-  -- and what is found is the answer where they pass
-  pub under_given : {B : Type 0} (rest : List Row) → first_of rest ≡ 0 → (b a : B) → b ≡ a → given b ≡ unless (mill_refusal c m outside p q rest) a
-  under_given rest z b a h = goes _ a b (under_open rest ∙ z) h
-
-  origin_small : origin_in c ≤ most_samples
-  origin_small =
-      let t = (rows_passed (store_of c) (lent_in m) []).0 k.opened.passes in
-      omega (arith, origin_inside c.trigger c.len t.1, t.0.len_most, t.0.capacity_most)
-
-  -- what `place_at` requires, of the origin as the code worked it out
-  pub first_placed : (origin : ℕ) → origin ≡ origin_in c → (origin ≤ most_samples) × (before_first origin p ≡ false)
-  first_placed origin e = (omega (arith, origin_small), ap (λ (x : ℕ). before_first x p) e ∙ left.1)
-
-  pub second_placed : (origin : ℕ) → origin ≡ origin_in c → (origin ≤ most_samples) × (before_first origin q ≡ false)
-  second_placed origin e = (omega (arith, origin_small), ap (λ (x : ℕ). before_first x q) e ∙ left.2)
