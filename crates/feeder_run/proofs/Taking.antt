@@ -22,11 +22,11 @@ use Rattle.feeder_run.specs.Run.{room_of, RunIs, bytes_of, WriteRoom, RunRoom, T
 use Rattle.feeder_run.proofs.Cuts.{room_cuts, run_count, run_room, first_bytes, bytes_size}
 
 -- no room
-pub takes_none : (f : Feeder) (u n : ℕ) (x s : List ℕ) (lv : ℕ → List ℕ) → f.capture.capacity < f.capture.len + room_for f.limit f.capture.len n → Takes f u n x s lv None s lv
-takes_none f u n x s lv h = record {
+pub takes_none : (f : Feeder) (n : ℕ) (x s : List ℕ) (lv : ℕ → List ℕ) → f.capture.capacity < f.capture.len + room_for f.limit f.capture.len n → Takes f n x s lv None s lv
+takes_none f n x s lv h = record {
   taken_is = sym (ap (λ (t : Bool). cond t (Some (room_for f.limit f.capture.len n)) None) (lt-leb (f.capture.len + room_for f.limit f.capture.len n) f.capture.capacity h));
-  memory = stored_none u f.capture.len 0 x s lv refl;
-  enough = omega (arith, zero-mul u);
+  memory = stored_none f.capture.unitsize f.capture.len 0 x s lv refl;
+  enough = omega (arith, zero-mul f.capture.unitsize);
 }
 
 -- of x only its first bytes are meant
@@ -36,10 +36,10 @@ first_stored u len k x s lv s' lv' d = record {
   levels_are = d.levels_are;
 }
 
-module _ (f : Feeder) (p : Samples) (s : List ℕ) (lv : ℕ → List ℕ) (g : List ℕ) (w d : ℕ) (h : RunRoom f p (length s) lv (length g) w d)
+module _ (f : Feeder) (p : Samples) (s : List ℕ) (lv : ℕ → List ℕ) (g : List ℕ) (w d : ℕ) (h : RunRoom f p (length s) lv (length g)) (kept : w ≤ f.pre) (passed : d ≤ p.n)
     (free : ltb f.capture.capacity (f.capture.len + room_for f.limit f.capture.len (w + (p.n - d))) ≡ false) (r : Run) (is : RunIs (room_of f) f.pre f.place w (p.n - d) r) where
   abbrev u : ℕ
-  u = p.unitsize
+  u = f.capture.unitsize
 
   abbrev b : List ℕ
   b = p.bytes.now
@@ -50,21 +50,24 @@ module _ (f : Feeder) (p : Samples) (s : List ℕ) (lv : ℕ → List ℕ) (g : 
   abbrev x : List ℕ
   x = kept_bytes u f.pre g f.place w ++ drop (d * u) b
 
+  bytes : p.n * u ≤ length b
+  bytes = rw h.unit_is at p.held.room
+
   fits : f.capture.len + count ≤ f.capture.capacity
   fits = ltb-false f.capture.capacity (f.capture.len + count) free
 
   all : r.count ≡ count
-  all = run_count u f.pre g f.place w b d p.n (room_of f) r h.ring h.place_inside h.kept h.passed p.held.room is ∙ sym (room_cuts f (w + (p.n - d)) fits)
+  all = run_count u f.pre g f.place w b d p.n (room_of f) r h.ring h.place_inside kept passed bytes is ∙ sym (room_cuts f (w + (p.n - d)) fits)
 
   pub write_room : WriteRoom u f.capture.len r d (length s) lv (length g) (length b)
   write_room =
-      run_room u f.pre g f.place w b d p.n (room_of f) r h.ring h.place_inside h.kept h.passed p.held.room is f.capture.len (length s) lv
+      run_room u f.pre g f.place w b d p.n (room_of f) r h.ring h.place_inside kept passed bytes is f.capture.len (length s) lv
       (less_room u f.capture.len (f.capture.capacity - f.capture.len) r.count (length s) lv h.room (omega (arith, fits, all)))
 
   first : bytes_of u g b d r ≡ take (r.count * u) x
-  first = first_bytes u f.pre g f.place w b d p.n (room_of f) r h.ring h.place_inside h.kept h.passed p.held.room is
+  first = first_bytes u f.pre g f.place w b d p.n (room_of f) r h.ring h.place_inside kept passed bytes is
 
-  pub takes_some : {s' : List ℕ} {lv' : ℕ → List ℕ} → Stored u f.capture.len r.count (bytes_of u g b d r) s lv s' lv' → Takes f u (w + (p.n - d)) x s lv (Some r.count) s' lv'
+  pub takes_some : {s' : List ℕ} {lv' : ℕ → List ℕ} → Stored u f.capture.len r.count (bytes_of u g b d r) s lv s' lv' → Takes f (w + (p.n - d)) x s lv (Some r.count) s' lv'
   takes_some {s'} {lv'} e = record {
     taken_is = ap (λ (k : ℕ). Some k) all ∙ sym (ap (λ (t : Bool). cond t (Some count) None) (le-leb (f.capture.len + count) f.capture.capacity fits));
     memory = first_stored u f.capture.len r.count x s lv s' lv' (subst (λ (y : List ℕ). Stored u f.capture.len r.count y s lv s' lv') first e);

@@ -40,17 +40,16 @@ pub record WriteRoom (unit len : ℕ) (r : Run) (d s : ℕ) (levels : ℕ → Li
   pub own_fits : (d + r.own) * unit ≤ b
 
 -- ---- the whole
--- memory has room up to the capacity; the w newest samples of a ring in g bytes are meant, and of a push's all but the first d
-pub record RunRoom (f : Feeder) (p : Samples) (s : ℕ) (levels : ℕ → List ℕ) (g w d : ℕ) : Type 0 where
-  pub room : StoreRoom p.unitsize f.capture.len (f.capture.capacity - f.capture.len) s levels
+-- memory has room up to the capacity, and g bytes have the ring's slots
+pub record RunRoom (f : Feeder) (p : Samples) (s : ℕ) (levels : ℕ → List ℕ) (g : ℕ) : Type 0 where
+  pub unit_is : p.unitsize ≡ f.capture.unitsize
+  pub room : StoreRoom f.capture.unitsize f.capture.len (f.capture.capacity - f.capture.len) s levels
   pub within : Within f
-  pub ring : f.pre * p.unitsize ≤ g
+  pub ring : f.pre * f.capture.unitsize ≤ g
   pub place_inside : f.place < max f.pre 1
-  pub kept : w ≤ f.pre
-  pub passed : d ≤ p.n
 
 -- of n samples, x their bytes, as many went to the store as the limit leaves room for, or none where these have no room
-pub record Takes (f : Feeder) (unit n : ℕ) (x samples : List ℕ) (levels : ℕ → List ℕ) (t : Option ℕ) (samples' : List ℕ) (levels' : ℕ → List ℕ) : Type 0 where
+pub record Takes (f : Feeder) (n : ℕ) (x samples : List ℕ) (levels : ℕ → List ℕ) (t : Option ℕ) (samples' : List ℕ) (levels' : ℕ → List ℕ) : Type 0 where
   pub taken_is : t ≡ cond (leb (f.capture.len + room_for f.limit f.capture.len n) f.capture.capacity) (Some (room_for f.limit f.capture.len n)) None
-  pub memory : Stored unit f.capture.len (unwrap_or t 0) x samples levels samples' levels'
-  pub enough : unwrap_or t 0 * unit ≤ length x
+  pub memory : Stored f.capture.unitsize f.capture.len (unwrap_or t 0) x samples levels samples' levels'
+  pub enough : unwrap_or t 0 * f.capture.unitsize ≤ length x

@@ -9,6 +9,7 @@ ghost use Rattle.rules.specs.Ring.{kept_bytes};
 ghost use Rattle.rules.specs.Push.{room_for};
 ghost use Rattle.feeder_run.specs.Run.{room_of, Within, RunIs, bytes_of, WriteRoom, RunRoom, Takes};
 
+use capture::Capture;
 use feeder::Feeder;
 use feeder_scan::samples::Samples;
 use lines::Mask;
@@ -28,8 +29,8 @@ pub fn store_run(
     w: usize,
     d: usize,
 ) -> Option<usize>
-    requires { RunRoom f.now pushed.now (length samples.old) (level_of l1.old l2.old l3.old l4.old) (length ring.now) w d }
-    ensures { Takes f.now pushed.now.unitsize (w + (pushed.now.n - d)) (kept_bytes pushed.now.unitsize f.now.pre ring.now f.now.place w ++ drop (d * pushed.now.unitsize) pushed.now.bytes.now) samples.old (level_of l1.old l2.old l3.old l4.old) result samples.new (level_of l1.new l2.new l3.new l4.new) }
+    requires { RunRoom f.now pushed.now (length samples.old) (level_of l1.old l2.old l3.old l4.old) (length ring.now) × (w ≤ f.now.pre) × (d ≤ pushed.now.n) }
+    ensures { Takes f.now (w + (pushed.now.n - d)) (kept_bytes f.now.capture.unitsize f.now.pre ring.now f.now.place w ++ drop (d * f.now.capture.unitsize) pushed.now.bytes.now) samples.old (level_of l1.old l2.old l3.old l4.old) result samples.new (level_of l1.new l2.new l3.new l4.new) }
 {
     let own = pushed.n - d;
     if is_full(f, w, own) {
@@ -42,9 +43,9 @@ pub fn store_run(
         l2,
         l3,
         l4,
-        f.capture.len,
+        &f.capture,
         ring,
-        pushed,
+        pushed.bytes,
         &run,
         d,
     );
@@ -113,23 +114,23 @@ fn part<'a>(bytes: &'a [u8], unitsize: usize, from: usize, k: usize) -> &'a [u8]
     &bytes[from * unitsize..(from + k) * unitsize]
 }
 
-// The run is written behind the len stored samples; the push's own start at its sample d.
+// The run is written behind the stored samples; the push's own start at its sample d.
 fn write_run(
     samples: &mut [u8],
     l1: &mut [Mask],
     l2: &mut [Mask],
     l3: &mut [Mask],
     l4: &mut [Mask],
-    len: usize,
+    capture: &Capture,
     ring: &[u8],
-    pushed: &Samples<'_>,
+    bytes: &[u8],
     run: &Run,
     d: usize,
 )
-    requires { WriteRoom pushed.now.unitsize len run.now d (length samples.old) (level_of l1.old l2.old l3.old l4.old) (length ring.now) (length pushed.now.bytes.now) }
-    ensures { Stored pushed.now.unitsize len run.now.count (bytes_of pushed.now.unitsize ring.now pushed.now.bytes.now d run.now) samples.old (level_of l1.old l2.old l3.old l4.old) samples.new (level_of l1.new l2.new l3.new l4.new) }
+    requires { WriteRoom capture.now.unitsize capture.now.len run.now d (length samples.old) (level_of l1.old l2.old l3.old l4.old) (length ring.now) (length bytes.now) }
+    ensures { Stored capture.now.unitsize capture.now.len run.now.count (bytes_of capture.now.unitsize ring.now bytes.now d run.now) samples.old (level_of l1.old l2.old l3.old l4.old) samples.new (level_of l1.new l2.new l3.new l4.new) }
 {
-    let unitsize = pushed.unitsize;
+    let unitsize = capture.unitsize;
     append_parts(
         samples,
         l1,
@@ -137,10 +138,10 @@ fn write_run(
         l3,
         l4,
         unitsize,
-        len,
+        capture.len,
         run.count,
         part(ring, unitsize, run.end, run.older),
         part(ring, unitsize, run.start, run.newer),
-        part(pushed.bytes, unitsize, d, run.own),
+        part(bytes, unitsize, d, run.own),
     );
 }
