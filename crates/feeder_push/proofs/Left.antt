@@ -1,7 +1,8 @@
 -- What is left once samples went to the store, or had no room there.
-use mathlib.Core.Path.{◌≡◌, refl, sym, ap, ◌∙◌, subst, subst⁻¹}
+use mathlib.Core.Path.{◌≡◌, refl, sym, ap, ◌∙◌, subst}
 use mathlib.Core.Bool.{Bool, true, false, cond}
-use Rattle.std.specs.Prelude.{None, Some}
+use Rattle.std.specs.Prelude.{Option, None, Some, unwrap_or, Result}
+use Rattle.answer.specs.declared.Refusal.{Refusal}
 use mathlib.Core.List.{List, ◌++◌, append_assoc}
 use Prim.Native.Nat.{ℕ, ◌+◌, ◌-◌, ◌*◌, ◌≤◌}
 use native.Mathlib.Nat.{sub_self}
@@ -15,17 +16,14 @@ use Rattle.rules.specs.Refusal.{Recorder}
 use Rattle.store.specs.Stored.{LevelsAfter}
 use Rattle.store.proofs.Levels.{levels_none}
 use Rattle.store.proofs.Stored.{none_samples, none_levels}
-use Rattle.feeder_run.specs.declared.Taken.{Taken}
-use Rattle.feeder_run.specs.declared.Taken.TheVariants.{Full, Count}
-use Rattle.feeder_run.specs.Run.{count_in, Takes}
+use Rattle.feeder_run.specs.Run.{Takes}
 use Rattle.rules.specs.Ring.{written}
-use Rattle.rules.specs.Push.{room_for, with_len}
+use Rattle.rules.specs.Push.{room_for}
 use Rattle.rules.specs.Selection.{reply_of}
 use Rattle.feeder_lists.specs.Push.{storable, store_bytes}
 use Rattle.feeder.specs.declared.Feeder.{Feeder}
 use Rattle.feeder.specs.Record.{recorder_of}
 use Rattle.feeder_push.specs.declared.Pushed.{Pushed}
-use Rattle.feeder_push.specs.declared.Pushed.TheVariants.{Refused}
 use Rattle.feeder_push.specs.Push.{reply_as, feeder_in}
 use Rattle.feeder_push.specs.Inner.{Answers, Stores}
 
@@ -39,18 +37,11 @@ is_some true m k e = (refl, cc)
 is_some false m k e = absurd (let z : ◌≡◌ {A = ℕ} 0 1 = cc in omega arith)
 
 -- what was taken is within the capacity
-pub takes_fits : {u capacity len limit n : ℕ} {x s : List ℕ} {lv : ℕ → List ℕ} {s' : List ℕ} {lv' : ℕ → List ℕ} (t : Taken) → Takes u capacity len limit n x s lv t s' lv' → len ≤ capacity → len + count_in t ≤ capacity
-takes_fits Full d h = omega arith
-takes_fits {capacity = capacity} {len = len} {limit = limit} {n = n} (Count k) d h =
-    let t = is_some (leb (len + room_for limit len n) capacity) (room_for limit len n) k d.taken_is in
-    omega (arith, leb-true (len + room_for limit len n) capacity t.0, t.1)
-
--- ---- the answer in each case
-pub answers_none : (f : Feeder) (c : Recorder) (t : Taken) → t ≡ Full → Answers (recorder_of f) c t (Refused 8 f)
-answers_none f c t e = subst⁻¹ (λ (x : Taken). Answers (recorder_of f) c x (Refused 8 f)) e (record { reply_is = refl; recorder_is = refl })
-
-pub answers_some : (back c : Recorder) (t : Taken) (k : ℕ) (r : Pushed) → t ≡ Count k → reply_as r ≡ reply_of unarmed c.limit (c.store.len + k) → recorder_of (feeder_in r) ≡ with_len c (c.store.len + k) → Answers back c t r
-answers_some back c t k r e reply recorder = subst⁻¹ (λ (x : Taken). Answers back c x r) e (record { reply_is = reply; recorder_is = recorder })
+pub takes_fits : {f : Feeder} {n : ℕ} {x s : List ℕ} {lv : ℕ → List ℕ} {s' : List ℕ} {lv' : ℕ → List ℕ} (t : Option ℕ) → Takes f n x s lv t s' lv' → f.capture.len ≤ f.capture.capacity → f.capture.len + unwrap_or t 0 ≤ f.capture.capacity
+takes_fits None d h = omega arith
+takes_fits {f} {n} (Some k) d h =
+    let t = is_some (leb (f.capture.len + room_for f.limit f.capture.len n) f.capture.capacity) (room_for f.limit f.capture.len n) k d.taken_is in
+    omega (arith, leb-true (f.capture.len + room_for f.limit f.capture.len n) f.capture.capacity t.0, t.1)
 
 -- ---- the bytes of k samples, in the other form
 paste_joined : (s : List ℕ) (at : ℕ) (x : List ℕ) (k : ℕ) → k ≤ length x → paste s at x k ≡ written s at (take k x)
@@ -58,27 +49,37 @@ paste_joined s at x k h =
     ap (λ (z : List ℕ). take at s ++ take k x ++ z) (sym (drop-drop k at s) ∙ ap (λ (j : ℕ). drop j (drop at s)) (sym (length-take-le k x h)))
     ∙ append_assoc (take at s) (take k x) (drop (length (take k x)) (drop at s))
 
-module _ (back c : Recorder) (n : ℕ) (x s : List ℕ) (lv : ℕ → List ℕ) (same_len : back.store.len ≡ c.store.len) (fired : c.armed ≡ unarmed) (r : Pushed) (s' : List ℕ) (lv' : ℕ → List ℕ) where
-  abbrev Took : Taken → Type 0
-  Took t = Takes c.store.unit c.store.capacity c.store.len c.limit n x s lv t s' lv'
+-- the recorder with another mark and state
+abbrev pub like : Recorder → Option ℕ → Armed → Option ℕ → ℕ → ℕ → Recorder
+like c mark armed previous place kept = record {
+  store = record { unit = c.store.unit; capacity = c.store.capacity; len = c.store.len; mark = mark };
+  limit = c.limit;
+  pre = c.pre;
+  armed = armed;
+  previous = previous;
+  place = place;
+  kept = kept;
+}
 
-  stores_none : Took Full → Answers back c Full r → Stores back c n x s lv r s' lv'
+-- samples go to the store of f, which is unarmed by then
+module _ (f : Feeder) (mark : Option ℕ) {armed : Armed} (fired : armed ≡ unarmed) (previous : Option ℕ) (place kept : ℕ) (n : ℕ) (x s : List ℕ) (lv : ℕ → List ℕ) (r : Result Pushed Refusal) (s' : List ℕ) (lv' : ℕ → List ℕ) where
+  abbrev c : Recorder
+  c = like (recorder_of f) mark armed previous place kept
+
+  stores_none : Takes f n x s lv None s' lv' → Answers c None r → Stores f c n x s lv r s' lv'
   unfolding store_bytes
   stores_none d a = record {
-    left_is = λ g. rw (not_some (leb (c.store.len + storable c n) c.store.capacity) (storable c n) d.taken_is) (λ i. record { reply = a.reply_is i; recorder = a.recorder_is i; samples = none_samples d.memory refl i; ring = g });
-    levels_are = λ l p q. none_levels d.memory refl l p q ∙ levels_none c.store.unit c.store.len ((feeder_in r).capture.len - c.store.len) s' lv none_more l p q;
+    left_is = λ g. rw (not_some (leb (c.store.len + storable c n) c.store.capacity) (storable c n) d.taken_is) (λ i. record { reply = a.reply_is i; recorder = a.recorder_is f i; samples = none_samples d.memory refl i; ring = g });
+    levels_are = λ l p q. none_levels d.memory refl l p q ∙ levels_none c.store.unit c.store.len ((feeder_in f r).capture.len - c.store.len) s' lv none_more l p q;
   }
     where
-      len_left : (feeder_in r).capture.len ≡ c.store.len
-      len_left = ap (λ (z : Recorder). z.store.len) a.recorder_is ∙ same_len
+      none_more : (feeder_in f r).capture.len - c.store.len ≡ 0
+      none_more = ap (λ (z : Recorder). z.store.len - c.store.len) (a.recorder_is f) ∙ sub_self c.store.len
 
-      none_more : (feeder_in r).capture.len - c.store.len ≡ 0
-      none_more = ap (λ (k : ℕ). k - c.store.len) len_left ∙ sub_self c.store.len
-
-  stores_some : (k : ℕ) → Took (Count k) → Answers back c (Count k) r → Stores back c n x s lv r s' lv'
+  stores_some : (k : ℕ) → Takes f n x s lv (Some k) s' lv' → Answers c (Some k) r → Stores f c n x s lv r s' lv'
   unfolding store_bytes
   stores_some k d a = record {
-    left_is = λ g. rw (which.0, which.1) (λ i. record { reply = reply_left i; recorder = a.recorder_is i; samples = samples_left i; ring = g });
+    left_is = λ g. rw (which.0, which.1) (λ i. record { reply = reply_left i; recorder = a.recorder_is f i; samples = samples_left i; ring = g });
     levels_are = subst (λ (m : ℕ). LevelsAfter c.store.unit c.store.len m s' lv lv') more d.memory.levels_are;
   }
     where
@@ -91,12 +92,12 @@ module _ (back c : Recorder) (n : ℕ) (x s : List ℕ) (lv : ℕ → List ℕ) 
       reply_left : reply_as r ≡ reply_of c.armed c.limit (c.store.len + k)
       reply_left = a.reply_is ∙ ap (λ (z : Armed). reply_of z c.limit (c.store.len + k)) (sym fired)
 
-      len_left : (feeder_in r).capture.len ≡ c.store.len + k
-      len_left = ap (λ (z : Recorder). z.store.len) a.recorder_is
+      len_left : (feeder_in f r).capture.len ≡ c.store.len + k
+      len_left = ap (λ (z : Recorder). z.store.len) (a.recorder_is f)
 
-      more : k ≡ (feeder_in r).capture.len - c.store.len
+      more : k ≡ (feeder_in f r).capture.len - c.store.len
       more = omega (arith, len_left)
 
-  pub stores_is : (t : Taken) → Took t → Answers back c t r → Stores back c n x s lv r s' lv'
-  stores_is Full d a = stores_none d a
-  stores_is (Count k) d a = stores_some k d a
+  pub stores_is : (t : Option ℕ) → Takes f n x s lv t s' lv' → Answers c t r → Stores f c n x s lv r s' lv'
+  stores_is None d a = stores_none d a
+  stores_is (Some k) d a = stores_some k d a

@@ -1,32 +1,54 @@
 // One push of a recorder.
 #![tactic(auto)]
 
-ghost use Rattle.std.specs.Prelude.{◌≡◌, ◌++◌, ◌+◌, ◌-◌, ◌*◌, ◌≤◌, ◌<◌, min, length, drop};
-ghost use Rattle.rules.specs.Sample.{sample_of};
-ghost use Rattle.rules.specs.Refusal.{most_samples};
-ghost use Rattle.node.specs.Memory.{level_of};
-ghost use Rattle.feeder_run.specs.Run.{count_in};
+ghost use Rattle.std.specs.Prelude.{◌≡◌, ◌++◌, ◌+◌, ◌-◌, ◌*◌, ◌≤◌, ◌<◌, max, min, length, drop, unwrap_or};
+ghost use Rattle.rules.specs.Refusal.{most_samples, recorder_refusal};
 ghost use Rattle.rules.specs.Ring.{kept_bytes};
 ghost use Rattle.rules.specs.Push.{fired_by, wanted, passed};
+ghost use Rattle.node.specs.Memory.{level_of};
+ghost use Rattle.answer.specs.Answered.{refusal_of};
+ghost use Rattle.capture.specs.Record.{lent_of};
 ghost use Rattle.feeder.specs.Record.{recorder_of};
+ghost use Rattle.feeder_scan.specs.Scan.{sample_in};
+ghost use Rattle.feeder_ring.specs.Room.{RingRoom};
+ghost use Rattle.feeder_run.specs.Run.{RunRoom};
 ghost use Rattle.feeder_push.specs.Push.{Pushes};
-ghost use Rattle.feeder_push.specs.Inner.{Answers, Stores, PushRoom, WaitRoom, Waits};
+ghost use Rattle.feeder_push.specs.Inner.{Answers, Stores, Waits};
 
-use capture::{Capture, Mark};
-use feeder::{Armed, Feeder, refusal_of};
-use feeder_ring::place_after;
-use feeder_run::{Taken, store_run};
+use answer::Refusal;
+use capture::Capture;
+use feeder::Feeder;
+use feeder_ring::{place_after, ring_write};
+use feeder_run::store_run;
+use feeder_scan::samples::Samples;
 use feeder_scan::{first_fire, last_sample};
-use lines::{Mask, get};
-use number::lesser;
-use terms::Previous;
+use lines::Mask;
+use node::{Levels, Memory};
 
-// What push answers: the number of a refusal and the record as it was given, or the record after the push.
+// The record after a push: the recording goes on, or is complete. After a refusal it is as it was given.
 #[derive(Clone, Copy)]
 pub enum Pushed {
-    Refused(u8, Feeder),
     GoingOn(Feeder),
     Complete(Feeder),
+}
+
+// Rows 1 and 2. The slices are lent together here: a `Memory` in `push` itself would be of five lifetimes.
+fn check<'a>(
+    f: &Feeder,
+    samples: &'a [u8],
+    l1: &'a [Mask],
+    l2: &'a [Mask],
+    l3: &'a [Mask],
+    l4: &'a [Mask],
+    ring: &[u8],
+) -> Result<(), Refusal>
+    ensures { refusal_of result ≡ recorder_refusal (recorder_of f.now) (lent_of samples.now (level_of l1.now l2.now l3.now l4.now)) (length ring.now) }
+{
+    let memory = Memory {
+        samples,
+        levels: Levels { l1, l2, l3, l4 },
+    };
+    f.check(&memory, ring)
 }
 
 // 01's push: refused with 1, 2 or 8 and everything as it was given, or the samples go to the ring or to the store.
@@ -39,107 +61,77 @@ pub fn push(
     l4: &mut [Mask],
     ring: &mut [u8],
     bytes: &[u8],
-) -> Pushed
+) -> Result<Pushed, Refusal>
     ensures { Pushes f bytes.now samples.old (level_of l1.old l2.old l3.old l4.old) ring.old result samples.new (level_of l1.new l2.new l3.new l4.new) ring.new }
 {
-    let number = refusal_of(
-        f,
+    check(
+        &f,
         &samples[..],
         &l1[..],
         &l2[..],
         &l3[..],
         &l4[..],
         &ring[..],
-    );
-    if number != 0 {
-        return Pushed::Refused(number, f);
-    }
-    let capture = f.capture;
-    let unitsize = capture.unitsize;
-    let n = bytes.len() / unitsize;
-    let masks = f.masks;
-    let Armed::Waiting(m) = masks else {
-        let taken = store_run(
-            unitsize,
-            capture.capacity,
-            capture.len,
-            f.limit,
-            f.pre,
-            f.place,
-            samples,
-            l1,
-            l2,
-            l3,
-            l4,
-            &ring[..],
-            bytes,
-            0,
-            0,
-            n,
-        );
-        return answer(f, f, taken);
+    )?;
+    let unitsize = f.capture.unitsize;
+    let pushed = Samples {
+        bytes,
+        unitsize,
+        n: bytes.len() / unitsize,
     };
-    let prev = f.prev;
-    let i = first_fire(m, prev, bytes, unitsize, n);
-    if i < n {
-        return fire(f, samples, l1, l2, l3, l4, &ring[..], bytes, n, i);
+    let Some(masks) = f.masks else {
+        let taken = store_run(&f, samples, l1, l2, l3, l4, &ring[..], &pushed, 0, 0);
+        return answer(f, taken);
+    };
+    let i = first_fire(masks, f.prev, &pushed);
+    if i < pushed.n {
+        return fire(f, samples, l1, l2, l3, l4, &ring[..], &pushed, i);
     }
-    Pushed::GoingOn(wait(f, ring, bytes, n))
+    Ok(Pushed::GoingOn(wait(f, ring, &pushed)))
 }
 
-// The answer of f, an unarmed recorder, once samples went to its store; where they had no room `back` is given back.
-fn answer(back: Feeder, f: Feeder, taken: Taken) -> Pushed
-    requires { f.capture.len + count_in taken ≤ most_samples }
-    ensures { Answers (recorder_of back) (recorder_of f) taken result }
+// The answer of f, an unarmed recorder, once samples went to its store or had no room there.
+fn answer(f: Feeder, taken: Option<usize>) -> Result<Pushed, Refusal>
+    requires { f.capture.len + unwrap_or taken 0 ≤ most_samples }
+    ensures { Answers (recorder_of f) taken result }
 {
-    let Taken::Count(k) = taken else {
-        return Pushed::Refused(8, back);
+    let Some(k) = taken else {
+        return Err(Refusal::Full);
     };
-    let limit = f.limit;
-    let mut capture = f.capture;
-    let len = capture.len + k;
-    capture.len = len;
-    let mut next = f;
-    next.capture = capture;
-    if limit == 0 {
-        return Pushed::GoingOn(next);
+    let len = f.capture.len + k;
+    let next = Feeder {
+        capture: Capture { len, ..f.capture },
+        ..f
+    };
+    if f.limit != 0 && len == f.limit {
+        return Ok(Pushed::Complete(next));
     }
-    if len == limit {
-        return Pushed::Complete(next);
-    }
-    Pushed::GoingOn(next)
+    Ok(Pushed::GoingOn(next))
 }
 
 // ---- an armed recorder
 
 // kept with k more, of which pre at most are kept.
 fn filled(kept: usize, pre: usize, k: usize) -> usize
-    requires { kept ≤ pre }
     ensures { result ≡ min pre (kept + k) }
 {
-    kept + lesser(k, pre - kept)
+    pre.min(kept.saturating_add(k))
 }
 
 // The recorder fired by v, sample i of the push.
 fn fired_by(f: Feeder, v: Mask, i: usize) -> Feeder
-    requires { f.kept ≤ f.pre }
     ensures { recorder_of result ≡ fired_by (recorder_of f) v i }
 {
-    let capture = f.capture;
-    let mark = filled(f.kept, f.pre, i);
     Feeder {
         capture: Capture {
-            unitsize: capture.unitsize,
-            capacity: capture.capacity,
-            len: capture.len,
-            trigger: Mark::At(mark),
+            trigger: Some(filled(f.kept, f.pre, i)),
+            ..f.capture
         },
-        limit: f.limit,
-        pre: f.pre,
-        masks: Armed::Unarmed,
-        prev: Previous::Sample(v),
+        masks: None,
+        prev: Some(v),
         place: 0,
         kept: 0,
+        ..f
     }
 }
 
@@ -152,58 +144,28 @@ fn fire(
     l3: &mut [Mask],
     l4: &mut [Mask],
     ring: &[u8],
-    bytes: &[u8],
-    n: usize,
+    pushed: &Samples<'_>,
     i: usize,
-) -> Pushed
-    requires { PushRoom (recorder_of f) samples.old (level_of l1.old l2.old l3.old l4.old) (length ring.now) (length bytes.now) n × (i < n) }
-    ensures { Stores (recorder_of f) (fired_by (recorder_of f) (sample_of f.capture.unitsize bytes.now i) i) (wanted (recorder_of f) i + (n - passed (recorder_of f) i)) (kept_bytes f.capture.unitsize f.pre ring.now f.place (wanted (recorder_of f) i) ++ drop (passed (recorder_of f) i * f.capture.unitsize) bytes.now) samples.old (level_of l1.old l2.old l3.old l4.old) result samples.new (level_of l1.new l2.new l3.new l4.new) }
+) -> Result<Pushed, Refusal>
+    requires { RunRoom f pushed.now (length samples.old) (level_of l1.old l2.old l3.old l4.old) (length ring.now) × (i < pushed.now.n) }
+    ensures { Stores f (fired_by (recorder_of f) (sample_in pushed.now i) i) (wanted (recorder_of f) i + (pushed.now.n - passed (recorder_of f) i)) (kept_bytes f.capture.unitsize f.pre ring.now f.place (wanted (recorder_of f) i) ++ drop (passed (recorder_of f) i * f.capture.unitsize) pushed.now.bytes.now) samples.old (level_of l1.old l2.old l3.old l4.old) result samples.new (level_of l1.new l2.new l3.new l4.new) }
 {
-    let capture = f.capture;
-    let unitsize = capture.unitsize;
-    let before = lesser(i, f.pre);
-    let w = lesser(f.kept, f.pre - before);
-    let taken = store_run(
-        unitsize,
-        capture.capacity,
-        capture.len,
-        f.limit,
-        f.pre,
-        f.place,
-        samples,
-        l1,
-        l2,
-        l3,
-        l4,
-        ring,
-        bytes,
-        w,
-        i - before,
-        n,
-    );
-    let v = get(bytes, unitsize, i);
-    answer(f, fired_by(f, v, i), taken)
+    let before = i.min(f.pre);
+    let w = f.kept.min(f.pre - before);
+    let taken = store_run(&f, samples, l1, l2, l3, l4, ring, pushed, w, i - before);
+    answer(fired_by(f, pushed.at(i), i), taken)
 }
 
-// A push that does not fire: its n samples go to the ring.
-fn wait(f: Feeder, ring: &mut [u8], bytes: &[u8], n: usize) -> Feeder
-    requires { WaitRoom (recorder_of f) (length ring.old) (length bytes.now) n }
-    ensures { Waits (recorder_of f) n bytes.now ring.old result ring.new }
+// A push that does not fire: its samples go to the ring.
+fn wait(f: Feeder, ring: &mut [u8], pushed: &Samples<'_>) -> Feeder
+    requires { RingRoom pushed.now.unitsize f.pre f.place (length ring.old) }
+    ensures { Waits (recorder_of f) pushed.now ring.old result ring.new }
 {
-    let capture = f.capture;
-    let prev = f.prev;
-    let masks = f.masks;
-    let last = last_sample(prev, bytes, capture.unitsize, n);
-    feeder_ring::ring_write(ring, capture.unitsize, f.pre, f.place, n, bytes);
-    let place = place_after(f.pre, f.place, n);
-    let kept = filled(f.kept, f.pre, n);
+    ring_write(ring, f.pre, f.place, pushed);
     Feeder {
-        capture,
-        limit: f.limit,
-        pre: f.pre,
-        masks,
-        prev: last,
-        place,
-        kept,
+        prev: last_sample(f.prev, pushed),
+        place: place_after(f.pre, f.place, pushed.n),
+        kept: filled(f.kept, f.pre, pushed.n),
+        ..f
     }
 }

@@ -67,8 +67,8 @@ module _ (f : Feeder) (p : Samples) (s : List ℕ) (lv : ℕ → List ℕ) (g : 
   first : bytes_of u g b d r ≡ take (r.count * u) x
   first = first_bytes u f.pre g f.place w b d p.n (room_of f) r h.ring h.place_inside kept passed bytes is
 
-  pub takes_some : {s' : List ℕ} {lv' : ℕ → List ℕ} → Stored u f.capture.len r.count (bytes_of u g b d r) s lv s' lv' → Takes f (w + (p.n - d)) x s lv (Some r.count) s' lv'
-  takes_some {s'} {lv'} e = record {
+  pub takes_some : {s' : List ℕ} (lv' : ℕ → List ℕ) → Stored u f.capture.len r.count (bytes_of u g b d r) s lv s' lv' → Takes f (w + (p.n - d)) x s lv (Some r.count) s' lv'
+  takes_some {s'} lv' e = record {
     taken_is = ap (λ (k : ℕ). Some k) all ∙ sym (ap (λ (t : Bool). cond t (Some count) None) (le-leb (f.capture.len + count) f.capture.capacity fits));
     memory = first_stored u f.capture.len r.count x s lv s' lv' (subst (λ (y : List ℕ). Stored u f.capture.len r.count y s lv s' lv') first e);
     enough = omega (arith, length-take (r.count * u) x, ap length first, bytes_size u f.capture.len r d (length s) lv g b write_room refl refl refl);

@@ -23,4 +23,5 @@ pub returns : goal.returns
 returns c =
     let a = c.args in
     takes_some a.f.now a.pushed.now a.samples.now (level_of a.l1.now a.l2.now a.l3.now a.l4.now) a.ring.now a.w a.d c.requires.0 c.requires.1 c.requires.2
-    (sym c.is_full.ensures ∙ c.if-is_full.false) c.run_of-run.result c.run_of-run.ensures c.write_run.ensures
+    (sym c.is_full.ensures ∙ c.if-is_full.false) c.run_of-run.result c.run_of-run.ensures
+    (level_of c.write_run.new.l1 c.write_run.new.l2 c.write_run.new.l3 c.write_run.new.l4) c.write_run.ensures
