@@ -13,12 +13,10 @@ use Rattle.rules.specs.Sample.{list_from}
 use Rattle.rules.specs.Trigger.{Armed, unarmed, waiting, Masks}
 use Rattle.rules.specs.Refusal.{Recorder, mark_flag, mark_place}
 use Rattle.rules.proofs.SampleBytes.{list_whole}
-use Rattle.capture.specs.Record.{mark_of, mark_in}
+use Rattle.capture.specs.Record.{mark_in}
 use Rattle.terms.specs.declared.Masks as code
-use Rattle.terms.specs.Terms.{previous_of}
-use Rattle.feeder.specs.declared.Armed.TheVariants.{Unarmed, Waiting}
 use Rattle.feeder.specs.Record.{armed_as, recorder_of}
-use Rattle.feeder_numbers.specs.Numbers.{waits_in, high_lines_in, low_lines_in, rising_lines_in, falling_lines_in, edge_lines_in, mask_in, masks_in, armed_in, previous_in, feeder_from, waits_number, masks_of, pushed_numbers, recorder_numbers}
+use Rattle.feeder_numbers.specs.Numbers.{waits_in, mask_in, masks_in, lines_in, armed_in, previous_in, feeder_from, waits_number, masks_of, pushed_numbers, recorder_numbers}
 
 -- ---- what a record of the code holds: masks and samples of 16 lines
 pub record NarrowMasks (m : Masks) : Type 0 where
@@ -36,11 +34,11 @@ pub record Narrow (r : Recorder) : Type 0 where
 mask_back : (v : ℕ) → v < 65536 → mask_in v ≡ v
 mask_back v h = mod-eq_of_lt h
 
-mark_back : (m : Option ℕ) → mark_of (mark_in (mark_flag m) (mark_place m)) ≡ m
+mark_back : (m : Option ℕ) → mark_in (mark_flag m) (mark_place m) ≡ m
 mark_back None = refl
 mark_back (Some k) = refl
 
-previous_back : (p : Option ℕ) → ((v : ℕ) → p ≡ Some v → v < 65536) → previous_of (previous_in (mark_flag p) (mark_place p)) ≡ p
+previous_back : (p : Option ℕ) → ((v : ℕ) → p ≡ Some v → v < 65536) → previous_in (mark_flag p) (mark_place p) ≡ p
 previous_back None h = refl
 previous_back (Some v) h = ap Some (mask_back v (h v refl))
 
@@ -57,7 +55,7 @@ armed_stays : (waits : ℕ) (masks : code.Masks) (a : Armed) → (a ≡ unarmed)
 armed_stays waits masks a (inl e) = ap (λ (x : Armed). armed_as (armed_in (waits_number x) masks)) e ∙ sym e
 armed_stays waits masks a (inr e) = go (eqb waits 0) e
   where
-    go : (b : Bool) → a ≡ armed_as (cond b Unarmed (Waiting masks)) → armed_as (armed_in (waits_number a) masks) ≡ a
+    go : (b : Bool) → a ≡ armed_as (cond b None (Some masks)) → armed_as (armed_in (waits_number a) masks) ≡ a
     go true d = ap (λ (x : Armed). armed_as (armed_in (waits_number x) masks)) d ∙ sym d
     go false d = ap (λ (x : Armed). armed_as (armed_in (waits_number x) masks)) d ∙ sym d
 
@@ -94,7 +92,7 @@ module _ (r : Recorder) (old : List ℕ) (size : length old ≡ 17) where
         store = record { unit = sym q.unit i; capacity = sym q.capacity i; len = r.store.len; mark = mark_back r.store.mark i };
         limit = sym q.limit i;
         pre = sym q.pre i;
-        armed = armed_stays (waits_in old) (masks_in (high_lines_in old) (low_lines_in old) (rising_lines_in old) (falling_lines_in old) (edge_lines_in old)) r.armed q.armed i;
+        armed = armed_stays (waits_in old) (lines_in old) r.armed q.armed i;
         previous = previous_back r.previous q.previous i;
         place = r.place;
         kept = r.kept;

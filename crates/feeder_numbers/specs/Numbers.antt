@@ -1,15 +1,11 @@
 -- The 17 numbers of a recorder: which is which, the recorder that they hold, and how it is written. 01: Records.
-use Rattle.std.specs.Prelude.{cond, List, [], ◌∷◌, ℕ, ◌%◌, eqb, get_or}
+use Rattle.std.specs.Prelude.{cond, List, [], ◌∷◌, ℕ, ◌%◌, eqb, get_or, Option, None, Some}
 use Rattle.std.proofs.lemmas.List.Edits.{sets}
 use Rattle.rules.specs.Trigger as rule
 use Rattle.rules.specs.Refusal.{Recorder, mark_flag, mark_place}
 use Rattle.capture.specs.Record.{mark_in}
 use Rattle.capture.specs.Numbers.{unit_at, len_at, unit_in, capacity_in, len_in, marked_in, mark_place_in}
 use Rattle.terms.specs.declared.Masks.{Masks}
-use Rattle.terms.specs.declared.Previous.{Previous}
-use Rattle.terms.specs.declared.Previous.TheVariants.{Nothing, Sample}
-use Rattle.feeder.specs.declared.Armed.{Armed}
-use Rattle.feeder.specs.declared.Armed.TheVariants.{Unarmed, Waiting}
 use Rattle.feeder.specs.declared.Feeder.{Feeder}
 
 -- ---- which is which; the first five are its store's (capture.specs.Numbers)
@@ -97,18 +93,22 @@ mask_in n = n % 65536
 abbrev pub masks_in : ℕ → ℕ → ℕ → ℕ → ℕ → Masks
 masks_in high low rising falling edge = record { high = mask_in high; low = mask_in low; rising = mask_in rising; falling = mask_in falling; edge = mask_in edge }
 
-abbrev pub armed_in : ℕ → Masks → Armed
-armed_in armed masks = cond (eqb armed 0) Unarmed (Waiting masks)
+-- the masks of a recorder that waits
+abbrev pub lines_in : List ℕ → Masks
+lines_in r = masks_in (high_lines_in r) (low_lines_in r) (rising_lines_in r) (falling_lines_in r) (edge_lines_in r)
 
-abbrev pub previous_in : ℕ → ℕ → Previous
-previous_in known v = cond (eqb known 0) Nothing (Sample (mask_in v))
+abbrev pub armed_in : ℕ → Masks → Option Masks
+armed_in armed masks = cond (eqb armed 0) None (Some masks)
+
+abbrev pub previous_in : ℕ → ℕ → Option ℕ
+previous_in known v = cond (eqb known 0) None (Some (mask_in v))
 
 abbrev pub feeder_from : List ℕ → Feeder
 feeder_from r = record {
   capture = record { unitsize = unit_in r; capacity = capacity_in r; len = len_in r; trigger = mark_in (marked_in r) (mark_place_in r) };
   limit = limit_in r;
   pre = pre_in r;
-  masks = armed_in (waits_in r) (masks_in (high_lines_in r) (low_lines_in r) (rising_lines_in r) (falling_lines_in r) (edge_lines_in r));
+  masks = armed_in (waits_in r) (lines_in r);
   prev = previous_in (known_in r) (previous_sample_in r);
   place = ring_place_in r;
   kept = kept_in r;
