@@ -10,18 +10,21 @@ use types.Logic.{Logic}
 use contract.Lifetimes.{Lfts}
 use contract.Monad.{Fun, fact}
 use denote.Ref.{Bor}
+use Rattle.std.specs.Prelude.{Result}
+use Rattle.answer.specs.declared.Refusal.{Refusal}
+use Rattle.node.specs.declared.Memory as node
 use Rattle.terms.specs.declared.TriggerTerm.{TriggerTerm}
 use Rattle.feeder.specs.declared.Pretrigger.{Pretrigger}
-use Rattle.feeder.specs.declared.Started.{Started}
+use Rattle.feeder.specs.declared.Fresh.{Fresh}
 use Rattle.feeder_start.specs.contracts.start_list as start-list
 use Rattle.feeder_start.proofs.start_list.Met as start-met
 use Rattle.feeder_start.proofs.start_list.Statement as start-stated
-use Rattle.claim_captures.specs.Words.{Shown, Places, shown_at}
+use Rattle.claim_captures.specs.Words.{Shown, Places, shown}
 use Rattle.claim_recording.specs.Claim.{Memory, Given, MayStart}
 
 -- what start is given, with the references by which terms and memory are lent
 abbrev given_as : Given → Bor (List TriggerTerm) → Places → Shown → Memory
-    → ℕ × (ℕ × (ℕ × (Bor (List TriggerTerm) × (Pretrigger × (ℕ × (Shown × (Shown × (Shown × (Shown × (Shown × (Shown × Unit {0})))))))))))
+    → ℕ × (ℕ × (ℕ × (Bor (List TriggerTerm) × (Pretrigger × (ℕ × (node.Memory × (Shown × Unit {0})))))))
 given_as g ts p o m = (
   g.channels,
   (
@@ -34,7 +37,7 @@ given_as g ts p o m = (
           g.wish,
           (
             g.rate,
-            (shown_at p.samples m.store.samples, (shown_at p.l1 m.store.l1, (shown_at p.l2 m.store.l2, (shown_at p.l3 m.store.l3, (shown_at p.l4 m.store.l4, (record { ref_ptr = o.ref_ptr; now = m.ring }, tt)))))),
+            (shown p m.store, (record { ref_ptr = o.ref_ptr; now = m.ring }, tt)),
           ),
         ),
       ),
@@ -44,11 +47,11 @@ given_as g ts p o m = (
 
 -- at every model of the logic
 module _ {M : Type 1} {𝓤 : Ura M} (𝓛 : Logic 𝓤) (mem : machine.Memory → SProp 𝓤) (run : Routine → Fun 𝓤)
-    (κs : Lfts 4) (g : Given) (ts : Bor (List TriggerTerm)) (p : Places) (o : Shown) (m : Memory) where
+    (κs : Lfts 3) (g : Given) (ts : Bor (List TriggerTerm)) (p : Places) (o : Shown) (m : Memory) where
   pub start_asks : (start-list.clauses 𝓛 mem run κs (given_as g ts p o m)).requires tt ≡ emp 𝓤
   start_asks = refl
 
-  pub start_says : (v : Started) → (start-list.clauses 𝓛 mem run κs (given_as g ts p o m)).ensures tt v (given_as g ts p o m) ≡ fact 𝓤 (MayStart g m v)
+  pub start_says : (v : Result Fresh Refusal) → (start-list.clauses 𝓛 mem run κs (given_as g ts p o m)).ensures tt v (given_as g ts p o m) ≡ fact 𝓤 (MayStart g m v)
   start_says v = refl
 
 -- and the function meets them

@@ -1,6 +1,7 @@
 -- A list of pushes, by push's contract alone: each leaves what one push over the record and its memory leaves, finds it within bounds, and keeps the levels right.
 use mathlib.Core.Path.{◌≡◌, refl, sym, ap, ap₂, ◌∙◌, subst⁻¹}
 use mathlib.Core.List.{List, [], ◌∷◌}
+use Rattle.std.specs.Prelude.{Result}
 use Prim.Native.Nat.{ℕ, ◌≤◌}
 use native.Mathlib.Omega.{arith}
 use lib.ListN.{length}
@@ -12,6 +13,7 @@ use Rattle.rules.specs.Refusal.{Store, Lent, Recorder}
 use Rattle.rules.proofs.Refusal.{Sound, SoundRecorder}
 use Rattle.feeder_lists.specs.Push.{push_bytes, push_on, pushes_bytes, replies_bytes}
 use Rattle.node.specs.Memory.{Right}
+use Rattle.answer.specs.declared.Refusal.{Refusal}
 use Rattle.capture.specs.Record.{lent_of}
 use Rattle.feeder.specs.declared.Feeder.{Feeder}
 use Rattle.feeder.specs.Record.{recorder_of}
@@ -23,7 +25,7 @@ use Rattle.claim_recording.specs.Claim.{Memory, MayPush, Pushing}
 use Rattle.claim_recording.specs.Claim.Pushing.{stop, step}
 
 -- the contract's equations
-pub equations : (f : Feeder) (m : Memory) (bytes : List ℕ) (v : Pushed) (m' : Memory) → MayPush f m bytes v m'
+pub equations : (f : Feeder) (m : Memory) (bytes : List ℕ) (v : Result Pushed Refusal) (m' : Memory) → MayPush f m bytes v m'
     → Pushes f bytes m.store.samples (levels m.store) m.ring v m'.store.samples (levels m'.store) m'.ring
 equations f m bytes v m' call = call.4
 
@@ -77,8 +79,8 @@ module _ (lent : Lent) where
       (sym (ap length k.samples_are ∙ size))
       (λ j p q. sym (k.lengths j p q))
 
-  one_kept : (l : Left) (f : Feeder) (m : Memory) (bytes : List ℕ) (v : Pushed) (m' : Memory) → Going l → Kept l f m → MayPush f m bytes v m'
-      → Kept (push_on l bytes) (feeder_in v) m' × (reply_as v ≡ (push_on l bytes).reply)
+  one_kept : (l : Left) (f : Feeder) (m : Memory) (bytes : List ℕ) (v : Result Pushed Refusal) (m' : Memory) → Going l → Kept l f m → MayPush f m bytes v m'
+      → Kept (push_on l bytes) (feeder_in f v) m' × (reply_as v ≡ (push_on l bytes).reply)
   unfolding pushes_bytes
   one_kept l f m bytes v m' g k call = (
     record {
@@ -97,7 +99,7 @@ module _ (lent : Lent) where
       sound : SoundRecorder (recorder_of f) (lent_of m.store.samples (levels m.store)) (length m.ring)
       sound = kept_sound l f m (g.sound []) (g.size []) k
 
-      left : record { reply = reply_as v; recorder = recorder_of (feeder_in v); samples = m'.store.samples; ring = m'.ring } ≡ push_on l bytes
+      left : record { reply = reply_as v; recorder = recorder_of (feeder_in f v); samples = m'.store.samples; ring = m'.ring } ≡ push_on l bytes
       left = one_push fit sound ∙ (λ i. push_bytes (k.recorder_is i) (k.samples_are i) (k.ring_is i) bytes)
 
   pub all_kept : (l : Left) {pushes : List (List ℕ)} {f : Feeder} {m : Memory} {replies : List Reply} {f'' : Feeder} {m'' : Memory} → Going l → Kept l f m → Pushing f m pushes replies f'' m''

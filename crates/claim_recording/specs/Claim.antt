@@ -4,7 +4,7 @@
 -- memory after the call. For start over a slice of terms, which changes nothing, `MayStart` is its clause, as proofs/Clauses shows.
 -- No range is asked of settings, memory and the viewer's lines; a push is of bytes.
 use Rattle.std.specs.Prelude.{◌≡◌, Bool, List, [], ◌∷◌, ◌↔◌, ℕ, ◌+◌, ◌≤◌, ◌<◌, length, get_or}
-use Rattle.std.specs.Prelude.{Option}
+use Rattle.std.specs.Prelude.{Option, Result, Ok}
 use contract.Lifetimes.{Lfts}
 use denote.Ref.{at_last}
 use Rattle.rules.specs.Start.{start_rule, beside_in}
@@ -13,13 +13,13 @@ use Rattle.rules.specs.Trigger.{Masks, waiting}
 use Rattle.rules.specs.Selection.{Settings, Rule, rule_of, accepted, run_of, slot_of, beside_of, Reply, replies_of}
 use Rattle.rules.specs.Selection as selected
 use Rattle.rules.specs.Refusal.{Lent, start_refusal}
+use Rattle.answer.specs.declared.Refusal.{Refusal}
 use Rattle.capture.specs.declared.Capture.{Capture}
 use Rattle.capture.specs.Record.{lent_of}
 use Rattle.terms.specs.declared.TriggerTerm.{TriggerTerm}
 use Rattle.feeder.specs.declared.Feeder.{Feeder}
 use Rattle.feeder.specs.declared.Pretrigger.{Pretrigger}
-use Rattle.feeder.specs.declared.Started.{Started}
-use Rattle.feeder.specs.declared.Started.TheVariants.{Fresh}
+use Rattle.feeder.specs.declared.Fresh.{Fresh}
 use Rattle.feeder.specs.Record.{armed_as, recorder_of}
 use Rattle.feeder.specs.Start.{started_of, settings_of}
 use Rattle.feeder_push.specs.declared.Pushed.{Pushed}
@@ -53,11 +53,11 @@ settings g = settings_of g.channels g.capacity g.limit g.terms g.wish g.rate
 abbrev pub lengths : captures.Memory → Lent
 lengths m = lent_of m.samples (levels m)
 
-abbrev pub MayStart : Given → Memory → Started → Type 0
+abbrev pub MayStart : Given → Memory → Result Fresh Refusal → Type 0
 MayStart g m v = started_of v ≡ start_rule (settings g) (lengths m.store) (length m.ring)
 
 -- push may answer v and leave m'
-abbrev pub MayPush : Feeder → Memory → List ℕ → Pushed → Memory → Type 0
+abbrev pub MayPush : Feeder → Memory → List ℕ → Result Pushed Refusal → Memory → Type 0
 MayPush f m bytes v m' =
     (κs : Lfts 7) × (p : Places) × (g b : Ref)
     × push.Post κs (lending_mut f p m.store (at_last g m.ring, (shown_at b bytes, tt))) v (lending_mut f p m'.store (at_last g m'.ring, (shown_at b bytes, tt)))
@@ -67,9 +67,9 @@ MayPush f m bytes v m' =
 -- Questions take shared slices and leave what they were lent, so they may stand between pushes
 pub data Pushing : Feeder → Memory → List (List ℕ) → List Reply → Feeder → Memory → Type 0 where
   stop : {f : Feeder} {m : Memory} → Pushing f m [] [] f m
-  step : {f : Feeder} {m : Memory} {bytes : List ℕ} {v : Pushed} {m' : Memory} {pushes : List (List ℕ)} {replies : List Reply} {f'' : Feeder} {m'' : Memory}
+  step : {f : Feeder} {m : Memory} {bytes : List ℕ} {v : Result Pushed Refusal} {m' : Memory} {pushes : List (List ℕ)} {replies : List Reply} {f'' : Feeder} {m'' : Memory}
       → MayPush f m bytes v m'
-      → Pushing (feeder_in v) m' pushes replies f'' m''
+      → Pushing (feeder_in f v) m' pushes replies f'' m''
       → Pushing f m (bytes ∷ pushes) (reply_as v ∷ replies) f'' m''
 
 -- "A fresh recorder is the record that start gives, together with the memory lent to it, whatever that holds"; then a list of pushes
@@ -78,7 +78,7 @@ pub record Recording : Type 0 where
   pub before : Memory
   pub fresh : Feeder
   pub was_cut : Bool
-  pub started : MayStart setup before (Fresh fresh was_cut)
+  pub started : MayStart setup before (Ok (record { feeder = fresh; cut = was_cut }))
   pub pushes : List (List ℕ)
   pub are_bytes : AreBytes pushes
   pub replies : List Reply
