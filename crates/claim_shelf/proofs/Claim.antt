@@ -1,29 +1,27 @@
 -- The claims over the calls' contracts.
 use mathlib.Core.Path.{◌≡◌, refl, sym, ap, ◌∙◌, subst, subst⁻¹}
-use mathlib.Core.List.{List, []}
-use Rattle.std.specs.Prelude.{Option, None, Some}
-use Prim.Native.Nat.{ℕ, zero, suc, ◌+◌}
+use mathlib.Core.Bool.{Bool, not}
+use mathlib.Core.List.{List, [], ◌∷◌}
+use Rattle.std.specs.Prelude.{Option, Ok}
+use Prim.Native.Nat.{ℕ, ◌+◌}
 use native.Mathlib.Omega.{arith}
 use lib.ListN.{length, take}
 use Rattle.rules.specs.Sample.{sample_of, list_from}
-use Rattle.rules.specs.Answer.{Answer, given, unless}
-use Rattle.rules.specs.Refusal.{Store}
-use Rattle.rules.specs.Shelf.{heading_of, heading_in, bytes_in, file_len}
-use Rattle.rules.specs.ShelfCalls.{write_refusal, write_output, store_in, read_refusal, read_count}
+use Rattle.rules.specs.Answer.{Answer, given}
+use Rattle.rules.specs.Refusal.{Store, first_of}
+use Rattle.rules.specs.Shelf.{heading_of, heading_in, bytes_in, file_len, file_test}
+use Rattle.rules.specs.ShelfCalls.{output_row, write_refusal, write_output, store_in, capacity_wrong, store_short, read_refusal, read_count}
 use Rattle.rules.proofs.Sample.{list_same}
 use Rattle.rules.proofs.SampleBytes.{list_whole}
-use Rattle.capture.specs.declared.Mark.{Mark}
-use Rattle.capture.specs.declared.Mark.TheVariants.{Absent, At}
+use Rattle.claim_alike.proofs.Rows.{Known, Told, first_told, result_for}
+use Rattle.answer.specs.declared.Refusal.TheVariants.{Record, Room, File}
+use Rattle.answer.specs.Answered.{answer_of}
 use Rattle.capture.specs.declared.Capture.{Capture}
-use Rattle.capture.specs.declared.Started.{Started}
-use Rattle.capture.specs.declared.Started.TheVariants as started
-use Rattle.capture.specs.Record.{mark_of, store_of}
-use Rattle.capture.specs.Calls.{started_of}
-use Rattle.shelf_head.specs.declared.FileLength.{FileLength}
-use Rattle.shelf_head.specs.declared.FileLength.TheVariants as length-of
+use Rattle.capture.specs.Record.{store_of}
 use Rattle.shelf_head.specs.Head.{length_of}
 use Rattle.claim_captures.specs.Words.{Memory, at, OfUnit, Same}
 use Rattle.claim_captures.specs.Claim.{Held}
+use Rattle.claim_captures.proofs.Rows.{store_told}
 use Rattle.claim_captures.proofs.Answers.{anywhere, somewhere}
 use Rattle.claim_captures.proofs.Alike.{captures_alike}
 use Rattle.claim_recording.specs.Claim.{run, mark, store}
@@ -44,30 +42,23 @@ pub was_read : (capacity : ℕ) (file : List ℕ) (m : Memory) (answer : Answer 
 was_read capacity file m answer m' (v, (κs, p, f, promised), v-is) = record { answer_is = sym v-is ∙ promised.answer_is; memory = promised.memory }
 
 -- ---- there is always an answer
-mark_for : (m : Option ℕ) → (t : Mark) × (mark_of t ≡ m)
-mark_for None = (Absent, refl)
-mark_for (Some k) = (At k, refl)
+-- the code's record of a store
+abbrev pub record_for : Store → Capture
+record_for st = record { unitsize = st.unit; capacity = st.capacity; len = st.len; trigger = st.mark }
 
-pub store_for : (st : Store) → (c : Capture) × (store_of c ≡ st)
-store_for st =
-    let t = mark_for st.mark in
-    (record { unitsize = st.unit; capacity = st.capacity; len = st.len; trigger = t.0 }, λ i. record { unit = st.unit; capacity = st.capacity; len = st.len; mark = t.1 i })
-
-length_for : (n size : ℕ) → (v : FileLength) × (length_of v ≡ unless n size)
-length_for zero size = (length-of.Bytes size, refl)
-length_for (suc n) size = (length-of.Refused (suc n), refl)
-
-started_for_lem : (n : ℕ) (st : Store) → (v : Started) × (started_of v ≡ unless n st)
-started_for_lem zero st = let c = store_for st in (started.Store c.0, ap given c.1)
-started_for_lem (suc n) st = (started.Refused (suc n), refl)
+-- rows 1, that of a file, and 15
+pub file_told : (number : ℕ) → Known number → (wrong bad short : Bool) → Told (first_of (record { number = 1; holds = wrong } ∷ record { number = number; holds = bad } ∷ record { number = 15; holds = short } ∷ []))
+file_told number k wrong bad short =
+    first_told (record { number = 1; holds = wrong } ∷ record { number = number; holds = bad } ∷ record { number = 15; holds = short } ∷ []) ((Record, refl), (k, ((Room, refl), tt)))
 
 may_write : (st : Store) (m : Memory) (output : List ℕ) → (answer : Answer ℕ) × (output' : List ℕ) × Writes st m output answer output'
 may_write st m output =
-    let c = store_for st in
-    let v = length_for (write_refusal (store_of c.0) (lent_in m) (length output)) (file_len (heading_of (store_of c.0))) in (
+    let v =
+    result_for (λ x. x) (write_refusal st (lent_in m) (length output)) (file_len (heading_of st)) _ refl
+    (store_told st (lent_in m) (output_row st (length output) ∷ []) ((Room, refl), tt)) in (
       length_of v.0,
-      write_output (store_of c.0) (lent_in m) m.samples output,
-      (c.0, v.0, c.1, (([], ([], ([], tt))), somewhere, anywhere, record { answer_is = v.1; output_is = refl }), refl),
+      write_output st (lent_in m) m.samples output,
+      (record_for st, v.0, refl, (([], ([], tt)), somewhere, anywhere, record { answer_is = v.1; output_is = refl }), refl),
     )
 
 module _ (capacity : ℕ) (file : List ℕ) (m : Memory) where
@@ -77,8 +68,10 @@ module _ (capacity : ℕ) (file : List ℕ) (m : Memory) where
 
   may_read : (answer : Answer Store) × (m' : Memory) × Reads capacity file m answer m'
   may_read =
-      let v = started_for_lem (read_refusal capacity (lent_in m) file) (store_in capacity (heading_in file)) in (
-        started_of v.0,
+      let v =
+      result_for store_of (read_refusal capacity (lent_in m) file) (record_for (store_in capacity (heading_in file))) _ refl
+      (file_told 16 (File, refl) (capacity_wrong capacity) (not (file_test file)) (store_short capacity (lent_in m) (heading_in file))) in (
+        answer_of store_of v.0,
         read_leaves,
         (v.0, (([], ([], ([], ([], ([], ([], tt)))))), somewhere, anywhere, record { answer_is = v.1; memory = filled_is (heading_in file).unit (read_count capacity (lent_in m) file) (bytes_in file) m }), refl),
       )
@@ -114,7 +107,7 @@ module _ {run : List ℕ} {mark : Option ℕ} {c : Capture} {m : Memory} {output
 pub filed_alike : FiledAlike
 filed_alike run mark c m h output n output' w capacity m₂ d m₂' e r v =
     (captures_alike run mark c m run mark d m₂' h
-    (held_again h (wrote (store_of c) m output (given n) output' (c, length-of.Bytes n, refl, w, refl)) e (was_read capacity (take n output') m₂ (given (store_of d)) m₂' (started.Store d, r, refl)) d refl)
+    (held_again h (wrote (store_of c) m output (given n) output' (c, Ok n, refl, w, refl)) e (was_read capacity (take n output') m₂ (given (store_of d)) m₂' (Ok d, r, refl)) d refl)
     v).2.1 (itself v run mark)
 
 pub recordings_filed : RecordingsFiled
