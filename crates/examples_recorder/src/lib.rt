@@ -3,14 +3,15 @@
 
 ghost use Rattle.std.specs.Prelude.{◌≡◌, length};
 ghost use Rattle.rules.specs.Start.{start_rule};
-ghost use Rattle.node.specs.Memory.{level_of};
-ghost use Rattle.capture.specs.Record.{lent_of};
+ghost use Rattle.capture.specs.Record.{lent_in};
 ghost use Rattle.feeder.specs.Start.{started_of, settings_of};
 
-use feeder::{Armed, Feeder, Pretrigger, Started};
+use answer::Refusal;
+use feeder::{Feeder, Fresh, Pretrigger};
 use feeder_push::Pushed;
 use lines::Mask;
-use terms::{Condition, Previous, TriggerTerm};
+use node::{Levels, Memory};
+use terms::{Condition, TriggerTerm};
 
 #[derive(Clone, Copy)]
 pub struct Recorder {
@@ -24,132 +25,91 @@ pub struct Recorder {
     pub ring: [u8; 16],
 }
 
-// What start gives; where it refuses, a record that every call refuses.
-fn fresh(started: Started) -> Feeder {
-    match started {
-        Started::Refused(_) => Feeder {
-            capture: examples_store::nothing(),
-            limit: 0,
-            pre: 0,
-            masks: Armed::Unarmed,
-            prev: Previous::Nothing,
-            place: 0,
-            kept: 0,
-        },
-        Started::Fresh(f, _) => f,
+// In place of what start gives where it refuses: every call refuses it.
+fn nothing() -> Feeder {
+    Feeder {
+        capture: examples_store::nothing(),
+        limit: 0,
+        pre: 0,
+        masks: None,
+        prev: None,
+        place: 0,
+        kept: 0,
     }
 }
 
 // Start over a lent slice of terms, at 8 lines and 16 samples.
-fn started<'a>(
+fn started(
     terms: [TriggerTerm; 1],
     limit: usize,
     wish: Pretrigger,
     rate: usize,
-    samples: &[u8],
-    l1: &'a [Mask],
-    l2: &'a [Mask],
-    l3: &'a [Mask],
-    l4: &'a [Mask],
+    memory: Memory<'_>,
     ring: &[u8],
-) -> Started
-    ensures { started_of result ≡ start_rule (settings_of 8 16 limit terms wish rate) (lent_of samples.now (level_of l1.now l2.now l3.now l4.now)) (length ring.now) }
+) -> Result<Fresh, Refusal>
+    ensures { started_of result ≡ start_rule (settings_of 8 16 limit terms wish rate) (lent_in memory.entry) (length ring.now) }
 {
-    feeder_start::start_list(
-        8, 16, limit, &terms, wish, rate, samples, l1, l2, l3, l4, ring,
-    )
+    feeder_start::start_list(8, 16, limit, &terms, wish, rate, memory, ring)
 }
 
 // A fresh recorder that waits for one condition on line 0.
 pub fn waiting(condition: Condition, limit: usize, wish: Pretrigger, rate: usize) -> Recorder {
-    let samples = [0u8; 16];
-    let l1: [Mask; 5] = [0; 5];
-    let l2: [Mask; 5] = [0; 5];
-    let l3: [Mask; 5] = [0; 5];
-    let l4: [Mask; 5] = [0; 5];
-    let ring = [0u8; 16];
+    let mut r = Recorder {
+        feeder: nothing(),
+        complete: false,
+        samples: [0; 16],
+        l1: [0; 5],
+        l2: [0; 5],
+        l3: [0; 5],
+        l4: [0; 5],
+        ring: [0; 16],
+    };
     let term = TriggerTerm {
         channel: 0,
         condition,
     };
-    let feeder = fresh(started(
-        [term],
-        limit,
-        wish,
-        rate,
-        &samples,
-        &l1,
-        &l2,
-        &l3,
-        &l4,
-        &ring,
-    ));
-    Recorder {
-        feeder,
-        complete: false,
-        samples,
-        l1,
-        l2,
-        l3,
-        l4,
-        ring,
+    if let Ok(fresh) = started([term], limit, wish, rate, r.memory(), &r.ring) {
+        r.feeder = fresh.feeder;
     }
+    r
 }
 
-fn after(pushed: Pushed) -> Feeder {
-    match pushed {
-        Pushed::Refused(_, f) => f,
-        Pushed::GoingOn(f) => f,
-        Pushed::Complete(f) => f,
+impl Recorder {
+    fn memory(&self) -> Memory<'_> {
+        Memory {
+            samples: &self.samples,
+            levels: Levels {
+                l1: &self.l1,
+                l2: &self.l2,
+                l3: &self.l3,
+                l4: &self.l4,
+            },
+        }
     }
-}
 
-fn is_complete(pushed: Pushed) -> bool {
-    match pushed {
-        Pushed::Refused(_, _) => false,
-        Pushed::GoingOn(_) => false,
-        Pushed::Complete(_) => true,
+    // The recorder after a push.
+    pub fn pushed(mut self, bytes: &[u8]) -> Recorder {
+        let pushed = feeder_push::push(
+            self.feeder,
+            &mut self.samples,
+            &mut self.l1,
+            &mut self.l2,
+            &mut self.l3,
+            &mut self.l4,
+            &mut self.ring,
+            bytes,
+        );
+        self.complete = matches!(pushed, Ok(Pushed::Complete(_)));
+        if let Ok(Pushed::GoingOn(f) | Pushed::Complete(f)) = pushed {
+            self.feeder = f;
+        }
+        self
     }
-}
 
-pub fn push(r: Recorder, bytes: &[u8]) -> Recorder {
-    let mut samples = r.samples;
-    let mut l1 = r.l1;
-    let mut l2 = r.l2;
-    let mut l3 = r.l3;
-    let mut l4 = r.l4;
-    let mut ring = r.ring;
-    let pushed = feeder_push::push(
-        r.feeder,
-        &mut samples,
-        &mut l1,
-        &mut l2,
-        &mut l3,
-        &mut l4,
-        &mut ring,
-        bytes,
-    );
-    Recorder {
-        feeder: after(pushed),
-        complete: is_complete(pushed),
-        samples,
-        l1,
-        l2,
-        l3,
-        l4,
-        ring,
+    // The first four samples stored; 9 where there is none.
+    pub fn run(&self) -> [Mask; 4] {
+        let mut output: [Mask; 4] = [9; 4];
+        let _ = capture::samples(self.feeder.capture, self.memory(), 0, 4, &mut output);
+        output
     }
-}
-
-// The first four samples stored; 9 where there is none.
-pub fn run(r: Recorder) -> [Mask; 4] {
-    let f = r.feeder;
-    let samples = r.samples;
-    let l1 = r.l1;
-    let l2 = r.l2;
-    let l3 = r.l3;
-    let l4 = r.l4;
-    let mut output: [Mask; 4] = [9; 4];
-    capture::samples(f.capture, &samples, &l1, &l2, &l3, &l4, 0, 4, &mut output);
-    output
 }

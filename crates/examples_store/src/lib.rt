@@ -1,14 +1,12 @@
 // A store of up to 16 samples of one byte, by value: its record and its memory. Searches and bursts are of line 0.
 #![tactic(auto)]
 
-use append::Appended;
-use burst::Bursts;
-use capture::{Capture, Got, Mark, Started};
-use density::Changes;
+use answer::{Counted, Refusal};
+use burst::Burst;
+use capture::Capture;
 use lines::Mask;
+use node::{Levels, Memory, Node};
 use pixel::View;
-use search::Found;
-use summary::Summed;
 
 const LINE_0: Mask = 1;
 
@@ -28,118 +26,95 @@ pub fn nothing() -> Capture {
         unitsize: 0,
         capacity: 0,
         len: 0,
-        trigger: Mark::Absent,
-    }
-}
-
-fn fresh(started: Started) -> Capture {
-    match started {
-        Started::Refused(_) => nothing(),
-        Started::Store(c) => c,
-    }
-}
-
-fn after(appended: Appended) -> Capture {
-    match appended {
-        Appended::Refused(_, same) => same,
-        Appended::Done(grown) => grown,
+        trigger: None,
     }
 }
 
 // A store that these samples were appended to.
 pub fn holding(bytes: &[u8]) -> Stored {
-    let mut samples = [0u8; 16];
-    let mut l1: [Mask; 5] = [0; 5];
-    let mut l2: [Mask; 5] = [0; 5];
-    let mut l3: [Mask; 5] = [0; 5];
-    let mut l4: [Mask; 5] = [0; 5];
-    let c = fresh(capture::start(8, 16, &samples, &l1, &l2, &l3, &l4));
-    let capture = after(append::append(c, &mut samples, &mut l1, &mut l2, &mut l3, &mut l4, bytes));
-    Stored {
-        capture,
-        samples,
-        l1,
-        l2,
-        l3,
-        l4,
-    }
-}
-
-pub fn get(s: Stored, i: usize) -> Got {
-    let samples = s.samples;
-    let l1 = s.l1;
-    let l2 = s.l2;
-    let l3 = s.l3;
-    let l4 = s.l4;
-    capture::get(s.capture, &samples, &l1, &l2, &l3, &l4, i)
-}
-
-pub fn next(s: Stored, from: usize) -> Found {
-    let samples = s.samples;
-    let l1 = s.l1;
-    let l2 = s.l2;
-    let l3 = s.l3;
-    let l4 = s.l4;
-    search::next_change(s.capture, &samples, &l1, &l2, &l3, &l4, LINE_0, from)
-}
-
-pub fn previous(s: Stored, from: usize) -> Found {
-    let samples = s.samples;
-    let l1 = s.l1;
-    let l2 = s.l2;
-    let l3 = s.l3;
-    let l4 = s.l4;
-    search::prev_change(s.capture, &samples, &l1, &l2, &l3, &l4, LINE_0, from)
-}
-
-pub fn summary(s: Stored, from: usize, to: usize) -> Summed {
-    let samples = s.samples;
-    let l1 = s.l1;
-    let l2 = s.l2;
-    let l3 = s.l3;
-    let l4 = s.l4;
-    summary::summary(s.capture, &samples, &l1, &l2, &l3, &l4, from, to)
-}
-
-pub fn density(s: Stored, from: usize, to: usize) -> Changes {
-    let samples = s.samples;
-    let l1 = s.l1;
-    let l2 = s.l2;
-    let l3 = s.l3;
-    let l4 = s.l4;
-    density::density(s.capture, &samples, &l1, &l2, &l3, &l4, from, to)
-}
-
-pub fn burst(s: Stored, i: usize, gap: usize, tolerance: usize, budget: usize) -> Bursts {
-    let samples = s.samples;
-    let l1 = s.l1;
-    let l2 = s.l2;
-    let l3 = s.l3;
-    let l4 = s.l4;
-    burst::burst_at(
-        s.capture, &samples, &l1, &l2, &l3, &l4, LINE_0, i, gap, tolerance, budget,
+    let mut s = Stored {
+        capture: nothing(),
+        samples: [0; 16],
+        l1: [0; 5],
+        l2: [0; 5],
+        l3: [0; 5],
+        l4: [0; 5],
+    };
+    let fresh = capture::start(8, 16, s.memory()).unwrap_or(nothing());
+    s.capture = append::append(
+        fresh,
+        &mut s.samples,
+        &mut s.l1,
+        &mut s.l2,
+        &mut s.l3,
+        &mut s.l4,
+        bytes,
     )
+    .unwrap_or(fresh);
+    s
 }
 
-// The output of a row, which is all 9 before it is drawn and where it isn't.
-pub fn render(s: Stored, start: f64, spp: f64, width: usize) -> [Mask; 4] {
-    let samples = s.samples;
-    let l1 = s.l1;
-    let l2 = s.l2;
-    let l3 = s.l3;
-    let l4 = s.l4;
-    let view = View { start, spp };
-    let mut output: [Mask; 4] = [9; 4];
-    render::render(
-        s.capture,
-        &samples,
-        &l1,
-        &l2,
-        &l3,
-        &l4,
-        view,
-        width,
-        &mut output,
-    );
-    output
+impl Stored {
+    fn memory(&self) -> Memory<'_> {
+        Memory {
+            samples: &self.samples,
+            levels: Levels {
+                l1: &self.l1,
+                l2: &self.l2,
+                l3: &self.l3,
+                l4: &self.l4,
+            },
+        }
+    }
+
+    pub fn get(&self, i: usize) -> Result<Mask, Refusal> {
+        capture::get(self.capture, self.memory(), i)
+    }
+
+    pub fn next(&self, from: usize) -> Result<Counted<usize>, Refusal> {
+        search::next_change(self.capture, self.memory(), LINE_0, from)
+    }
+
+    pub fn previous(&self, from: usize) -> Result<Counted<usize>, Refusal> {
+        search::prev_change(self.capture, self.memory(), LINE_0, from)
+    }
+
+    pub fn summary(&self, from: usize, to: usize) -> Result<Option<Node>, Refusal> {
+        summary::summary(self.capture, self.memory(), from, to)
+    }
+
+    pub fn density(&self, from: usize, to: usize) -> Result<u32, Refusal> {
+        density::density(self.capture, self.memory(), from, to)
+    }
+
+    pub fn burst(
+        &self,
+        i: usize,
+        gap: usize,
+        tolerance: usize,
+        budget: usize,
+    ) -> Result<Counted<Burst>, Refusal> {
+        burst::burst_at(
+            self.capture,
+            self.memory(),
+            LINE_0,
+            i,
+            gap,
+            tolerance,
+            budget,
+        )
+    }
+
+    // The output of a row, which is all 9 before it is drawn and where it isn't.
+    pub fn render(&self, start: f64, spp: f64, width: usize) -> [Mask; 4] {
+        let mut output: [Mask; 4] = [9; 4];
+        let _ = render::render(
+            self.capture,
+            self.memory(),
+            View { start, spp },
+            width,
+            &mut output,
+        );
+        output
+    }
 }
