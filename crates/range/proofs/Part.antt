@@ -1,6 +1,6 @@
 -- Laws of a part of memory that starts at place base: its nodes and samples by their places, and the ranges that lie in it.
 use Prim.Native.Nat.{ℕ, zero, suc, ◌+◌, ◌-◌, ◌*◌, ◌≤◌, ◌<◌}
-use mathlib.Core.Path.{◌≡◌, refl, ap, ap₂, ◌∙◌, subst}
+use mathlib.Core.Path.{◌≡◌, refl, ap, ap₂, ◌∙◌}
 use mathlib.Core.List.{List}
 use native.Mathlib.Nat.{le_trans, mul-le-mul_right, le-mul_of_pos_right}
 use native.Mathlib.Omega.{arith}
@@ -9,7 +9,6 @@ use lib.ListN.{take, drop}
 use Rattle.rules.specs.Sample.{UnitSize, sample_of}
 use Rattle.rules.specs.Node.{toggles_of, differs, count_of, cap_count, node_of}
 use Rattle.rules.proofs.Sample.{sample_part}
-use Rattle.lines.specs.Held.{Held}
 use Rattle.range.specs.Part.{RangeIn, part_sample}
 
 -- ---- nodes
@@ -60,20 +59,9 @@ part_sample_lem u s base stop i a b = sample_part u s base (stop * u - base * u)
     back = omega arith
 
 -- ---- room
--- of a range in a unit that is known
-pub room_of : {u a b n : ℕ} (k : ℕ) → RangeIn u a b n → u ≡ k → b * k ≤ n
-room_of {u} {a} {b} {n} k h e = subst (λ (v : ℕ). b * v ≤ n) e h.room
-
 -- its places are numbers that memory has
 pub range_places : {u a b n : ℕ} → RangeIn u a b n → b ≤ n
 range_places {u} {a} {b} {n} h = le_trans (le-mul_of_pos_right b h.unit_size.least) h.room
-
--- a range in a range, and a sample
-pub range_part : {u a b n : ℕ} → RangeIn u a b n → (i j : ℕ) → i < j → j ≤ b → RangeIn u i j n
-range_part {u} h i j l m = record { unit_size = h.unit_size; some = l; room = le_trans (mul-le-mul_right u m) h.room }
-
-pub held_in : {u a b n : ℕ} → RangeIn u a b n → (i : ℕ) → i < b → Held u i n
-held_in {u} {a} {b} h i l = record { unit_size = h.unit_size; room = omega (arith, mul-le-mul_right {m = suc i} {n = b} u l, h.room) }
 
 -- a range whose places lie between base and n, in a part that has the samples up to n
 pub range_in_lem : (unit base n part a b : ℕ) → UnitSize unit → n * unit ≤ base * unit + part → base ≤ a → a < b → b ≤ n → RangeIn unit (a - base) (b - base) part

@@ -13,7 +13,6 @@ ghost use Rattle.rebuild.specs.Room.{NodeRoom, FirstRoom, JoinRoom, LevelRoom, R
 use level::{FAN, span};
 use lines::Mask;
 use node::{Node, node_in, put_node};
-use number::lesser;
 use range::{HALF_FAN, join_nodes, join_on, raw_node, raw_whole};
 
 // The end of the 32 places from a on, of which top is the last that counts.
@@ -21,7 +20,7 @@ fn end_of(a: usize, top: usize) -> usize
     requires { (a ≤ top) × (top + 32 < 2 ^ 64) }
     ensures { result ≡ min (a + 32) (top + 1) }
 {
-    if top - a < FAN { top + 1 } else { a + FAN }
+    (a + FAN).min(top + 1)
 }
 
 // The node of level l that place len lies in, once n is the node of the samples in its range from place len on: they join what it was, if it was unfinished.
@@ -89,13 +88,11 @@ fn rebuild_whole(
 {
     let end = (top + 1) / FAN;
     // 16 wherever there is a whole node, as raw_whole asks.
-    let half = lesser(part.len(), HALF_FAN);
-    let mut j = first;
-    while j < end {
+    let half = part.len().min(HALF_FAN);
+    for j in first..end {
         put_node(level, j, raw_whole(part, unitsize, j * FAN - base, half));
-        j += 1;
     }
-    j
+    first.max(end)
 }
 
 // All of these nodes one by one, whole or partial.
@@ -110,13 +107,10 @@ fn rebuild_each(
     requires { FirstRoom unitsize base first top (length part.now) (length level.old) }
     ensures { level.new ≡ new_nodes (part_sample unitsize part.now base) level.old first top 1 }
 {
-    let last = top / FAN;
-    let mut j = first;
-    while j <= last {
+    for j in first..top / FAN + 1 {
         let a = j * FAN;
         let b = end_of(a, top);
         put_node(level, j, raw_node(part, unitsize, a - base, b - base, true));
-        j += 1;
     }
 }
 
@@ -125,13 +119,10 @@ fn rebuild_level(below: &[Mask], level: &mut [Mask], first: usize, top: usize)
     requires { LevelRoom top (length below.now) (length level.old) }
     ensures { level.new ≡ put_nodes (made_over (node_in below.now) top) level.old first (top / 32 + 1 - first) }
 {
-    let last = top / FAN;
-    let mut j = first;
-    while j <= last {
+    for j in first..top / FAN + 1 {
         let a = j * FAN;
         let b = end_of(a, top);
         put_node(level, j, join_nodes(below, a, b));
-        j += 1;
     }
 }
 

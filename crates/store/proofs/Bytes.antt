@@ -3,10 +3,9 @@ use Prim.Native.Nat.{ℕ, ◌+◌, ◌-◌, ◌≤◌, ◌<◌}
 use mathlib.Core.Path.{◌≡◌, sym, ap, ap₂, ◌∙◌}
 use mathlib.Core.List.{List, ◌++◌, append_assoc}
 use native.Mathlib.Nat.{le_refl}
-use native.Mathlib.Numerals.{add-one}
 use native.Mathlib.Omega.{arith}
-use lib.ListN.{length, take, drop, get_or, set, length-append, length-take, get_or-append}
-use lib.Seq.{paste, paste-suc, take-paste, drop-paste, take-take, take-length, take-append-add, drop-drop, length-take-le, get_or-append-add, get_or-take, get_or-drop}
+use lib.ListN.{length, take, drop, get_or, length-append, length-take, get_or-append}
+use lib.Seq.{paste, take-paste, drop-paste, take-take, take-length, take-append-add, drop-drop, length-take-le, get_or-append-add, get_or-take, get_or-drop}
 
 -- ---- three parts in a row
 
@@ -58,11 +57,6 @@ module _ (d : List ℕ) (at : ℕ) (s : List ℕ) (n : ℕ) (hd : at + n ≤ len
     where
       back : at + n + (i - (at + n)) ≡ i
       back = omega arith
-
--- ---- a loop that has copied i bytes
-
-pub copy_on : (d₀ d s : List ℕ) (at i : ℕ) → at + length s ≤ length d₀ → i < length s → d ≡ paste d₀ at s i → set d (at + i) (get_or s i 0) ≡ paste d₀ at s (i + 1)
-copy_on d₀ d s at i h k e = ap (λ (x : List ℕ). set x (at + i) (get_or s i 0)) e ∙ paste-suc d₀ at s i 0 (omega arith) k ∙ ap (paste d₀ at s) (sym (add-one i))
 
 -- ---- copies in a row
 -- a copy of the first n bytes

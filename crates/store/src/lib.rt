@@ -13,7 +13,6 @@ ghost use Rattle.store.specs.Room.{ChunksRoom, StoreRoom, AppendRoom, PartsRoom}
 use level::{CHUNK, FAN};
 use lines::Mask;
 use node::Node;
-use number::lesser;
 use rebuild::{join_first, put_running, rebuild_above, rebuild_new};
 
 // n samples of the bytes join the len stored ones, and the nodes of every level above them are made.
@@ -31,8 +30,7 @@ pub fn append_samples(
     requires { AppendRoom unitsize len n (length samples.old) (level_of l1.old l2.old l3.old l4.old) (length bytes.now) }
     ensures { Stored unitsize len n bytes.now samples.old (level_of l1.old l2.old l3.old l4.old) samples.new (level_of l1.new l2.new l3.new l4.new) }
 {
-    let e = n * unitsize;
-    copy_at(samples, len * unitsize, &bytes[..e]);
+    copy_at(samples, len * unitsize, &bytes[..n * unitsize]);
     rebuild_levels(&samples[..], l1, l2, l3, l4, unitsize, len, n);
 }
 
@@ -67,11 +65,7 @@ pub fn copy_at(dst: &mut [u8], at: usize, src: &[u8])
     requires { at + length src.now ≤ length dst.old }
     ensures { dst.new ≡ paste dst.old at src.now (length src.now) }
 {
-    let mut i = 0;
-    while i < src.len() {
-        dst[at + i] = src[i];
-        i += 1;
-    }
+    dst[at..at + src.len()].copy_from_slice(src);
 }
 
 // n samples stand behind the first len: every node that covers one of them is made, level by level. From each level the node of the new samples
@@ -112,10 +106,9 @@ fn join_lowest(samples: &[u8], l1: &mut [Mask], unitsize: usize, len: usize, top
     ensures { NodeJoined (sample_of unitsize samples.now) len top 1 l1.old l1.new (as_node result) }
 {
     let base = len - len % CHUNK;
-    let stop = lesser(base + CHUNK, top + 1);
-    let a = base * unitsize;
-    let e = stop * unitsize;
-    join_first(&samples[a..e], l1, unitsize, base, len, stop - 1)
+    let stop = (base + CHUNK).min(top + 1);
+    let part = &samples[base * unitsize..stop * unitsize];
+    join_first(part, l1, unitsize, base, len, stop - 1)
 }
 
 // The nodes of level 1 from place from on, where one begins, up to place top, each chunk's from its part of the samples.
@@ -126,10 +119,9 @@ fn rebuild_chunks(samples: &[u8], l1: &mut [Mask], unitsize: usize, from: usize,
     let mut p = from;
     while p <= top {
         let base = p - p % CHUNK;
-        let stop = lesser(base + CHUNK, top + 1);
-        let a = base * unitsize;
-        let e = stop * unitsize;
-        rebuild_new(&samples[a..e], l1, unitsize, base, p / FAN, stop - 1);
+        let stop = (base + CHUNK).min(top + 1);
+        let part = &samples[base * unitsize..stop * unitsize];
+        rebuild_new(part, l1, unitsize, base, p / FAN, stop - 1);
         p = stop;
     }
 }
