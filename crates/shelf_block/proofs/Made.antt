@@ -12,10 +12,6 @@ use Rattle.rules.specs.Block.{block_size, payload_at, payload_most, zeros, check
 use Rattle.rules.proofs.SampleBytes.{sample_bytes_length}
 use Rattle.rules.proofs.Block.{zeros_are}
 
--- a part is as long as its places say
-pub part_length : (s : List ℕ) (from to : ℕ) → from ≤ to → to ≤ length s → length (take (to - from) (drop from s)) ≡ to - from
-part_length s from to h l = simp (length-take, length-drop) (omega (arith, h, l))
-
 -- ---- tests, one after the other
 regroup : (a b c d e : Bool) → (a && (b && (c && (d && e)))) ≡ ((a && b) && ((c && d) && e))
 regroup true true true d e = refl
@@ -51,11 +47,6 @@ pub put_over : (s last given : List ℕ) (from to : ℕ) → from ≤ to → las
     → take from s ++ (last ++ drop (to - from) (drop from s)) ≡ take from s ++ (given ++ drop to s)
 put_over s last given from to h e =
     ap₂ (λ (x y : List ℕ). take from s ++ (x ++ y)) e (drop-drop (to - from) from s ∙ ap (λ (k : ℕ). drop k s) (add-sub_of_le h))
-
-pub put_part : (s last : List ℕ) (from to value : ℕ) → from ≤ to → to ≤ length s → last ≡ sample_bytes (length (take (to - from) (drop from s))) value
-    → take from s ++ (last ++ drop (to - from) (drop from s)) ≡ take from s ++ (sample_bytes (to - from) value ++ drop to s)
-put_part s last from to value h l e =
-    put_over s last (sample_bytes (to - from) value) from to h (e ∙ ap (λ (n : ℕ). sample_bytes n value) (part_length s from to h l))
 
 -- bytes put behind a front that is known
 put_next : (s s' front r f : List ℕ) (a m : ℕ) → s ≡ front ++ r → length front ≡ a → s' ≡ take a s ++ (f ++ drop (a + m) s) → s' ≡ (front ++ f) ++ drop m r

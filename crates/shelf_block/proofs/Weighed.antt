@@ -1,7 +1,7 @@
 -- The sum of a block's bytes, two at a time.
 use mathlib.Core.Path.{◌≡◌, sym, ap, ◌∙◌}
 use mathlib.Core.List.{List, [], ◌∷◌, ◌++◌}
-use Prim.Native.Nat.{ℕ, suc, ◌+◌, ◌-◌, ◌*◌, ◌≤◌, ◌<◌}
+use Prim.Native.Nat.{ℕ, suc, ◌+◌, ◌*◌, ◌≤◌, ◌<◌}
 use native.Mathlib.Nat.{mul-le-mul}
 use native.Mathlib.Omega.{arith}
 use lib.ListN.{length, get_or, take, drop, length-drop, take-append-drop, drop_of_length-le}
@@ -83,6 +83,3 @@ module _ (block : List ℕ) (size : length block ≡ block_size) where
   -- place 0 weighs nothing, and place 1 its byte
   pub weigh_two : weigh 0 block ≡ get_or block 1 0 + weigh 2 (drop 2 block)
   weigh_two = weigh_cons 0 block 0 (omega (arith, size)) ∙ omega (arith, weigh_cons 1 block 1 (omega (arith, size)))
-
-  pub without_one : {sum : ℕ} → sum ≡ weigh 0 block → sum - get_or block 1 0 ≡ weigh 2 (drop 2 block)
-  without_one e = omega (arith, e, weigh_two)

@@ -1,5 +1,5 @@
 -- The blocks of a file, tested and emptied one after the other.
-use mathlib.Core.Path.{◌≡◌, refl, sym, ap, ap₂, ◌∙◌}
+use mathlib.Core.Path.{◌≡◌, sym, ap, ap₂, ◌∙◌}
 use mathlib.Core.Bool.{Bool, true, false, not, ◌&&◌}
 use mathlib.Core.List.{List, ◌++◌}
 use Prim.Native.Nat.{ℕ, suc, ◌+◌, ◌-◌, ◌*◌, ◌≤◌, ◌<◌, min}
@@ -10,7 +10,7 @@ use lib.Seq.{paste, paste-zero, length-paste, take-take, drop-drop, length-take-
 use borrow.Author.Tests.{not-true, not-false}
 use Rattle.rules.specs.Block.{block_size, payload_at, payload_most, good_block}
 use Rattle.rules.specs.Shelf.{blocks_for, payloads, good_blocks}
-use Rattle.rules.proofs.ShelfBlocks.{front_again, rest_again, blocks_hold, block_begins}
+use Rattle.rules.proofs.ShelfBlocks.{front_again, rest_again, block_begins}
 use Rattle.store.proofs.Bytes.{paste_twice}
 
 -- one block further
@@ -30,15 +30,6 @@ module _ (n i : ℕ) (h : i < blocks_for n) where
 -- ---- tested: i blocks are good
 pub record Testing (n : ℕ) (blocks : List ℕ) (i : ℕ) : Type 0 where
   pub same : good_blocks (blocks_for n) 1 n blocks ≡ good_blocks (blocks_for n - i) (i + 1) (n - i * payload_most) (drop (i * block_size) blocks)
-
-pub testing_starts : (n : ℕ) (blocks : List ℕ) → Testing n blocks 0
-testing_starts n blocks = record { same = ap₂ (λ (k m : ℕ). good_blocks k 1 m blocks) all whole }
-  where
-    all : blocks_for n ≡ blocks_for n - 0
-    all = omega arith
-
-    whole : n ≡ n - 0
-    whole = omega arith
 
 module _ {n : ℕ} {blocks : List ℕ} {i : ℕ} (t : Testing n blocks i) (h : i < blocks_for n) where
   abbrev count : ℕ
@@ -82,15 +73,6 @@ others n blocks i = take (n - i * payload_most) (payloads (blocks_for n - i) (dr
 pub record Gathering (n : ℕ) (blocks samples₀ samples : List ℕ) (i : ℕ) : Type 0 where
   pub size : length samples ≡ length samples₀
   pub same : paste samples (i * payload_most) (others n blocks i) (n - i * payload_most) ≡ paste samples₀ 0 (take n (payloads (blocks_for n) blocks)) n
-
-pub gathering_starts : (n : ℕ) (blocks samples : List ℕ) → Gathering n blocks samples samples 0
-gathering_starts n blocks samples = record { size = refl; same = ap₂ (λ (k m : ℕ). paste samples 0 (take m (payloads k blocks)) m) all whole }
-  where
-    all : blocks_for n - 0 ≡ blocks_for n
-    all = omega arith
-
-    whole : n - 0 ≡ n
-    whole = omega arith
 
 module _ {n : ℕ} {blocks samples₀ samples : List ℕ} {i : ℕ} (g : Gathering n blocks samples₀ samples i) (h : i < blocks_for n)
     (fits : length blocks ≡ block_size * blocks_for n) (room : n ≤ length samples₀) where
@@ -179,10 +161,3 @@ module _ {n : ℕ} {blocks samples₀ samples : List ℕ} {i : ℕ} (g : Gatheri
           where
             ends : (n - to < payload_most → ⊥) → (i + 1) * payload_most ≡ to + length part
             ends q = omega (arith, q, part_size)
-
-pub gathering_ends : {n : ℕ} {blocks samples₀ samples : List ℕ} {i : ℕ} → Gathering n blocks samples₀ samples i → blocks_for n ≤ i → samples ≡ paste samples₀ 0 (take n (payloads (blocks_for n) blocks)) n
-gathering_ends {n} {blocks} {samples₀} {samples} {i} g h =
-    paste-zero samples (i * payload_most) (others n blocks i) ∙ ap (paste samples (i * payload_most) (others n blocks i)) none ∙ g.same
-  where
-    none : 0 ≡ n - i * payload_most
-    none = omega (arith, h, blocks_hold n)

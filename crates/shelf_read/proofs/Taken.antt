@@ -3,7 +3,7 @@ use mathlib.Core.Path.{◌≡◌, sym, ap, ◌∙◌, subst, subst⁻¹}
 use mathlib.Core.Bool.{true, false}
 use mathlib.Core.List.{List}
 use Prim.Native.Nat.{ℕ, zero, suc, ◌-◌, ◌*◌, ◌≤◌}
-use native.Mathlib.Nat.{mul-le-mul, zero-mul}
+use native.Mathlib.Nat.{zero-mul}
 use native.Mathlib.Omega.{arith}
 use lib.ListN.{length, take, drop, length-take, length-drop}
 use lib.Seq.{paste, take_all}
@@ -27,21 +27,10 @@ use Rattle.answer.proofs.Answered.{number_least}
 use Rattle.rules.specs.Answer.{refused, given, unless}
 use Rattle.capture.proofs.Answer.{unless_given}
 use Rattle.capture.proofs.Calls.{unrefused_none, unrefused_all}
-use Rattle.shelf_head.specs.Head.{BlocksRoom}
 use Rattle.shelf_read.specs.Read.{room_refusal, TakeRoom, bytes_behind, Reads}
 use Rattle.shelf_read.proofs.Tested.{LetIn, let_in, last_row}
 
 -- ---- the samples taken
-module _ {st : Store} {file samples : ℕ} {levels : ℕ → List ℕ} (r : TakeRoom st file samples levels) where
-  pub taken_few : st.len * st.unit ≤ most_samples * 2
-  taken_few = mul-le-mul {n₁ = st.len} {m₁ = st.unit} {n₂ = most_samples} {m₂ = 2} (omega (arith, r.room.fits)) r.room.unit_size.most
-
-  pub blocks_room : {room : ℕ} → room ≡ file - block_size → BlocksRoom room (st.len * st.unit)
-  blocks_room e = record { few = omega (arith, taken_few); size = omega (arith, e, r.size) }
-
-  pub samples_room : st.len * st.unit ≤ samples
-  samples_room = omega (arith, r.room.samples)
-
 -- what stands behind block 0, as it is lent
 pub behind : (file : List ℕ) → take (length file - block_size) (drop block_size file) ≡ drop block_size file
 behind file = take_all (length file - block_size) (drop block_size file) (simp length-drop (omega arith))
@@ -80,7 +69,7 @@ module _ {capacity : ℕ} (samples : List ℕ) {levels : ℕ → List ℕ} {h : 
 
 -- ---- the call
 -- a refusal of an answer is its row
-unless_refused : {A : Type 0} (a : A) (n k : ℕ) → refused k ≡ unless n a → k ≡ n
+pub unless_refused : {A : Type 0} (a : A) (n k : ℕ) → refused k ≡ unless n a → k ≡ n
 unless_refused a zero k e = absurd (let z : ◌≡◌ {A = ℕ} 0 1 = cc in omega (arith, z))
 unless_refused a (suc n) k e = cc
 

@@ -6,14 +6,12 @@ use Prim.Native.Nat.{ℕ, ◌+◌, ◌-◌, ◌*◌, ◌/◌, ◌≤◌, ◌<◌
 use native.Mathlib.Nat.{add-mul, mul-le-mul, mul-le-mul_right, div-lt_iff_lt-mul, le-div_iff_mul-le}
 use native.Mathlib.Decide.{dec_lt}
 use native.Mathlib.Omega.{arith}
-use lib.ListN.{length, get_or, take, drop, length-take, get_or-replicate, drop_of_length-le}
-use lib.Seq.{paste, length-paste, take_all, get_or-take}
+use lib.ListN.{length, get_or, take, drop, length-take, get_or-replicate, length-replicate, length-drop}
+use lib.Seq.{paste, length-paste, take_all, drop-drop}
 use Rattle.rules.specs.Sample.{UnitSize}
-use Rattle.rules.specs.SampleBytes.{sample_bytes}
+use Rattle.rules.specs.Block.{zeros}
 use Rattle.rules.specs.Refusal.{most_samples}
 use Rattle.rules.specs.Stretches.{Stretch, covers, apart, pairs_in}
-use Rattle.rules.proofs.SampleBytes.{sample_bytes_length}
-use Rattle.rules.proofs.Block.{zeros_are}
 use Rattle.rules.proofs.Stretches.{among, among_yes, among_before, among_behind, Front, front, pairs_next}
 use Rattle.store.proofs.Bytes.{paste_before, paste_inside, paste_after}
 use Rattle.shelf_salvage.specs.Salvage.{zeroed, blanked, BlankRoom}
@@ -27,22 +25,25 @@ module _ {u : ℕ} (r : UnitSize u) (s : Stretch) (b : List ℕ) (inside : s.fir
   many = s.count * u
 
   abbrev zero_bytes : List ℕ
-  zero_bytes = sample_bytes many 0
+  zero_bytes = zeros many
+
+  zero_size : length zero_bytes ≡ many
+  zero_size = length-replicate many 0
 
   zeroed_paste : zeroed u s b ≡ paste b from zero_bytes many
   zeroed_paste =
-      ap (λ (x : List ℕ). take from b ++ (x ++ drop (from + many) b)) (sym (take_all many zero_bytes (omega (arith, sample_bytes_length many 0))))
+      ap (λ (x : List ℕ). take from b ++ (x ++ drop (from + many) b)) (sym (take_all many zero_bytes (omega (arith, zero_size))))
       ∙ sym (append_assoc (take from b) (take many zero_bytes) (drop (from + many) b))
 
   zeroed_length : length (zeroed u s b) ≡ length b
-  zeroed_length = ap length zeroed_paste ∙ length-paste b from zero_bytes many inside (omega (arith, sample_bytes_length many 0))
+  zeroed_length = ap length zeroed_paste ∙ length-paste b from zero_bytes many inside (omega (arith, zero_size))
 
   -- by the place of the sample that byte j is of
   zeroed_at : (j : ℕ) → get_or (zeroed u s b) j 0 ≡ cond (among s.first s.count (j / u)) 0 (get_or b j 0)
   zeroed_at j = ap (λ (x : List ℕ). get_or x j 0) zeroed_paste ∙ go (dec_lt j from) (dec_lt j (from + many))
     where
       room : many ≤ length zero_bytes
-      room = omega (arith, sample_bytes_length many 0)
+      room = omega (arith, zero_size)
 
       u_pos : 0 < u
       u_pos = omega (arith, r.least)
@@ -53,7 +54,6 @@ module _ {u : ℕ} (r : UnitSize u) (s : Stretch) (b : List ℕ) (inside : s.fir
           ∙ sym (ap (λ (t : Bool). cond t 0 (get_or b j 0)) (among_before s.first s.count (j / u) ((div-lt_iff_lt-mul u_pos).1 l)))
       go (no l) (yes m) =
           paste_inside b from zero_bytes many inside room j (omega (arith, l)) m
-          ∙ ap (λ (x : List ℕ). get_or x (j - from) 0) (zeros_are many)
           ∙ get_or-replicate many (j - from) 0 0 (omega (arith, l, m))
           ∙ sym (ap (λ (t : Bool). cond t 0 (get_or b j 0)) (among_yes s.first s.count (j / u) ((le-div_iff_mul-le u_pos).1 (omega (arith, l))) ((div-lt_iff_lt-mul u_pos).1 (omega (arith, m, add-mul s.first s.count u)))))
       go (no l) (no m) =
@@ -90,59 +90,70 @@ module _ {u : ℕ} (r : UnitSize u) (len : ℕ) where
       twice false c = refl
 
 -- ---- as a loop: i stretches are done, and the others would follow
-pub record Blanks (len u stretches : ℕ) (list samples₀ : List ℕ) (samples : List ℕ) (i : ℕ) : Type 0 where
-  pub inside : i ≤ stretches
+pub record Blanks (u : ℕ) (list samples₀ : List ℕ) (samples : List ℕ) (i : ℕ) : Type 0 where
+  pub room : BlankRoom u list (length samples₀)
   pub size : length samples ≡ length samples₀
   pub next : ℕ
-  pub in_order : apart next len (pairs_in (drop (2 * i) (take (2 * stretches) list))) ≡ true
-  pub same : blanked u (pairs_in (drop (2 * i) (take (2 * stretches) list))) samples ≡ blanked u (pairs_in (take (2 * stretches) list)) samples₀
+  pub in_order : apart next room.len (pairs_in (drop (2 * i) list)) ≡ true
+  pub same : blanked u (pairs_in (drop (2 * i) list)) samples ≡ blanked u (pairs_in list) samples₀
 
-module _ {len u stretches : ℕ} {list : List ℕ} where
-  pub blanks_start : {size : ℕ} → BlankRoom len u stretches list size → (samples : List ℕ) → Blanks len u stretches list samples samples 0
-  blanks_start t samples = record { inside = omega arith; size = refl; next = 0; in_order = t.in_order; same = refl }
+-- one number is no pair
+no_pair : (l : List ℕ) → length l ≤ 1 → pairs_in l ≡ []
+unfolding pairs_in
+no_pair [] h = refl
+no_pair (x ∷ []) h = refl
+no_pair (x ∷ y ∷ l) h = absurd (omega (arith, h))
 
-  module _ {samples₀ : List ℕ} (t : BlankRoom len u stretches list (length samples₀)) {samples : List ℕ} {i : ℕ} (s : Blanks len u stretches list samples₀ samples i) where
-    abbrev l : List ℕ
-    l = take (2 * stretches) list
+module _ {u : ℕ} {list : List ℕ} where
+  pub blanks_start : (samples : List ℕ) → BlankRoom u list (length samples) → Blanks u list samples samples 0
+  blanks_start samples t = record { room = t; size = refl; next = 0; in_order = t.in_order; same = refl }
 
-    l_length : length l ≡ 2 * stretches
-    l_length = simp length-take (omega (arith, t.list_long))
+  module _ {samples₀ samples : List ℕ} {i : ℕ} (s : Blanks u list samples₀ samples i) where
+    abbrev t : BlankRoom u list (length samples₀)
+    t = s.room
 
-    module _ (h : i < stretches) where
+    module _ (h : 2 * i + 1 < length list) where
       abbrev this : Stretch
       this = record { first = get_or list (2 * i) 0; count = get_or list (2 * i + 1) 0 }
 
-      there_is : pairs_in (drop (2 * i) l) ≡ this ∷ pairs_in (drop (2 * (i + 1)) l)
-      there_is =
-          pairs_next l i (omega (arith, l_length, h))
-          ∙ ap₂ (λ (a c : ℕ). record { first = a; count = c } ∷ pairs_in (drop (2 * (i + 1)) l)) (get_or-take (2 * stretches) list (2 * i) 0 (omega (arith, h))) (get_or-take (2 * stretches) list (2 * i + 1) 0 (omega (arith, h)))
+      there_is : pairs_in (drop (2 * i) list) ≡ this ∷ pairs_in (drop (2 * (i + 1)) list)
+      there_is = pairs_next list i h
 
-      fronts : Front s.next len this (pairs_in (drop (2 * (i + 1)) l))
-      fronts = front s.next len this (pairs_in (drop (2 * (i + 1)) l)) (subst⁻¹ (λ (x : List Stretch). apart s.next len x ≡ true) (sym there_is) s.in_order)
+      fronts : Front s.next t.len this (pairs_in (drop (2 * (i + 1)) list))
+      fronts = front s.next t.len this (pairs_in (drop (2 * (i + 1)) list)) (subst⁻¹ (λ (x : List Stretch). apart s.next t.len x ≡ true) (sym there_is) s.in_order)
 
       pub this_inside : this.first * u + this.count * u ≤ length samples
       this_inside = inside_memory u this fronts.inside (omega (arith, t.holds, s.size))
 
       pub this_small : this.first * u + this.count * u ≤ most_samples * 2
-      this_small = inside_memory u this fronts.inside (mul-le-mul {n₁ = len} {m₁ = u} {n₂ = most_samples} {m₂ = 2} t.few t.unit_size.most)
+      this_small = inside_memory u this fronts.inside (mul-le-mul {n₁ = t.len} {m₁ = u} {n₂ = most_samples} {m₂ = 2} t.few t.unit_size.most)
 
-      pub blanks_on : {samples' : List ℕ} → samples' ≡ take (this.first * u) samples ++ (sample_bytes (this.first * u + this.count * u - this.first * u) 0 ++ drop (this.first * u + this.count * u) samples)
-          → Blanks len u stretches list samples₀ samples' (i + 1)
+      abbrev at : ℕ
+      at = this.first * u
+
+      abbrev end : ℕ
+      end = this.first * u + this.count * u
+
+      -- the part is lent, and comes back with zeros
+      pub blanks_on : (part : List ℕ) → part ≡ zeros (length (take (end - at) (drop at samples))) → Blanks u list samples₀ (take at samples ++ (part ++ drop (end - at) (drop at samples))) (i + 1)
       unfolding blanked
-      blanks_on {samples'} e = record {
-        inside = omega (arith, h);
+      blanks_on part e = record {
+        room = t;
         size = ap length zeroes ∙ zeroed_length t.unit_size this samples this_inside ∙ s.size;
         next = this.first + this.count + 1;
         in_order = fronts.rest;
-        same = ap (blanked u (pairs_in (drop (2 * (i + 1)) l))) zeroes ∙ ap (λ (x : List Stretch). blanked u x samples) (sym there_is) ∙ s.same;
+        same = ap (blanked u (pairs_in (drop (2 * (i + 1)) list))) zeroes ∙ ap (λ (x : List Stretch). blanked u x samples) (sym there_is) ∙ s.same;
       }
         where
-          zeroes : samples' ≡ zeroed u this samples
-          zeroes = e ∙ ap (λ (k : ℕ). take (this.first * u) samples ++ (sample_bytes k 0 ++ drop (this.first * u + this.count * u) samples)) cut
-            where
-              cut : this.first * u + this.count * u - this.first * u ≡ this.count * u
-              cut = omega arith
+          cut : end - at ≡ this.count * u
+          cut = omega arith
 
-    pub blanks_end : stretches ≤ i → samples ≡ blanked u (pairs_in l) samples₀
-    unfolding blanked pairs_in
-    blanks_end h = ap (λ (x : List ℕ). blanked u (pairs_in x) samples) (sym (drop_of_length-le l {i = 2 * i} (omega (arith, l_length, h)))) ∙ s.same
+          many : length (take (end - at) (drop at samples)) ≡ this.count * u
+          many = simp (length-take, length-drop) (omega (arith, this_inside))
+
+          zeroes : take at samples ++ (part ++ drop (end - at) (drop at samples)) ≡ zeroed u this samples
+          zeroes = ap₂ (λ (x y : List ℕ). take at samples ++ (x ++ y)) (e ∙ ap zeros many) (ap (λ (k : ℕ). drop k (drop at samples)) cut ∙ drop-drop (this.count * u) at samples)
+
+    pub blanks_end : length list ≤ 2 * i + 1 → samples ≡ blanked u (pairs_in list) samples₀
+    unfolding blanked
+    blanks_end h = ap (λ (x : List Stretch). blanked u x samples) (sym (no_pair (drop (2 * i) list) (omega (arith, length-drop (2 * i) list, h)))) ∙ s.same

@@ -6,19 +6,19 @@ use Prim.Native.Nat.{ℕ, ◌+◌, ◌-◌, ◌*◌, ◌/◌, ◌%◌, ◌≤◌
 use native.Mathlib.Nat.{mul-le-mul, div-add-mod', mod-lt, div-lt_iff_lt-mul, le-div_iff_mul-le}
 use native.Mathlib.Decide.{dec_lt}
 use native.Mathlib.Omega.{arith}
-use lib.ListN.{length, get_or, take}
+use lib.ListN.{length, get_or}
 use lib.Seq.{paste, length-paste, ext_get_or}
 use Rattle.rules.specs.Sample.{UnitSize}
 use Rattle.rules.specs.Refusal.{Store, most_samples}
 use Rattle.rules.specs.Shelf.{Heading, bytes_for, heading_in, bytes_in}
-use Rattle.rules.specs.Stretches.{Stretch, covers, apart, pairs_in}
+use Rattle.rules.specs.Stretches.{Stretch, covers, apart, pairs_of, pairs_in}
 use Rattle.rules.specs.Salvage.{block_in, good_at, block_of_byte, salvaged_byte, salvaged_bytes, stretches_of}
 use Rattle.rules.proofs.Sample.{list_at}
 use Rattle.rules.proofs.ShelfHead.{Headed, heading_headed}
 use Rattle.rules.proofs.Stretches.{pairs_back}
 use Rattle.rules.proofs.Salvage.{in_one, there_room, good_there, byte_there, salvaged_length, unknown_in_lem, past_in, list_apart}
 use Rattle.store.proofs.Bytes.{paste_inside, paste_after}
-use Rattle.shelf_salvage.specs.Salvage.{Gathers, blanked, BlankRoom, Opened, Listed}
+use Rattle.shelf_salvage.specs.Salvage.{Gathers, blanked, BlankRoom, Opened}
 use Rattle.shelf_salvage.proofs.Blanking.{blanked_length, blanked_at}
 
 module _ {file : List ℕ} {st : Store} {size : ℕ} (o : Opened file st size) where
@@ -40,13 +40,13 @@ module _ {file : List ℕ} {st : Store} {size : ℕ} (o : Opened file st size) w
   pub bytes_small : st.len * st.unit ≤ most_samples * 2
   bytes_small = omega (arith, bytes_are, mul-le-mul {n₁ = h.len} {m₁ = h.unit} {n₂ = most_samples} {m₂ = 2} headed_here.len_most r.most)
 
-  pub blank_room : {stretches : ℕ} {list : List ℕ} {room : ℕ} → Listed file stretches list → room ≡ size → BlankRoom st.len st.unit stretches list room
-  blank_room {stretches} {list} l e = record {
+  pub blank_room : {list : List ℕ} {room : ℕ} → list ≡ pairs_of (stretches_of file) → room ≡ size → BlankRoom st.unit list room
+  blank_room {list} {room} l e = record {
+    len = st.len;
     unit_size = subst⁻¹ (λ (x : Heading). UnitSize x.unit) o.says r;
     few = omega (arith, ap (λ (x : Heading). x.len) o.says, headed_here.len_most);
     holds = omega (arith, o.holds, e);
-    list_long = l.list_long;
-    in_order = subst⁻¹ (λ (x : Heading). apart 0 x.len (pairs_in (take (2 * stretches) list)) ≡ true) o.says (subst⁻¹ (λ (x : List Stretch). apart 0 h.len x ≡ true) (ap pairs_in l.list_is ∙ pairs_back (stretches_of file)) (list_apart file));
+    in_order = subst⁻¹ (λ (x : Heading). apart 0 x.len (pairs_in list) ≡ true) o.says (subst⁻¹ (λ (x : List Stretch). apart 0 h.len x ≡ true) (ap pairs_in l ∙ pairs_back (stretches_of file)) (list_apart file));
   }
 
   -- the two steps
@@ -119,8 +119,8 @@ module _ {file : List ℕ} {st : Store} {size : ℕ} (o : Opened file st size) w
                 ∙ sym (paste_after samples 0 (salvaged_bytes file) n (omega (arith, room)) (omega (arith, salvaged_size)) j (omega (arith, m)))
 
   -- as the code has it: by the record, and by the list
-  pub filled_store : {stretches : ℕ} {list : List ℕ} → Listed file stretches list → {samples one two : List ℕ} → length samples ≡ size → Gathers (st.len * st.unit) file samples one
-      → two ≡ blanked st.unit (pairs_in (take (2 * stretches) list)) one → two ≡ paste samples 0 (salvaged_bytes file) (st.len * st.unit)
-  filled_store {stretches} {list} l {samples} {one} {two} size_is g e =
-      filled size_is (subst (λ (k : ℕ). Gathers k file samples one) bytes_are g) (e ∙ ap₂ (λ (u : ℕ) (ss : List Stretch). blanked u ss one) (ap (λ (x : Heading). x.unit) o.says) (ap pairs_in l.list_is ∙ pairs_back (stretches_of file)))
+  pub filled_store : {list : List ℕ} → list ≡ pairs_of (stretches_of file) → {samples one two : List ℕ} → length samples ≡ size → Gathers (st.len * st.unit) file samples one
+      → two ≡ blanked st.unit (pairs_in list) one → two ≡ paste samples 0 (salvaged_bytes file) (st.len * st.unit)
+  filled_store {list} l {samples} {one} {two} size_is g e =
+      filled size_is (subst (λ (k : ℕ). Gathers k file samples one) bytes_are g) (e ∙ ap₂ (λ (u : ℕ) (ss : List Stretch). blanked u ss one) (ap (λ (x : Heading). x.unit) o.says) (ap pairs_in l ∙ pairs_back (stretches_of file)))
       ∙ ap (paste samples 0 (salvaged_bytes file)) (sym bytes_are)

@@ -11,7 +11,6 @@ use Rattle.rules.specs.Shelf.{blocks_for, payloads}
 use Rattle.rules.proofs.ShelfBlocks.{blocks_hold, payloads_length}
 use Rattle.rules.proofs.Salvage.{payload_at_lem}
 use Rattle.store.proofs.Bytes.{paste_inside, paste_after}
-use Rattle.shelf_head.specs.Head.{BlocksRoom}
 use Rattle.shelf_salvage.specs.Salvage.{Gathers}
 
 -- there are n bytes of samples, of which w whole blocks hold `there`
@@ -41,9 +40,6 @@ module _ {n there : ℕ} (file samples : List ℕ) (some-file : block_size ≤ l
 
     part_length : length part ≡ block_size * k
     part_length = length-take-le (block_size + block_size * k - block_size) (drop block_size file) (simp length-drop (omega (arith, end_inside))) ∙ omega arith
-
-    pub part_room : BlocksRoom (length part) there
-    part_room = record { few = there_small; size = part_length ∙ ap (λ (x : ℕ). block_size * x) k-is }
 
     abbrev bytes : List ℕ
     bytes = take there (payloads (blocks_for there) part)

@@ -1,14 +1,13 @@
--- The rows of a salvaging, in order, and what is left by the number of the first that holds.
-use mathlib.Core.Path.{◌≡◌, refl, sym, ap, ap₂, ◌∙◌, subst, subst⁻¹}
-use mathlib.Core.Bool.{Bool, true, false, cond, not, ◌||◌}
+-- The rows of a salvaging, in order, and what is left by the first that holds.
+use mathlib.Core.Path.{◌≡◌, refl, sym, ap, ap₂, ◌∙◌, subst⁻¹}
+use mathlib.Core.Bool.{Bool, true, false, cond}
 use mathlib.Core.List.{List}
 use Prim.Native.Nat.{ℕ, ◌*◌, ◌≤◌}
 use native.Mathlib.Omega.{arith}
 use lib.Dec.{ltb}
-use lib.ListN.{length, take, drop, length-append, length-drop}
+use lib.ListN.{length, take, drop}
 use lib.Seq.{take_all, take_at}
 use borrow.Author.Tests.{ltb-false}
-use Rattle.rules.specs.Answer.{given}
 use Rattle.rules.specs.Refusal.{Store, Lent, lent_short}
 use Rattle.rules.specs.Shelf.{Heading, heading_of, heading_in, head_test}
 use Rattle.rules.specs.ShelfCalls.{capacity_wrong, store_in, store_short, written_to}
@@ -18,21 +17,23 @@ use Rattle.rules.proofs.Refusal.{neither}
 use Rattle.rules.proofs.ShelfHead.{heading_headed}
 use Rattle.rules.proofs.Stretches.{pairs_length}
 use Rattle.store.specs.Room.{StoreRoom}
-use Rattle.store.specs.Stored.{Stored}
 use Rattle.store.proofs.Stored.{stored_none}
 use Rattle.capture.specs.declared.Capture.{Capture}
 use Rattle.capture.specs.Record.{store_of, lent_of}
-use Rattle.capture.proofs.Answer.{refused_is}
+use Rattle.capture.proofs.Answer.{unless_given}
 use Rattle.capture.proofs.Calls.{unrefused_none}
-use Rattle.shelf_read.proofs.Tested.{capacity_right, none_refuses}
-use Rattle.shelf_read.proofs.Taken.{new_room}
+use Rattle.rules.proofs.Refusal.{row_passed}
+use Rattle.rules.specs.Answer.{refused, given, unless}
+use Rattle.std.specs.Prelude.{Err, Some}
+use Rattle.answer.specs.declared.Refusal.{Refusal}
+use Rattle.answer.specs.Answered.{number}
+use Rattle.answer.proofs.Answered.{number_least, stops}
+use Rattle.shelf_read.specs.Read.{room_refusal}
+use Rattle.shelf_read.proofs.Tested.{capacity_right}
+use Rattle.shelf_read.proofs.Taken.{unless_refused, new_room}
 use Rattle.shelf_stretches.specs.declared.Found.{Found}
-use Rattle.shelf_stretches.specs.declared.Finding.{Finding}
-use Rattle.shelf_stretches.specs.declared.Finding.TheVariants as finding
 use Rattle.shelf_stretches.specs.Told.{Finds}
-use Rattle.shelf_salvage.specs.declared.SalvageResult.{SalvageResult}
-use Rattle.shelf_salvage.specs.declared.SalvageResult.TheVariants as salvage
-use Rattle.shelf_salvage.specs.Salvage.{Opened, Listed, open_refusal, list_refusal, Leaves, Salvages}
+use Rattle.shelf_salvage.specs.Salvage.{Opened, Salvages}
 
 -- ---- the rows ahead of the stretches
 module _ (capacity : ℕ) (lent : Lent) (file : List ℕ) where
@@ -44,27 +45,6 @@ module _ (capacity : ℕ) (lent : Lent) (file : List ℕ) where
     pub right : capacity_wrong capacity ≡ false
     pub head : head_test file ≡ true
     pub enough : store_short capacity lent h ≡ false
-
-  pub let_in : open_refusal capacity lent file ≡ 0 → LetIn
-  let_in e =
-      let t = none_refuses 17 (capacity_wrong capacity) (head_test file) (store_short capacity lent h) (omega arith) e in
-      record { right = t.0; head = t.1; enough = t.2 }
-
-  -- the whole: where one of them refuses it is they, else the list's
-  pub by_list : (list : ℕ) → LetIn → list_refusal list file ≡ rule.salvage_refusal capacity lent list file
-  by_list list t = rw (t.right, t.head, t.enough)
-
-  pub by_open : (list : ℕ) → (open_refusal capacity lent file ≡ 0 → ⊥) → open_refusal capacity lent file ≡ rule.salvage_refusal capacity lent list file
-  by_open list n = go (capacity_wrong capacity) (head_test file) (store_short capacity lent h) n
-    where
-      first : Bool → Bool → Bool → ℕ
-      first a b c = cond a 1 (cond (not b) 17 (cond c 15 0))
-
-      go : (a b c : Bool) → (first a b c ≡ 0 → ⊥) → first a b c ≡ first a b (c || ltb list (rule.list_need file))
-      go true b c n = refl
-      go false false c n = refl
-      go false true true n = refl
-      go false true false n = absurd (n refl)
 
 -- a store that is let in
 module _ (capacity : ℕ) (file samples : List ℕ) (levels : ℕ → List ℕ) (t : LetIn capacity (lent_of samples levels) file) where
@@ -81,74 +61,60 @@ module _ (capacity : ℕ) (file samples : List ℕ) (levels : ℕ → List ℕ) 
         subst⁻¹ (λ (x : Store). StoreRoom x.unit 0 x.len (length samples) levels) e room,
       )
 
--- ---- what is left
--- the list has room, or not
-module _ (file samples : List ℕ) (levels : ℕ → List ℕ) (list : List ℕ) where
-  short_left : {st : Store} → ltb (length list) (rule.list_need file) ≡ true → {list' : List ℕ} → list' ≡ list → Leaves (list_refusal (length list) file) st file samples levels list (salvage.Refused 15) samples levels list'
-  short_left {st} e {list'} l = subst⁻¹ (λ (k : ℕ). Leaves k st file samples levels list (salvage.Refused 15) samples levels list') (ap (λ (b : Bool). cond b 15 0) e)
-      (record { answer_is = refl; memory = stored_none (heading_in file).unit 0 0 (rule.salvaged_bytes file) samples levels refl; list_is = l })
+-- ---- the list, told
+-- the stretches of a file's bad blocks stand in front of the list
+pub listed : (file list : List ℕ) {found : Found} (list' : List ℕ) → Finds file list (Some found) list' → take (2 * found.stretches) list' ≡ pairs_of (rule.stretches_of file)
+listed file list list' f = ap₂ take (ap (λ (k : ℕ). 2 * k) f.1) f.3 ∙ front
+  where
+    all : take (rule.list_need file) (pairs_of (rule.stretches_of file)) ≡ pairs_of (rule.stretches_of file)
+    all = take_all (rule.list_need file) (pairs_of (rule.stretches_of file)) (omega (arith, pairs_length (rule.stretches_of file)))
 
-  pub left_short : {st : Store} {list' : List ℕ} {x : Finding} → Finds file list x list' → x ≡ finding.Short → Leaves (list_refusal (length list) file) st file samples levels list (salvage.Refused 15) samples levels list'
-  left_short {list' = list'} f e = let t = subst (λ (y : Finding). Finds file list y list') e f in short_left t.0 t.1
-
-  module _ {found : Found} {list' : List ℕ} {x : Finding} (f : Finds file list x list') (x-is : x ≡ finding.Found found) where
-    t : Finds file list (finding.Found found) list'
-    t = subst (λ (y : Finding). Finds file list y list') x-is f
-
-    pub listed : Listed file found.stretches list'
-    listed = record {
-      stretches_are = t.1;
-      list_long = omega (arith, t.1, ap length t.3, written, room);
-      list_is = ap₂ take (ap (λ (k : ℕ). 2 * k) t.1) t.3 ∙ front;
-    }
-      where
-        room : rule.list_need file ≤ length list
-        room = ltb-false (length list) (rule.list_need file) t.0
-
-        all : take (rule.list_need file) (pairs_of (rule.stretches_of file)) ≡ pairs_of (rule.stretches_of file)
-        all = take_all (rule.list_need file) (pairs_of (rule.stretches_of file)) (omega (arith, pairs_length (rule.stretches_of file)))
-
-        written : length (written_to (rule.list_need file) (pairs_of (rule.stretches_of file)) list) ≡ length list
-        written =
-            length-append (take (rule.list_need file) (pairs_of (rule.stretches_of file))) (drop (rule.list_need file) list)
-            ∙ omega (arith, ap length all, pairs_length (rule.stretches_of file), length-drop (rule.list_need file) list, room)
-
-        front : take (rule.list_need file) (written_to (rule.list_need file) (pairs_of (rule.stretches_of file)) list) ≡ pairs_of (rule.stretches_of file)
-        front =
-            take_at (take (rule.list_need file) (pairs_of (rule.stretches_of file))) (drop (rule.list_need file) list) (rule.list_need file) (ap length all ∙ pairs_length (rule.stretches_of file))
-            ∙ all
-
-    pub left_found : {st : Store} (c : Capture) → store_of c ≡ st → heading_of st ≡ heading_in file → {samples' : List ℕ} {levels' : ℕ → List ℕ}
-        → Stored c.unitsize 0 c.len (rule.salvaged_bytes file) samples levels samples' levels'
-        → Leaves (list_refusal (length list) file) st file samples levels list (salvage.Salvaged (record { store = c; stretches = found.stretches; replaced = found.replaced })) samples' levels' list'
-    left_found {st} c c-is says {samples'} {levels'} d = subst⁻¹ (λ (k : ℕ). Leaves k st file samples levels list (salvage.Salvaged (record { store = c; stretches = found.stretches; replaced = found.replaced })) samples' levels' list') (ap (λ (b : Bool). cond b 15 0) t.0)
-        (record {
-          answer_is = λ i. given (record { store = c-is i; stretches = t.1 i; replaced = t.2 i });
-          memory = subst (λ (x : Heading). Stored x.unit 0 x.len (rule.salvaged_bytes file) samples levels samples' levels') (ap heading_of c-is ∙ says) d;
-          list_is = t.3;
-        })
+    front : take (rule.list_need file) (written_to (rule.list_need file) (pairs_of (rule.stretches_of file)) list) ≡ pairs_of (rule.stretches_of file)
+    front =
+        take_at (take (rule.list_need file) (pairs_of (rule.stretches_of file))) (drop (rule.list_need file) list) (rule.list_need file) (ap length all ∙ pairs_length (rule.stretches_of file))
+        ∙ all
 
 -- ---- the call
 module _ (capacity : ℕ) (file samples : List ℕ) (levels : ℕ → List ℕ) (list : List ℕ) where
   abbrev lent : Lent
   lent = lent_of samples levels
 
-  -- a row ahead of the stretches refuses
-  pub salvages_refused : {n : ℕ} → n ≡ open_refusal capacity lent file → (n ≡ 0 → ⊥) → Salvages capacity file samples levels list (salvage.Refused n) samples levels list
-  salvages_refused {n} e z = record {
-    answer_is = refused_is _ same z;
-    memory = stored_none (heading_in file).unit 0 _ (rule.salvaged_bytes file) samples levels (unrefused_none same z (heading_in file).len);
-    list_is = ap (λ (k : ℕ). written_to k (pairs_of (rule.stretches_of file)) list) (sym (unrefused_none same z (rule.list_need file)));
+  abbrev rows : ℕ
+  rows = rule.salvage_refusal capacity lent (length list) file
+
+  refuses : (r : Refusal) → number r ≡ rows → Salvages capacity file samples levels list (Err r) samples levels list
+  refuses r e = record {
+    answer_is = stops r rows (rule.salvaged_of capacity file) e;
+    memory = stored_none (heading_in file).unit 0 _ (rule.salvaged_bytes file) samples levels (unrefused_none e n (heading_in file).len);
+    list_is = ap (λ (k : ℕ). written_to k (pairs_of (rule.stretches_of file)) list) (sym (unrefused_none e n (rule.list_need file)));
   }
     where
-      same : n ≡ rule.salvage_refusal capacity lent (length list) file
-      same = e ∙ by_open capacity lent file (length list) (λ q. z (e ∙ q))
+      n : number r ≡ 0 → ⊥
+      n z = omega (arith, number_least r)
 
-  -- or none does
-  pub salvages_left : LetIn capacity lent file → {st : Store} → st ≡ store_in capacity (heading_in file) → {r : SalvageResult} {samples' : List ℕ} {levels' : ℕ → List ℕ} {list' : List ℕ}
-      → Leaves (list_refusal (length list) file) st file samples levels list r samples' levels' list' → Salvages capacity file samples levels list r samples' levels' list'
-  salvages_left t {st} e {r} {samples'} {levels'} {list'} d =
-      let u : Leaves (rule.salvage_refusal capacity lent (length list) file) (store_in capacity (heading_in file)) file samples levels list r samples' levels' list' =
-      subst (λ (k : ℕ). Leaves k (store_in capacity (heading_in file)) file samples levels list r samples' levels' list') (by_list capacity lent file (length list) t)
-      (subst (λ (x : Store). Leaves (list_refusal (length list) file) x file samples levels list r samples' levels' list') e d) in
-      record { answer_is = u.answer_is; memory = u.memory; list_is = u.list_is }
+  -- past the first two rows, by what was given of a new store
+  module _ (right : false ≡ capacity_wrong capacity) (head : true ≡ head_test file) where
+    abbrev room : ℕ
+    room = room_refusal capacity lent (heading_in file)
+
+    abbrev short : Bool
+    short = store_short capacity lent (heading_in file)
+
+    pub refuses_store : (r : Refusal) → refused (number r) ≡ unless room (store_in capacity (heading_in file)) → Salvages capacity file samples levels list (Err r) samples levels list
+    refuses_store r e = refuses r (go short refl (unless_refused _ _ _ e))
+      where
+        row : Bool → ℕ
+        row b = cond b 15 0
+
+        go : (b : Bool) → short ≡ b → number r ≡ room → number r ≡ rows
+        go true e k = k ∙ rw (← right, ← head, e)
+        go false e k = absurd (omega (arith, number_least r, k, ap row e))
+
+    module _ (c : Capture) (made : given (store_of c) ≡ unless room (store_in capacity (heading_in file))) where
+      passes : (room ≡ 0) × (store_in capacity (heading_in file) ≡ store_of c)
+      passes = unless_given (store_in capacity (heading_in file)) room (store_of c) (sym made)
+
+      pub rooms : Opened file (store_of c) (length samples) × StoreRoom c.unitsize 0 c.len (length samples) levels
+      rooms =
+          let enough = ((row_passed 15 0 short (omega arith)).0 passes.0).0 in
+          let_room capacity file samples levels (record { right = sym right; head = sym head; enough = enough }) (store_of c) (sym passes.1)

@@ -155,9 +155,6 @@ module _ {file list₀ : List ℕ} (r : UnitSize (heading_in file).unit) {i : �
   end : Survey (is_known file) (len file r) list₀ (len file r) run list
   end = subst (λ (p : ℕ). Survey (is_known file) (len file r) list₀ p run list) (ends_at file r h) s.survey
 
-  pub end_room : len file r ≤ most_samples → i < 2 ^ 32 → StretchRoom run (len file r)
-  end_room f l = record { stretches = omega (arith, s.few, l); sum = end.sum; small = omega (arith, f) }
-
   pub loop_ends : Tallied file (record { stretches = (closed run).stretches; replaced = (closed run).replaced }) × (closed_list run (len file r) list ≡ told_to (stretches_of file) list₀)
   unfolding stretches_of replaced_in
   loop_ends = let t = survey_ends end in (record { stretches_are = t.0; replaced_are = t.1 ∙ stretches_places (is_known file) 0 (len file r) }, t.2)
@@ -217,9 +214,6 @@ module _ {file : List ℕ} {n len per : ℕ} (t : Measured file n len per) {list
   module _ (h : blocks_for n ≤ i) where
     all_done : blocks_for (bytes_for (heading_in file)) ≤ i
     all_done = subst (λ (k : ℕ). blocks_for k ≤ i) t.bytes h
-
-    pub last_room : StretchRoom run len
-    last_room = subst⁻¹ (StretchRoom run) t.samples (end_room t.unit_size s all_done (omega (arith, t.samples, t.few)) (omega (arith, s.inside, ap blocks_for t.bytes, blocks_few t)))
 
     pub surveyed : (numbers : ℕ) {last : Run} {list' : List ℕ} → last ≡ closed run → list' ≡ closed_list run len list
         → Surveys numbers file list₀ (Some (record { stretches = last.stretches; replaced = last.replaced })) list'

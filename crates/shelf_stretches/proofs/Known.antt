@@ -10,9 +10,6 @@ use Rattle.rules.specs.Block.{block_size, payload_most, good_block}
 use Rattle.rules.specs.Salvage.{block_in, due_count, good_in}
 
 module _ (n i : ℕ) (file : List ℕ) where
-  abbrev k : ℕ
-  k = i + 1
-
   abbrev there : ℕ
   there = length (take block_size (drop (block_size * (i + 1)) file))
 

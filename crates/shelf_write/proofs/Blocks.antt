@@ -27,12 +27,6 @@ pub record Putting (bytes blocks : List ℕ) (i : ℕ) : Type 0 where
   pub size : length blocks ≡ block_size * blocks_for (length bytes)
   pub stand : take (i * block_size) blocks ++ blocks_of (blocks_for (length bytes) - i) (i + 1) (drop (i * payload_most) bytes) ≡ blocks_of (blocks_for (length bytes)) 1 bytes
 
-pub putting_starts : (bytes blocks : List ℕ) → length blocks ≡ block_size * blocks_for (length bytes) → Putting bytes blocks 0
-putting_starts bytes blocks e = record { size = e; stand = ap (λ (k : ℕ). blocks_of k 1 bytes) all }
-  where
-    all : blocks_for (length bytes) - 0 ≡ blocks_for (length bytes)
-    all = omega arith
-
 module _ {bytes blocks : List ℕ} {i : ℕ} (p : Putting bytes blocks i) (h : i < blocks_for (length bytes)) where
   abbrev k : ℕ
   k = blocks_for (length bytes)
