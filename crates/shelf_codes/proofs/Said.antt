@@ -1,23 +1,13 @@
 -- What block 0 says, written as numbers, reads back, whatever stood there before.
-use mathlib.Core.Path.{◌≡◌, refl, sym, ap, subst⁻¹}
+use mathlib.Core.Path.{◌≡◌, refl, subst⁻¹}
 use mathlib.Core.List.{List, [], ◌∷◌}
 use Rattle.std.specs.Prelude.{Option, None, Some}
 use Prim.Native.Nat.{ℕ}
 use lib.ListN.{length, get_or}
-use lib.Seq.{sets}
 use Rattle.rules.specs.Sample.{list_from}
 use Rattle.rules.specs.Shelf as rule
 use Rattle.rules.proofs.SampleBytes.{list_whole}
-use Rattle.capture.specs.declared.Mark.{Mark}
-use Rattle.capture.specs.Record.{mark_of}
-use Rattle.codes.specs.Record.{mark_numbers}
-use Rattle.shelf_head.specs.declared.Heading.{Heading}
-use Rattle.shelf_head.specs.Head.{heading_as}
 use Rattle.shelf_codes.specs.Said.{said_numbers, said_in}
-
--- the four numbers, with the mark by its cases
-pub mark_written : (h : Heading) (m : Mark) (old : List ℕ) → h.trigger ≡ m → sets old 0 (h.unitsize ∷ h.len ∷ mark_numbers (mark_of m)) ≡ said_numbers (heading_as h) old
-mark_written h m old e = sym (ap (λ (x : Mark). sets old 0 (h.unitsize ∷ h.len ∷ mark_numbers (mark_of x))) e)
 
 mark_back : (unit len a b c d : ℕ) (m : Option ℕ) → said_in (said_numbers (record { unit = unit; mark = m; len = len }) (a ∷ b ∷ c ∷ d ∷ [])) ≡ record { unit = unit; mark = m; len = len }
 mark_back unit len a b c d None = refl
