@@ -1,12 +1,12 @@
 -- Laws of an armed recorder: what a push that fires takes, and what one that does not leaves.
 use mathlib.Core.Path.{◌≡◌, refl, sym, ap, ◌∙◌, subst, subst₂}
-use Rattle.std.specs.Prelude.{Option, Some, unwrap_or, Result}
+use Rattle.std.specs.Prelude.{Option, Some, Result}
 use mathlib.Core.List.{List, ◌++◌}
-use Prim.Native.Nat.{ℕ, ◌+◌, ◌-◌, ◌*◌, ◌≤◌, min}
+use Prim.Native.Nat.{ℕ, ◌+◌, ◌-◌, ◌*◌, min}
 use native.Mathlib.Omega.{arith}
 use lib.ListN.{length, drop}
 use Rattle.rules.specs.Trigger.{last_of}
-use Rattle.rules.specs.Refusal.{Recorder, most_samples}
+use Rattle.rules.specs.Refusal.{Recorder}
 use Rattle.rules.specs.Ring.{place_after, kept_bytes}
 use Rattle.rules.specs.Push.{fired_by, waited_for, wanted, passed}
 use Rattle.feeder_lists.proofs.Bytes.{units_length}
@@ -15,15 +15,10 @@ use Rattle.feeder.specs.declared.Feeder.{Feeder}
 use Rattle.feeder.specs.Record.{recorder_of}
 use Rattle.feeder_scan.specs.Scan.{sample_in, samples_in}
 use Rattle.feeder_scan.specs.declared.samples.Samples.{Samples}
-use Rattle.feeder_run.specs.Run.{RunRoom, Takes}
+use Rattle.feeder_run.specs.Run.{Takes}
 use Rattle.feeder_push.specs.declared.Pushed.{Pushed}
 use Rattle.feeder_push.specs.Inner.{Answers, Stores}
-use Rattle.feeder_push.proofs.Left.{like, takes_fits, stores_is}
-
--- what went to the store is within what memory can have
-pub taken_fits : {f : Feeder} {p : Samples} {size : ℕ} {lv : ℕ → List ℕ} {ring : ℕ} → RunRoom f p size lv ring → {n : ℕ} {x s : List ℕ} {kv : ℕ → List ℕ} {t : Option ℕ} {s' : List ℕ} {lv' : ℕ → List ℕ}
-    → Takes f n x s kv t s' lv' → f.capture.len + unwrap_or t 0 ≤ most_samples
-taken_fits h {t = t} d = omega (arith, takes_fits t d h.within.len_most, h.room.fits, h.within.len_most)
+use Rattle.feeder_push.proofs.Left.{like, stores_is}
 
 -- ---- a push that fires at i
 module _ (f : Feeder) (p : Samples) (s : List ℕ) (lv : ℕ → List ℕ) (g : List ℕ) (i : ℕ) {j w : ℕ} (ej : j ≡ min i f.pre) (ew : w ≡ min f.kept (f.pre - j)) where

@@ -1,13 +1,12 @@
 -- What is left once samples went to the store, or had no room there.
 use mathlib.Core.Path.{◌≡◌, refl, sym, ap, ◌∙◌, subst}
 use mathlib.Core.Bool.{Bool, true, false, cond}
-use Rattle.std.specs.Prelude.{Option, None, Some, unwrap_or, Result}
+use Rattle.std.specs.Prelude.{Option, None, Some, Result}
 use Rattle.answer.specs.declared.Refusal.{Refusal}
 use mathlib.Core.List.{List, ◌++◌, append_assoc}
 use Prim.Native.Nat.{ℕ, ◌+◌, ◌-◌, ◌*◌, ◌≤◌}
 use native.Mathlib.Nat.{sub_self}
 use native.Mathlib.Omega.{arith}
-use borrow.Author.Tests.{leb-true}
 use lib.Dec.{leb}
 use lib.ListN.{length, take, drop}
 use lib.Seq.{paste, drop-drop, length-take-le}
@@ -18,7 +17,6 @@ use Rattle.store.proofs.Levels.{levels_none}
 use Rattle.store.proofs.Stored.{none_samples, none_levels}
 use Rattle.feeder_run.specs.Run.{Takes}
 use Rattle.rules.specs.Ring.{written}
-use Rattle.rules.specs.Push.{room_for}
 use Rattle.rules.specs.Selection.{reply_of}
 use Rattle.feeder_lists.specs.Push.{storable, store_bytes}
 use Rattle.feeder.specs.declared.Feeder.{Feeder}
@@ -35,13 +33,6 @@ not_some false m e = refl
 is_some : (b : Bool) (m k : ℕ) → Some k ≡ cond b (Some m) None → (b ≡ true) × (m ≡ k)
 is_some true m k e = (refl, cc)
 is_some false m k e = absurd (let z : ◌≡◌ {A = ℕ} 0 1 = cc in omega arith)
-
--- what was taken is within the capacity
-pub takes_fits : {f : Feeder} {n : ℕ} {x s : List ℕ} {lv : ℕ → List ℕ} {s' : List ℕ} {lv' : ℕ → List ℕ} (t : Option ℕ) → Takes f n x s lv t s' lv' → f.capture.len ≤ f.capture.capacity → f.capture.len + unwrap_or t 0 ≤ f.capture.capacity
-takes_fits None d h = omega arith
-takes_fits {f} {n} (Some k) d h =
-    let t = is_some (leb (f.capture.len + room_for f.limit f.capture.len n) f.capture.capacity) (room_for f.limit f.capture.len n) k d.taken_is in
-    omega (arith, leb-true (f.capture.len + room_for f.limit f.capture.len n) f.capture.capacity t.0, t.1)
 
 -- ---- the bytes of k samples, in the other form
 paste_joined : (s : List ℕ) (at : ℕ) (x : List ℕ) (k : ℕ) → k ≤ length x → paste s at x k ≡ written s at (take k x)

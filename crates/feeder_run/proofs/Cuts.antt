@@ -1,5 +1,5 @@
 -- Laws of the run that goes to the store: how far there is room, and which bytes are its first ones.
-use mathlib.Core.Path.{◌≡◌, sym, ap, ap₂, ◌∙◌, subst}
+use mathlib.Core.Path.{◌≡◌, sym, ap, ap₂, ◌∙◌}
 use mathlib.Core.Logic.{◌⊎◌, inl, inr}
 use mathlib.Core.List.{List, ◌++◌, append-nil}
 use Prim.Native.Nat.{ℕ, ◌+◌, ◌-◌, ◌*◌, ◌≤◌, ◌<◌, min, max}
@@ -13,7 +13,6 @@ use Rattle.rules.specs.Ring.{kept_bytes}
 use Rattle.rules.specs.Push.{room_for}
 use Rattle.feeder.specs.declared.Feeder.{Feeder}
 use Rattle.feeder_run.specs.declared.Run.{Run}
-use Rattle.store.specs.Stored.{Stored}
 use Rattle.store.specs.Room.{StoreRoom, PartsRoom}
 use Rattle.feeder_run.specs.Run.{room_of, RunIs, bytes_of, WriteRoom}
 
@@ -168,6 +167,3 @@ module _ (u len : ℕ) (r : Run) (d s : ℕ) (lv : ℕ → List ℕ) (g b : List
 
   pub bytes_size : length (bytes_of u g b d r) ≡ r.count * u
   bytes_size = ap length (sym parts_are) ∙ length-append (x ++ y) z ∙ ap (λ (k : ℕ). k + length z) (length-append x y) ∙ parts_room.bytes
-
-  pub run_written : {m m' : List ℕ} {lw lv' : ℕ → List ℕ} → Stored u len r.count (x ++ y ++ z) m lw m' lv' → Stored u len r.count (bytes_of u g b d r) m lw m' lv'
-  run_written {m} {m'} {lw} {lv'} e = subst (λ (x : List ℕ). Stored u len r.count x m lw m' lv') parts_are e

@@ -72,9 +72,6 @@ module _ (m : Masks) (s : ℕ → ℕ) where
         whole x = omega arith
 
   -- ---- a block: whether one of the places a to i fires, and then i
-  pub any_none : (a : ℕ) → false ≡ ltb (fire_from m s (s (a - 1)) a a) a
-  any_none a = sym (le-ltb _ a (omega (arith, fire_end (s (a - 1)) a a (omega arith))))
-
   pub any_turn : (a i : ℕ) (any hit : Bool) → a ≤ i → any ≡ ltb (fire_from m s (s (a - 1)) a i) i → hit ≡ matches m (s (i - 1)) (s i) → (any || hit) ≡ ltb (fire_from m s (s (a - 1)) a (i + 1)) (i + 1)
   any_turn a i any hit h ea eh = ap₂ (λ (x y : Bool). x || y) ea eh ∙ go (dec_lt (fire_from m s (s (a - 1)) a i) i)
     where

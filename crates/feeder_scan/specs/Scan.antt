@@ -1,6 +1,5 @@
 -- What the scan's inner functions ask and promise.
-use Rattle.std.specs.Prelude.{Bool, ◌≡◌, List, ℕ, ◌+◌, ◌-◌, ◌/◌, eqb, length, Option, Some}
-use Rattle.std.specs.Borrow.{Bor}
+use Rattle.std.specs.Prelude.{Bool, ◌≡◌, List, ℕ, ◌+◌, ◌-◌, eqb, length, Option, Some}
 use Rattle.std.specs.Int.Bits.{bit_and, bit_or, bit_xor}
 use Rattle.rules.specs.Sample.{list_from, sample_of}
 use Rattle.rules.specs.Trigger as rule
@@ -16,12 +15,6 @@ samples_in s = units s.unitsize s.n s.bytes.now
 -- sample i of them, for any i
 abbrev pub sample_in : Samples → ℕ → ℕ
 sample_in s = sample_of s.unitsize s.bytes.now
-
--- all samples that the bytes hold
-pub record AllOf (bytes : Bor (List ℕ)) (unit : ℕ) (s : Samples) : Type 0 where
-  pub bytes_are : s.bytes ≡ bytes
-  pub unit_is : s.unitsize ≡ unit
-  pub count_is : s.n ≡ length bytes.now / unit
 
 -- Rising is High and Edge on one line, Falling is Low and Edge
 abbrev pub wanted_of : Masks → Wanted

@@ -13,21 +13,8 @@ pub struct Samples<'a> {
 }
 
 impl<'a> Samples<'a> {
-    ghost use Rattle.std.specs.Prelude.{◌≡◌, ◌/◌, ◌<◌};
-    ghost use Rattle.rules.specs.Sample.{UnitSize, sample_of};
-    ghost use Rattle.feeder_scan.specs.Scan.{AllOf};
-
-    // All that the bytes hold.
-    pub fn all(bytes: &'a [u8], unitsize: usize) -> Samples<'a>
-        requires { UnitSize unitsize }
-        ensures { AllOf bytes.entry unitsize result }
-    {
-        Samples {
-            bytes,
-            unitsize,
-            n: bytes.len() / unitsize,
-        }
-    }
+    ghost use Rattle.std.specs.Prelude.{◌≡◌, ◌<◌};
+    ghost use Rattle.rules.specs.Sample.{sample_of};
 
     // Sample i.
     #[inline]

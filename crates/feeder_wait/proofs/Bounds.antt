@@ -3,15 +3,14 @@ use mathlib.Core.Path.{◌≡◌, refl}
 use mathlib.Core.Bool.{false, ◌||◌}
 use mathlib.Core.List.{List}
 use Rattle.std.specs.Prelude.{None}
-use Prim.Native.Nat.{ℕ, ◌*◌, ◌≤◌, ◌<◌, ◌^◌}
-use native.Mathlib.Nat.{mul-le-mul}
+use Prim.Native.Nat.{ℕ, ◌*◌, ◌≤◌, ◌<◌}
 use native.Mathlib.Omega.{arith}
 use lib.Bits.{bit_or}
 use lib.Dec.{eqb, ltb}
 use borrow.Author.Tests.{ne_eqb, le-ltb}
 use Rattle.rules.specs.Refusal.{Store, Lent, most_samples, unit_wrong, store_wrong, lent_short}
 use Rattle.rules.proofs.Bits.{or_zero_left, or_zero_right}
-use Rattle.rules.proofs.Refusal.{neither, Ranged, ranged}
+use Rattle.rules.proofs.Refusal.{neither}
 use Rattle.capture.specs.Numbers.{unit_in, capacity_in, len_in, marked_in, mark_place_in}
 use Rattle.feeder.proofs.Rows.{store_passed}
 use Rattle.feeder_numbers.specs.Numbers.{limit_in, pre_in, waits_in, kept_in}
@@ -42,14 +41,6 @@ module _ (r : List ℕ) where
   module _ (unit : unit_wrong (unit_in r) ≡ false) (most : capacity_in r ≤ most_samples) (pre_most : pre_in r < capacity_in r) where
     right : store_wrong empty_of ≡ false
     right = not_wrong (unit_in r) (capacity_in r) unit (omega arith) most
-
-    in_range : Ranged empty_of
-    in_range = ranged empty_of right
-
-    pub slots_fit : pre_in r * unit_in r < 2 ^ 64
-    slots_fit =
-        let less : pre_in r ≤ 67108864 = omega arith in
-        omega (arith, mul-le-mul less in_range.unit_size.most)
 
     module _ (lent : Lent) (ring : ℕ) where
       pub waiting_is : waits_in r ≡ 1 → bit_or (bit_or (len_in r) (marked_in r)) (mark_place_in r) ≡ 0 → limit_in r ≤ capacity_in r → kept_in r ≤ pre_in r → lent_short empty_of lent ≡ false → pre_in r * unit_in r ≤ ring → Waiting r lent ring

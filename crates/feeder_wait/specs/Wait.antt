@@ -2,19 +2,19 @@
 use Rattle.std.specs.Prelude.{◌≡◌, Bool, true, false, List, [], ◌∷◌, ℕ, ◌+◌, ◌-◌, ◌*◌, ◌/◌, ◌≤◌, ◌<◌, min}
 use Rattle.std.specs.Prelude.{None}
 use Rattle.std.proofs.lemmas.List.Edits.{sets}
-use Rattle.rules.specs.Sample.{sample_of, samples_of, UnitSize}
+use Rattle.rules.specs.Sample.{samples_of}
 use Rattle.rules.specs.Trigger.{first_fire}
 use Rattle.rules.specs.Selection.{going_on}
 use Rattle.rules.specs.Refusal.{Lent, Recorder, most_samples}
 use Rattle.rules.proofs.Refusal.{Sound}
-use Rattle.feeder_lists.specs.Bytes.{units}
 use Rattle.rules.specs.Ring.{ring_bytes}
 use Rattle.rules.specs.Push.{waited_for}
-use Rattle.terms.specs.declared.Masks.{Masks}
-use Rattle.terms.specs.Terms.{as_masks, previous_of}
+use Rattle.terms.specs.Terms.{as_masks}
+use Rattle.feeder_scan.specs.Scan.{samples_in, sample_in}
+use Rattle.feeder_scan.specs.declared.samples.Samples.{Samples}
 use Rattle.feeder.specs.Record.{recorder_of}
 use Rattle.capture.specs.Numbers.{unit_in, capacity_in, len_in, marked_in, mark_place_in}
-use Rattle.feeder_numbers.specs.Numbers.{known_at, limit_in, pre_in, waits_in, high_lines_in, low_lines_in, rising_lines_in, falling_lines_in, edge_lines_in, known_in, previous_sample_in, ring_place_in, kept_in, masks_in, previous_in, feeder_from, pushed_numbers}
+use Rattle.feeder_numbers.specs.Numbers.{known_at, limit_in, pre_in, waits_in, known_in, previous_sample_in, ring_place_in, kept_in, lines_in, previous_in, feeder_from, pushed_numbers}
 use Rattle.rules.specs.Push.{left_of}
 
 -- the recorder waits, nothing is stored and there is no mark; rows 1 and 2 do not hold, but for the ring's place
@@ -29,13 +29,9 @@ pub record Waiting (numbers : List ℕ) (lent : Lent) (ring : ℕ) : Type 0 wher
   pub kept_most : kept_in numbers ≤ pre_in numbers
   pub slots : pre_in numbers * unit_in numbers ≤ ring
 
--- ---- n samples of a unit
-abbrev pub masks_of : List ℕ → Masks
-masks_of r = masks_in (high_lines_in r) (low_lines_in r) (rising_lines_in r) (falling_lines_in r) (edge_lines_in r)
-
--- the first of n samples that fires, n where none does
-abbrev pub fire_of : List ℕ → List ℕ → ℕ → ℕ → ℕ
-fire_of numbers bytes unit n = first_fire (as_masks (masks_of numbers)) (previous_of (previous_in (known_in numbers) (previous_sample_in numbers))) (units unit n bytes)
+-- the first of a push's samples that fires, their count where none does
+abbrev pub fire_of : List ℕ → Samples → ℕ
+fire_of numbers p = first_fire (as_masks (lines_in numbers)) (previous_in (known_in numbers) (previous_sample_in numbers)) (samples_in p)
 
 -- the samples in len bytes
 pub record Count (unit len n : ℕ) : Type 0 where
@@ -52,33 +48,31 @@ pub record CopyRoom (at k ring bytes : ℕ) : Type 0 where
   pub slots : at + k ≤ ring
   pub held : k ≤ bytes
 
--- there are some, in two to eight bytes, the bytes hold them, and they do not reach the ring's end
-pub record FewRoom (numbers : List ℕ) (ring bytes unit n : ℕ) : Type 0 where
-  pub unit_size : UnitSize unit
-  pub some_samples : 1 ≤ n
-  pub two_bytes : 2 ≤ n * unit
-  pub few_bytes : n * unit ≤ 8
-  pub samples : n * unit ≤ bytes
+-- there are some, in two to eight bytes, and they do not reach the ring's end
+pub record FewRoom (numbers : List ℕ) (ring : ℕ) (p : Samples) : Type 0 where
+  pub some_samples : 1 ≤ p.n
+  pub two_bytes : 2 ≤ p.n * p.unitsize
+  pub few_bytes : p.n * p.unitsize ≤ 8
   pub place_inside : ring_place_in numbers < pre_in numbers
   pub pre_most : pre_in numbers ≤ most_samples
-  pub ahead : n < pre_in numbers - ring_place_in numbers
+  pub ahead : p.n < pre_in numbers - ring_place_in numbers
   pub kept_most : kept_in numbers ≤ pre_in numbers
-  pub slots : pre_in numbers * unit ≤ ring
+  pub slots : pre_in numbers * p.unitsize ≤ ring
 
 -- none fires; they went to the ring, and previous sample, place and kept count are theirs
-pub record FewWent (numbers ring bytes : List ℕ) (unit n : ℕ) (numbers' ring' : List ℕ) : Type 0 where
-  pub none_fires : fire_of numbers bytes unit n ≡ n
-  pub numbers_are : numbers' ≡ sets numbers known_at (1 ∷ sample_of unit bytes (n - 1) ∷ (ring_place_in numbers + n) ∷ min (pre_in numbers) (kept_in numbers + n) ∷ [])
-  pub ring_is : ring' ≡ ring_bytes unit (pre_in numbers) ring (ring_place_in numbers) n bytes
+pub record FewWent (numbers ring : List ℕ) (p : Samples) (numbers' ring' : List ℕ) : Type 0 where
+  pub none_fires : fire_of numbers p ≡ p.n
+  pub numbers_are : numbers' ≡ sets numbers known_at (1 ∷ sample_in p (p.n - 1) ∷ (ring_place_in numbers + p.n) ∷ min (pre_in numbers) (kept_in numbers + p.n) ∷ [])
+  pub ring_is : ring' ≡ ring_bytes p.unitsize (pre_in numbers) ring (ring_place_in numbers) p.n p.bytes.now
 
 -- or nothing is written
 pub record Untouched (numbers ring numbers' ring' : List ℕ) : Type 0 where
   pub numbers_same : numbers' ≡ numbers
   pub ring_same : ring' ≡ ring
 
-abbrev pub FewAfter : Bool → List ℕ → List ℕ → List ℕ → ℕ → ℕ → List ℕ → List ℕ → Type 0
-FewAfter true numbers ring bytes unit n numbers' ring' = FewWent numbers ring bytes unit n numbers' ring'
-FewAfter false numbers ring bytes unit n numbers' ring' = Untouched numbers ring numbers' ring'
+abbrev pub FewAfter : Bool → List ℕ → List ℕ → Samples → List ℕ → List ℕ → Type 0
+FewAfter true numbers ring p numbers' ring' = FewWent numbers ring p numbers' ring'
+FewAfter false numbers ring p numbers' ring' = Untouched numbers ring numbers' ring'
 
 -- ---- a push
 -- the recorder once the samples of the bytes went to the ring

@@ -6,28 +6,21 @@ ghost use Rattle.std.proofs.lemmas.List.Edits.{sets};
 ghost use Rattle.std.proofs.Math.Seq.{paste};
 ghost use Rattle.rules.specs.Sample.{UnitSize};
 ghost use Rattle.node.specs.Memory.{level_of};
-ghost use Rattle.capture.specs.Record.{lent_of};
-ghost use Rattle.feeder_scan.specs.Scan.{Holds};
+ghost use Rattle.capture.specs.Record.{lent_of, lent_in};
 ghost use Rattle.feeder_wait.specs.Wait.{Waiting, fire_of, Count, CopyRoom, FewRoom, FewAfter, ShortAfter};
 
-use capture::{Capture, Mark, memory_short, record, unit_wrong};
+use capture::{Capture, record, unit_wrong};
 use feeder_numbers::{masks_in, previous_in, recorder};
+use feeder_scan::samples::Samples;
 use feeder_scan::{any_level, fire_few};
-use lines::{Mask, get};
-use number::{MOST_SAMPLES, lesser};
+use lines::Mask;
+use node::{Levels, Memory};
+use number::MOST_SAMPLES;
 
 // Whether it waits with nothing stored, as start and push leave its numbers, and neither row 1 nor row 2 holds.
 // The order is for speed: tests with no read between them are joined to a longer one, memory after more tests is a call, and numbers read early are kept in registers for the ordinary push.
-fn waits<'a>(
-    numbers: &[usize; 17],
-    samples: &[u8],
-    l1: &'a [Mask],
-    l2: &'a [Mask],
-    l3: &'a [Mask],
-    l4: &'a [Mask],
-    ring: usize,
-) -> bool
-    ensures { result ≡ true → Waiting numbers.now (lent_of samples.now (level_of l1.now l2.now l3.now l4.now)) ring }
+fn waits(numbers: &[usize; 17], memory: &Memory<'_>, ring: usize) -> bool
+    ensures { result ≡ true → Waiting numbers.now (lent_in memory.now) ring }
 {
     if numbers[recorder::WAITS] != 1 {
         return false;
@@ -44,42 +37,27 @@ fn waits<'a>(
         unitsize,
         capacity,
         len: 0,
-        trigger: Mark::Absent,
+        trigger: None,
     };
-    if memory_short(capture, samples, l1, l2, l3, l4) {
-        return false;
-    }
-    if capacity < numbers[recorder::LIMIT] {
+    if capture.is_short(memory) || capacity < numbers[recorder::LIMIT] {
         return false;
     }
     let pre = numbers[recorder::PRE];
-    if capacity <= pre {
-        return false;
-    }
-    if pre < numbers[recorder::KEPT] {
-        return false;
-    }
-    if ring < pre * unitsize {
+    if capacity <= pre || pre < numbers[recorder::KEPT] || ring < pre * unitsize {
         return false;
     }
     numbers[record::LEN] | numbers[record::MARKED] | numbers[record::MARK] == 0
 }
 
-// Whether one of n samples fires. Levels come first: most often none has them, and then neither the previous sample nor a pair is looked at.
-fn fires(numbers: &[usize; 17], bytes: &[u8], unitsize: usize, n: usize) -> bool
-    requires { Holds unitsize n (length bytes.now) × (1 ≤ n) }
-    ensures { result ≡ ltb (fire_of numbers.now bytes.now unitsize n) n }
+// Whether one of the samples fires. Levels come first: most often none has them, and then neither the previous sample nor a pair is looked at.
+fn fires(numbers: &[usize; 17], pushed: &Samples<'_>) -> bool
+    requires { 1 ≤ pushed.now.n }
+    ensures { result ≡ ltb (fire_of numbers.now pushed.now) pushed.now.n }
 {
-    let masks = masks_in(
-        numbers[recorder::HIGH_LINES],
-        numbers[recorder::LOW_LINES],
-        numbers[recorder::RISING_LINES],
-        numbers[recorder::FALLING_LINES],
-        numbers[recorder::EDGE_LINES],
-    );
-    if any_level(masks, bytes, unitsize, n) {
+    let masks = masks_in(numbers);
+    if any_level(masks, pushed) {
         let prev = previous_in(numbers[recorder::KNOWN], numbers[recorder::PREVIOUS]);
-        return fire_few(masks, prev, bytes, unitsize, n) < n;
+        return fire_few(masks, prev, pushed) < pushed.n;
     }
     false
 }
@@ -137,29 +115,24 @@ fn copy_few(ring: &mut [u8], at: usize, bytes: &[u8], k: usize)
     put_four(ring, at + end, w, x, y, z);
 }
 
-// n samples, fewer than there are slots up to the ring's end: true once they went there; false, and nothing is written, where one fires.
-fn wait_few(
-    numbers: &mut [usize; 17],
-    ring: &mut [u8],
-    bytes: &[u8],
-    unitsize: usize,
-    n: usize,
-) -> bool
-    requires { FewRoom numbers.old (length ring.old) (length bytes.now) unitsize n }
-    ensures { FewAfter result numbers.old ring.old bytes.now unitsize n numbers.new ring.new }
+// Samples, fewer than there are slots up to the ring's end: true once they went there; false, and nothing is written, where one fires.
+fn wait_few(numbers: &mut [usize; 17], ring: &mut [u8], pushed: &Samples<'_>) -> bool
+    requires { FewRoom numbers.old (length ring.old) pushed.now }
+    ensures { FewAfter result numbers.old ring.old pushed.now numbers.new ring.new }
 {
-    if fires(&*numbers, bytes, unitsize, n) {
+    if fires(&*numbers, pushed) {
         return false;
     }
+    let Samples { bytes, unitsize, n } = *pushed;
     let pre = numbers[recorder::PRE];
     let place = numbers[recorder::RING_PLACE];
     let kept = numbers[recorder::KEPT];
-    let last = get(bytes, unitsize, n - 1);
+    let last = pushed.at(n - 1);
     copy_few(ring, place * unitsize, bytes, n * unitsize);
     numbers[recorder::KNOWN] = 1;
-    numbers[recorder::PREVIOUS] = last as usize;
+    numbers[recorder::PREVIOUS] = usize::from(last);
     numbers[recorder::RING_PLACE] = place + n;
-    numbers[recorder::KEPT] = kept + lesser(n, pre - kept);
+    numbers[recorder::KEPT] = kept + n.min(pre - kept);
     true
 }
 
@@ -177,7 +150,7 @@ const SHORT: usize = 8;
 // A push of these bytes, where it is short and its samples go to the ring: true, and what it leaves; else false, and nothing is written.
 pub fn wait_short<'a>(
     numbers: &mut [usize; 17],
-    samples: &[u8],
+    samples: &'a [u8],
     l1: &'a [Mask],
     l2: &'a [Mask],
     l3: &'a [Mask],
@@ -187,26 +160,24 @@ pub fn wait_short<'a>(
 ) -> bool
     ensures { ShortAfter result numbers.old (lent_of samples.now (level_of l1.now l2.now l3.now l4.now)) ring.old bytes.now numbers.new ring.new }
 {
-    let waiting = waits(&*numbers, samples, l1, l2, l3, l4, ring.len());
-    if !waiting {
+    let memory = Memory {
+        samples,
+        levels: Levels { l1, l2, l3, l4 },
+    };
+    if !waits(&*numbers, &memory, ring.len()) {
         return false;
     }
     let pre = numbers[recorder::PRE];
     let place = numbers[recorder::RING_PLACE];
-    if pre <= place {
-        return false;
-    }
     let len = bytes.len();
-    if SHORT <= len {
-        return false;
-    }
-    if len < 2 {
-        return false;
-    }
-    if pre - place <= len {
+    if pre <= place || SHORT <= len || len < 2 || pre - place <= len {
         return false;
     }
     let unitsize = numbers[record::UNIT];
-    let n = count_in(unitsize, len);
-    wait_few(numbers, ring, bytes, unitsize, n)
+    let pushed = Samples {
+        bytes,
+        unitsize,
+        n: count_in(unitsize, len),
+    };
+    wait_few(numbers, ring, &pushed)
 }
