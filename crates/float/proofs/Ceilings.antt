@@ -1,8 +1,8 @@
 -- What comparisons say of a negative number's floor, which is its size rounded up, and of that ceiling. Assumes nothing.
-use mathlib.Core.Path.{◌≡◌, refl, sym, ap, ◌∙◌, subst}
+use mathlib.Core.Path.{◌≡◌, refl, sym, ap, ◌∙◌}
 use mathlib.Core.Logic.{inl, inr}
 use mathlib.Core.Bool.{Bool, true, false, cond, not, ◌&&◌}
-use Prim.Native.Nat.{ℕ, zero, suc, ◌+◌, ◌-◌, ◌*◌, ◌/◌, ◌^◌, ◌≤◌, ◌<◌}
+use Prim.Native.Nat.{ℕ, zero, suc, ◌+◌, ◌-◌, ◌*◌, ◌/◌, ◌≤◌, ◌<◌}
 use native.Mathlib.Nat.{le_antisymm, le_trans, le_of_eq, lt_irrefl, lt_of_not-le, lt_of_le_of_lt, not-suc-le-zero, eq-zero-or-pos, zero-lt-suc, mul-one, mul-lt-mul_of_pos_right, div-mul-le_self, lt-div-mul-add, div-lt_iff_lt-mul, le-div_iff_mul-le}
 use native.Mathlib.Omega.{arith}
 use lib.Dec.{T, eqb, T_not, lt→ltb}
@@ -16,11 +16,17 @@ use lib.Ieee.Positive.{num, den, positive, den_pos, own_value, positive-finite, 
 use borrow.Author.Tests.{lt-ltb, le-ltb}
 use Rattle.rules.specs.Floor.{Whole, at, floor_of}
 use Rattle.rules.specs.Pixel.{moved}
-use Rattle.rules.specs.Pretrigger.{nought, one}
+use Rattle.rules.specs.Pretrigger.{nought}
 use Rattle.float.specs.Places.{place_of}
 use Rattle.float.specs.Sizes.{Under, ceil_of}
+use Rattle.float.proofs.Floors.{above_finite}
 use Rattle.float.specs.declared.Place.TheVariants.{Below, At, Beyond}
-use Rattle.float.proofs.Floors.{above_finite, less}
+
+pub nought_le : (y : Float) → T (positive y) → T (le nought y)
+nought_le y p = le_of_values nought y 0 1 (num y) (den y) (zero-lt-suc 0) (den_pos y) (refl, refl) (own_value y p) (least (num y) (den y))
+  where
+    least : (n d : ℕ) → 0 * d ≤ n * 1
+    least n d = omega arith
 
 -- ---- z is k: y, above 0, compared with it
 of_value : (z : Float) (k : ℕ) → HasValue z false k 1 → T (finite z)
@@ -51,24 +57,14 @@ rounded_up n d k D low high =
 num_pos : (y : Float) → T (positive y) → 0 < num y
 num_pos y p = value_pos y (num y) (den y) p (den_pos y) (own_value y p)
 
--- below 1, and above 0
-pub ceil_one : (y : Float) → T (positive y) → T (not (le one y)) → ceil_of y ≡ 1
-ceil_one nan p l = absurd p
-ceil_one (inf s) p l = absurd p
-ceil_one (fin true m e) p l = absurd p
-ceil_one (fin false m e) p l = go (m * up e) (down e) (num_pos (fin false m e) p) (less m e 1 one (zero-lt-suc 0) (refl, refl) l)
-  where
-    go : (n d : ℕ) → 0 < n → n * 1 < 1 * d → (n + (d - 1)) / d ≡ 1
-    go n d N l = rounded_up n d 1 (omega arith) (omega arith) (omega arith)
-
 module _ (y : Float) (p : T (positive y)) where
   -- q is the floor of y, and z is q: nothing is left above it, or something is
-  module _ (q : ℕ) (e : q ≡ num y * 2 ^ 0 / den y) (z : Float) (v : HasValue z false q 1) where
+  module _ (q : ℕ) (e : q ≡ num y / den y) (z : Float) (v : HasValue z false q 1) where
     floor_low : q * den y ≤ num y
-    floor_low = rw e (le_trans (div-mul-le_self (num y * 2 ^ 0) (den y)) (le_of_eq (mul-one (num y))))
+    floor_low = rw e (div-mul-le_self (num y) (den y))
 
     floor_high : num y < q * den y + den y
-    floor_high = rw e (subst (λ (n : ℕ). n < num y * 2 ^ 0 / den y * den y + den y) (mul-one (num y)) (lt-div-mul-add {a = num y * 2 ^ 0} (den_pos y)))
+    floor_high = rw e (lt-div-mul-add {a = num y} (den_pos y))
 
     pub ceil_whole : T (le y z) → ceil_of y ≡ q
     ceil_whole l = rounded_up (num y) (den y) q (den_pos y) (upto y z q v p l) (within (q * den y) (num y) (den y) floor_low (den_pos y))
