@@ -1,71 +1,47 @@
 // The lines that write, read, salvage and ask about files. All files stand at the start of one memory.
 #![tactic(auto)]
 
-use capture::{Capture, Mark, Started};
+use answer::Refusal;
+use capture::Capture;
 use feeder::Feeder;
 use lines::Mask;
-use number::lesser;
+use memory::lent;
+use node::Memory;
 use replay_start::{Change, leaves, plain};
-use replay_text::answers::{Answer, given, one, refused};
+use replay_text::answers::{Answer, given, one, refused, told};
 use replay_text::digests::{digest_of_bytes, digest_of_numbers};
 use replay_text::numbers::byte_of;
 use replay_text::operations::Operation;
-use shelf_head::{FileLength, Says};
-use shelf_salvage::{SalvageResult, Salvaged};
+use shelf_salvage::Salvaged;
 
 // ---- what a call answered
 
-fn length(r: FileLength) -> Answer {
-    match r {
-        FileLength::Refused(n) => refused(n),
-        FileLength::Bytes(n) => one(n),
-    }
-}
-
 // The length of the file that was written, and its digest.
-fn written(r: FileLength, file: &[u8]) -> Answer {
-    match r {
-        FileLength::Refused(n) => refused(n),
-        FileLength::Bytes(n) => {
-            let e = lesser(n, file.len());
-            given(2, [n, digest_of_bytes(&file[0..e]), 0, 0, 0])
-        }
+fn written(outcome: Result<usize, Refusal>, file: &[u8]) -> Answer {
+    match outcome {
+        Ok(n) => given(2, [n, digest_of_bytes(&file[..n.min(file.len())]), 0, 0, 0]),
+        Err(refusal) => refused(refusal.number()),
     }
 }
 
 // Unit, len, and the mark.
-fn filed(unitsize: usize, len: usize, mark: Mark) -> Answer {
-    match mark {
-        Mark::Absent => given(4, [unitsize, len, 0, 0, 0]),
-        Mark::At(k) => given(4, [unitsize, len, 1, k, 0]),
-    }
-}
-
-fn said(r: Says) -> Answer {
-    match r {
-        Says::Refused(n) => refused(n),
-        Says::Capture(h) => {
-            let mark = h.trigger;
-            filed(h.unitsize, h.len, mark)
-        }
-    }
+fn filed(unitsize: usize, len: usize, mark: Option<usize>) -> Answer {
+    let marked = usize::from(mark.is_some());
+    given(4, [unitsize, len, marked, mark.unwrap_or(0), 0])
 }
 
 // What was read is a store alone.
-fn stored(f: Feeder, r: Started, next: usize) -> Change {
-    match r {
-        Started::Refused(n) => leaves(f, refused(n), next),
-        Started::Store(new) => {
-            let mark = new.trigger;
-            leaves(plain(new), filed(new.unitsize, new.len, mark), next)
-        }
+fn stored(f: Feeder, outcome: Result<Capture, Refusal>, next: usize) -> Change {
+    match outcome {
+        Ok(new) => leaves(plain(new), filed(new.unitsize, new.len, new.trigger), next),
+        Err(refusal) => leaves(f, refused(refusal.number()), next),
     }
 }
 
 // Unit and len, the stretches, the samples replaced, and the digest of the list.
 fn reported(s: Salvaged, list: &[usize]) -> Answer {
     let new = s.store;
-    let e = 2 * lesser(s.stretches, list.len() / 2);
+    let end = 2 * s.stretches.min(list.len() / 2);
     given(
         5,
         [
@@ -73,19 +49,16 @@ fn reported(s: Salvaged, list: &[usize]) -> Answer {
             new.len,
             s.stretches,
             s.replaced,
-            digest_of_numbers(&list[0..e]),
+            digest_of_numbers(&list[..end]),
         ],
     )
 }
 
 // What was salvaged is a store alone.
-fn salvaged(f: Feeder, r: SalvageResult, list: &[usize], next: usize) -> Change {
-    match r {
-        SalvageResult::Refused(n) => leaves(f, refused(n), next),
-        SalvageResult::Salvaged(s) => {
-            let new = s.store;
-            leaves(plain(new), reported(s, list), next)
-        }
+fn salvaged(f: Feeder, outcome: Result<Salvaged, Refusal>, list: &[usize], next: usize) -> Change {
+    match outcome {
+        Ok(s) => leaves(plain(s.store), reported(s, list), next),
+        Err(refusal) => leaves(f, refused(refusal.number()), next),
     }
 }
 
@@ -93,36 +66,28 @@ fn salvaged(f: Feeder, r: SalvageResult, list: &[usize], next: usize) -> Change 
 
 // 5, put in a file.
 fn put(file: &mut [u8], at: usize, byte: u8) {
-    if at < file.len() {
-        file[at] = byte;
+    if let Some(slot) = file.get_mut(at) {
+        *slot = byte;
     }
 }
 
 // A line that leaves the record and its memory as they are.
-fn same_store<'a>(
-    o: Operation,
-    c: Capture,
-    samples: &[u8],
-    l1: &'a [Mask],
-    l2: &'a [Mask],
-    l3: &'a [Mask],
-    l4: &'a [Mask],
-    file: &mut [u8],
-) -> Answer {
+fn same_store(o: Operation, c: Capture, memory: Memory<'_>, file: &mut [u8]) -> Answer {
     let a = o.arguments;
-    let code = o.code;
-    let e = lesser(a[0], file.len());
-    match code {
+    let end = a[0].min(file.len());
+    match o.code {
         5 => {
             put(file, a[0], byte_of(a[1]));
             refused(0)
         }
         60 => {
-            let r = shelf_write::write(c, samples, l1, l2, l3, l4, &mut file[0..e]);
-            written(r, file)
+            let outcome = shelf_write::write(c, memory, &mut file[..end]);
+            written(outcome, file)
         }
-        62 => said(shelf_head::file_says(&file[0..e])),
-        _ => length(shelf_head::file_len(c)),
+        62 => told(shelf_head::file_says(&file[..end]), |h| {
+            filed(h.unitsize, h.len, h.trigger)
+        }),
+        _ => told(shelf_head::file_len(c), |n| one(n)),
     }
 }
 
@@ -136,21 +101,28 @@ fn salvage(
     l3: &mut [Mask],
     l4: &mut [Mask],
     file: &[u8],
-    list: &mut [usize],
 ) -> Change {
+    // The list has room for more stretches than file memory has.
+    let mut list: [usize; 256] = [0; 256];
     let a = o.arguments;
-    let e = lesser(a[1], file.len());
-    let n = lesser(a[2], list.len());
-    let r = shelf_salvage::salvage(a[0], &file[0..e], samples, l1, l2, l3, l4, &mut list[0..n]);
-    salvaged(f, r, &list[..], o.next)
+    let end = a[1].min(file.len());
+    let n = a[2].min(list.len());
+    let outcome = shelf_salvage::salvage(
+        a[0],
+        &file[..end],
+        samples,
+        l1,
+        l2,
+        l3,
+        l4,
+        &mut list[..n],
+    );
+    salvaged(f, outcome, &list, o.next)
 }
 
 // A code whose line is about files.
 pub fn about_files(code: usize) -> bool {
-    match code {
-        5 | 60..=64 => true,
-        _ => false,
-    }
+    matches!(code, 5 | 60..=64)
 }
 
 // Such a line.
@@ -165,17 +137,16 @@ pub fn file_line(
     file: &mut [u8],
 ) -> Change {
     let a = o.arguments;
-    if o.code == 61 {
-        let e = lesser(a[1], file.len());
-        let r = shelf_read::read(a[0], &file[0..e], samples, l1, l2, l3, l4);
-        return stored(f, r, o.next);
+    match o.code {
+        61 => {
+            let end = a[1].min(file.len());
+            let outcome = shelf_read::read(a[0], &file[..end], samples, l1, l2, l3, l4);
+            stored(f, outcome, o.next)
+        }
+        64 => salvage(o, f, samples, l1, l2, l3, l4, &file[..]),
+        _ => {
+            let memory = lent(&samples[..], &l1[..], &l2[..], &l3[..], &l4[..]);
+            leaves(f, same_store(o, f.capture, memory, file), o.next)
+        }
     }
-    if o.code == 64 {
-        // The list has room for more stretches than file memory has.
-        let mut list: [usize; 256] = [0; 256];
-        return salvage(o, f, samples, l1, l2, l3, l4, &file[..], &mut list[..]);
-    }
-    let c = f.capture;
-    let answer = same_store(o, c, &samples[..], &l1[..], &l2[..], &l3[..], &l4[..], file);
-    leaves(f, answer, o.next)
 }
