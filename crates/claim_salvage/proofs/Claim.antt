@@ -1,20 +1,23 @@
 -- The claim over the calls' contracts.
-use mathlib.Core.Path.{◌≡◌, refl, sym, ap, ◌∙◌}
+use mathlib.Core.Path.{refl, sym, ◌∙◌}
+use mathlib.Core.Bool.{not, ◌||◌}
 use mathlib.Core.List.{List, []}
-use Prim.Native.Nat.{ℕ, zero, suc}
+use Prim.Native.Nat.{ℕ}
+use lib.Dec.{ltb}
 use lib.ListN.{length}
-use Rattle.rules.specs.Answer.{Answer, given, unless}
-use Rattle.rules.specs.Refusal.{Store}
-use Rattle.rules.specs.Shelf.{heading_in}
+use Rattle.rules.specs.Answer.{Answer}
+use Rattle.rules.specs.Shelf.{heading_in, head_test}
+use Rattle.rules.specs.ShelfCalls.{capacity_wrong, store_short}
 use Rattle.rules.specs.Salvage as rule
-use Rattle.shelf_salvage.specs.declared.SalvageResult.{SalvageResult}
-use Rattle.shelf_salvage.specs.declared.SalvageResult.TheVariants as salvage
-use Rattle.shelf_salvage.specs.Salvage.{salvage_of}
+use Rattle.answer.specs.declared.Refusal.TheVariants.{Head}
+use Rattle.claim_alike.proofs.Rows.{result_for}
+use Rattle.shelf_salvage.specs.declared.Salvaged as call
+use Rattle.shelf_salvage.specs.Salvage.{salvaged_as, salvage_of}
 use Rattle.claim_captures.specs.Words.{Memory}
 use Rattle.claim_captures.proofs.Answers.{anywhere, somewhere}
 use Rattle.claim_shelf.proofs.Written.{lent_in}
 use Rattle.claim_shelf.proofs.NewStore.{filled_with, filled_is}
-use Rattle.claim_shelf.proofs.Claim.{store_for, wrote, was_read}
+use Rattle.claim_shelf.proofs.Claim.{record_for, file_told, wrote, was_read}
 use Rattle.claim_salvage.specs.Claim.{Salvage, FilesSalvaged}
 use Rattle.claim_salvage.proofs.Salvaged.{WasSalvaged}
 use Rattle.claim_salvage.proofs.Files.{salvages}
@@ -23,9 +26,9 @@ was_salvaged : (capacity : ℕ) (file : List ℕ) (m : Memory) (list : List ℕ)
 was_salvaged capacity file m list answer m' list' (v, (κs, p, f, l, promised), v-is) = record { answer_is = sym v-is ∙ promised.answer_is; memory = promised.memory; list_is = promised.list_is }
 
 -- ---- there is always an answer
-salvaged_for : (n : ℕ) (s : rule.Salvaged) → (v : SalvageResult) × (salvage_of v ≡ unless n s)
-salvaged_for zero s = let c = store_for s.store in (salvage.Salvaged (record { store = c.0; stretches = s.stretches; replaced = s.replaced }), ap (λ (x : Store). given (record { store = x; stretches = s.stretches; replaced = s.replaced })) c.1)
-salvaged_for (suc n) s = (salvage.Refused (suc n), refl)
+-- the code's record of what was salvaged
+abbrev salvaged_for : rule.Salvaged → call.Salvaged
+salvaged_for s = record { store = record_for s.store; stretches = s.stretches; replaced = s.replaced }
 
 -- the memory that a salvaging leaves
 module _ (capacity : ℕ) (file : List ℕ) (m : Memory) (list : List ℕ) where
@@ -34,7 +37,9 @@ module _ (capacity : ℕ) (file : List ℕ) (m : Memory) (list : List ℕ) where
 
   may_salvage : (answer : Answer rule.Salvaged) × (m' : Memory) × (list' : List ℕ) × Salvage capacity file m list answer m' list'
   may_salvage =
-      let v = salvaged_for (rule.salvage_refusal capacity (lent_in m) (length list) file) (rule.salvaged_of capacity file) in (
+      let v =
+      result_for salvaged_as (rule.salvage_refusal capacity (lent_in m) (length list) file) (salvaged_for (rule.salvaged_of capacity file)) (rule.salvaged_of capacity file) refl
+      (file_told 17 (Head, refl) (capacity_wrong capacity) (not (head_test file)) (store_short capacity (lent_in m) (heading_in file) || ltb (length list) (rule.list_need file))) in (
         salvage_of v.0,
         salvage_leaves,
         rule.salvage_list capacity (lent_in m) list file,

@@ -146,7 +146,7 @@ module _ {capacity : ℕ} {file : List ℕ} {m : Memory} {list : List ℕ} {s : 
 
   told_is : told_in all list' ≡ rule.stretches_of file
   told_is =
-      ap pairs_in (listed file m.samples (levels m) list {found = record { stretches = length (rule.stretches_of file); replaced = rule.replaced_in file }} (let_in_both.1, refl, refl, list_written) refl).list_is
+      ap pairs_in (listed file list {found = record { stretches = length (rule.stretches_of file); replaced = rule.replaced_in file }} list' (let_in_both.1, refl, refl, list_written))
       ∙ pairs_back (rule.stretches_of file)
 
   -- a sample of the store, by the file's salvaged bytes
