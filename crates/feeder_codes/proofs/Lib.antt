@@ -1,4 +1,3 @@
-mod Pushed
 pub mod Narrow
 pub mod Leaves
 pub mod ReadBack

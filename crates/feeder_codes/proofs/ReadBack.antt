@@ -3,6 +3,7 @@ use mathlib.Core.Path.{◌≡◌, refl, sym}
 use mathlib.Core.Bool.{Bool, true, false, cond}
 use mathlib.Core.List.{List}
 use Prim.Native.Nat.{ℕ, ◌<◌}
+use Rattle.std.specs.Prelude.{None, Some}
 use native.Mathlib.Nat.{mod-lt}
 use native.Mathlib.Omega.{arith}
 use lib.Dec.{eqb}
@@ -15,8 +16,6 @@ use Rattle.rules.specs.Refusal.{Lent, Recorder, start_refusal}
 use Rattle.rules.proofs.Start.{start_passed}
 use Rattle.rules.specs.Start.{begun}
 use Rattle.capture.specs.Numbers.{unit_at, capacity_at, len_at, marked_at, mark_at}
-use Rattle.terms.specs.Terms.{previous_of}
-use Rattle.terms.specs.declared.Previous.TheVariants.{Nothing, Sample}
 use Rattle.feeder.specs.Record.{recorder_of}
 use Rattle.feeder_numbers.specs.Numbers.{known_in, previous_sample_in, mask_in, feeder_from, recorder_numbers}
 use Rattle.feeder_numbers.proofs.ReadBack.{Follows, recorder_back, pushed_back}
@@ -46,7 +45,7 @@ module _ (numbers : List ℕ) where
   pub held_narrow : NarrowSample held.previous
   held_narrow = go (eqb (known_in numbers) 0)
     where
-      go : (b : Bool) → NarrowSample (previous_of (cond b Nothing (Sample (mask_in (previous_sample_in numbers)))))
+      go : (b : Bool) → NarrowSample (cond b None (Some (mask_in (previous_sample_in numbers))))
       go true v e = let z : ◌≡◌ {A = ℕ} 0 1 = cc in absurd (omega arith)
       go false v e = some_narrow (mask_in (previous_sample_in numbers)) (mod-lt (previous_sample_in numbers) (omega arith)) v e
 
