@@ -96,7 +96,7 @@ fn cut_at(pos: usize, b: usize) -> usize
     ((pos / CHUNK + 1) * CHUNK).min(b)
 }
 
-// The node of [a, b) by the levels, chunk by chunk.
+// The node of [a, b) by the levels, chunk by chunk. It has a loop of its own: one over parts of any kind would take them as a closure, and its contract their nodes and ends.
 fn by_levels(stored: &Stored<'_>, a: usize, b: usize, counted: bool) -> Node
     requires { (a < b) × (b ≤ stored.now.len) }
     ensures { Told counted (as_node result) (by_levels (levels_of stored.now.memory.levels) (sample_in stored.now) a b) }
