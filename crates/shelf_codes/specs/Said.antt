@@ -1,8 +1,8 @@
 -- What block 0 says, as numbers behind a pointer. 02: CR 7.
-use Rattle.std.specs.Prelude.{cond, List, ◌∷◌, ℕ, eqb, get_or}
-use Rattle.std.specs.Prelude.{None, Some}
+use Rattle.std.specs.Prelude.{List, ◌∷◌, ℕ, get_or}
 use Rattle.std.proofs.lemmas.List.Edits.{sets}
 use Rattle.rules.specs.Shelf.{Heading}
+use Rattle.capture.specs.Record.{mark_in}
 use Rattle.codes.specs.Record.{mark_numbers}
 
 -- unit, len, whether there is a mark, and the mark
@@ -11,4 +11,4 @@ said_numbers h old = sets old 0 (h.unit ∷ h.len ∷ mark_numbers h.mark)
 
 -- what stands behind the pointer, read
 abbrev pub said_in : List ℕ → Heading
-said_in said = record { unit = get_or said 0 0; mark = cond (eqb (get_or said 2 0) 0) None (Some (get_or said 3 0)); len = get_or said 1 0 }
+said_in said = record { unit = get_or said 0 0; mark = mark_in (get_or said 2 0) (get_or said 3 0); len = get_or said 1 0 }

@@ -13,7 +13,7 @@ use Rattle.rules.specs.Shelf.{Heading, heading_of, heading_in, head_test}
 use Rattle.rules.specs.ShelfCalls.{capacity_wrong, store_in, store_short, written_to}
 use Rattle.rules.specs.Stretches.{pairs_of}
 use Rattle.rules.specs.Salvage as rule
-use Rattle.rules.proofs.Refusal.{neither}
+use Rattle.rules.proofs.Refusal.{neither, row_passed}
 use Rattle.rules.proofs.ShelfHead.{heading_headed}
 use Rattle.rules.proofs.Stretches.{pairs_length}
 use Rattle.store.specs.Room.{StoreRoom}
@@ -22,7 +22,6 @@ use Rattle.capture.specs.declared.Capture.{Capture}
 use Rattle.capture.specs.Record.{store_of, lent_of}
 use Rattle.capture.proofs.Answer.{unless_given}
 use Rattle.capture.proofs.Calls.{unrefused_none}
-use Rattle.rules.proofs.Refusal.{row_passed}
 use Rattle.rules.specs.Answer.{refused, given, unless}
 use Rattle.std.specs.Prelude.{Err, Some}
 use Rattle.answer.specs.declared.Refusal.{Refusal}

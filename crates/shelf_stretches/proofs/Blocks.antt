@@ -22,7 +22,8 @@ use Rattle.shelf_head.specs.declared.Heading.{Heading}
 use Rattle.shelf_head.specs.Head.{heading_as}
 use Rattle.shelf_stretches.specs.declared.Run.{Run}
 use Rattle.std.specs.Prelude.{Some}
-use Rattle.shelf_stretches.specs.Told.{StretchRoom, told_to, closed, closed_list, stepped, stepped_list, Measured, Tallied, Surveys}
+use Rattle.shelf_stretches.specs.Measured.{Measured}
+use Rattle.shelf_stretches.specs.Told.{StretchRoom, told_to, closed, closed_list, stepped, stepped_list, Tallied, Surveys}
 use Rattle.shelf_stretches.proofs.Told.{told_length}
 use Rattle.shelf_stretches.proofs.Surveying.{Survey, fresh, survey_starts, closed_none, closed_one, known_on, unknown_on, survey_ends}
 

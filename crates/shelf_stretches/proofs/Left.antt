@@ -17,7 +17,8 @@ use Rattle.rules.proofs.ShelfHead.{heading_headed}
 use Rattle.rules.proofs.Stretches.{joined_twice, all_known, all_unknown}
 use Rattle.shelf_stretches.specs.declared.Found.{Found}
 use Rattle.shelf_stretches.specs.declared.Run.{Run}
-use Rattle.shelf_stretches.specs.Told.{most_numbers, Measured, Tallied}
+use Rattle.shelf_stretches.specs.Measured.{Measured}
+use Rattle.shelf_stretches.specs.Told.{most_numbers, Tallied}
 use Rattle.shelf_stretches.proofs.Surveying.{opened}
 use Rattle.shelf_stretches.proofs.Blocks.{per_block, many, begins, begins_is, next_is, per_some, places_known, ends_at, Loop, blocks_file}
 

@@ -1,15 +1,10 @@
 -- Stretches told to a lent list, as far as it reaches, and what is found of a file. 02: CR 8.
-use Rattle.std.specs.Prelude.{◌≡◌, Bool, true, false, cond, List, [], ◌∷◌, ℕ, ◌+◌, ◌-◌, ◌*◌, ◌/◌, ◌^◌, ◌≤◌, ◌<◌, min, ltb, eqb, length, set}
-use Rattle.rules.specs.Sample.{UnitSize}
-use Rattle.rules.specs.Refusal.{most_samples}
-use Rattle.rules.specs.Block.{payload_most}
-use Rattle.rules.specs.Shelf.{bytes_for, heading_in}
+use Rattle.std.specs.Prelude.{◌≡◌, Bool, true, false, cond, List, [], ◌∷◌, ℕ, ◌+◌, ◌-◌, ◌*◌, ◌/◌, ◌^◌, ◌≤◌, ◌<◌, min, ltb, eqb, length, set, Option, None, Some}
 use Rattle.rules.specs.ShelfCalls.{written_to}
 use Rattle.rules.specs.Stretches.{Stretch, pairs_of}
 use Rattle.rules.specs.Salvage.{stretches_of, replaced_in, list_need}
 use Rattle.shelf_stretches.specs.declared.Found.{Found}
 use Rattle.shelf_stretches.specs.declared.Run.{Run}
-use Rattle.std.specs.Prelude.{Option, None, Some}
 
 -- pair number `at` of the list, where there is room for it
 abbrev pub with_pair : ℕ → ℕ → ℕ → List ℕ → List ℕ
@@ -42,14 +37,6 @@ stepped run known many = cond known (closed run) (record { stretches = run.stret
 
 abbrev pub stepped_list : Run → ℕ → Bool → List ℕ → List ℕ
 stepped_list run place known l = cond known (closed_list run place l) l
-
--- what block 0 says of the samples: their bytes, their count, and how many a block holds
-pub record Measured (file : List ℕ) (n len per : ℕ) : Type 0 where
-  pub unit_size : UnitSize (heading_in file).unit
-  pub bytes : n ≡ bytes_for (heading_in file)
-  pub samples : len ≡ (heading_in file).len
-  pub in_a_block : per ≡ payload_most / (heading_in file).unit
-  pub few : len ≤ most_samples
 
 -- how many numbers the stretches take at the most, where so many blocks are left
 abbrev pub most_numbers : Run → ℕ → ℕ

@@ -1,29 +1,20 @@
 // The unknown stretches of a file with bad blocks, told to a lent list. 02: CR 8.
 #![tactic(auto)]
 
-ghost use Rattle.std.specs.Prelude.{◌≡◌, true, ◌+◌, ◌^◌, ◌≤◌, ◌<◌, length};
-ghost use Rattle.rules.specs.Shelf.{blocks_for, head_test};
-ghost use Rattle.rules.specs.Salvage.{block_in, good_in, list_need};
-ghost use Rattle.shelf_stretches.specs.Told.{with_pair, StretchRoom, closed, closed_list, stepped, stepped_list, most_numbers, Measured, Tallied, Surveys, Finds};
+mod file_blocks;
 
-use shelf_block::{BLOCK, PAYLOAD, good};
-use shelf_head::{blocks_for, heading_in};
+ghost use Rattle.std.specs.Prelude.{◌≡◌, true, ◌+◌, ◌^◌, ◌≤◌, ◌<◌, length};
+ghost use Rattle.rules.specs.Shelf.{head_test};
+ghost use Rattle.shelf_stretches.specs.Told.{with_pair, StretchRoom, closed, closed_list, stepped, stepped_list, most_numbers, Surveys, Finds};
+
+use file_blocks::FileBlocks;
+use shelf_head::blocks_for;
 
 // How many stretches there are, and how many samples are in them.
 #[derive(Clone, Copy)]
 pub struct Found {
     pub stretches: usize,
     pub replaced: usize,
-}
-
-// Whether block i + 1 is wholly there and good, where there are n bytes of samples.
-fn block_known(file: &[u8], i: usize, n: usize) -> bool
-    requires { (n < 2 ^ 32) × (i < blocks_for n) }
-    ensures { result ≡ good_in n (i + 1) (block_in (i + 1) file.now) }
-{
-    let at = (i + 1) * BLOCK;
-    let count = PAYLOAD.min(n - i * PAYLOAD);
-    at + BLOCK <= file.len() && good(&file[at..at + BLOCK], i + 1, count)
 }
 
 // A stretch becomes the list's pair number `at`, where there is room for it.
@@ -95,20 +86,11 @@ impl Run {
     }
 }
 
-// The stretches of the blocks of n bytes and len samples, so many in a block, told as far as the list reaches; nothing as soon as
-// so many numbers are sure to be enough.
-fn survey_blocks(
-    list: &mut [usize],
-    room: usize,
-    file: &[u8],
-    n: usize,
-    len: usize,
-    per: usize,
-) -> Option<Found>
-    requires { Measured file.now n len per }
-    ensures { Surveys room file.now list.old result list.new }
+// The stretches of a file, told as far as the list reaches; nothing as soon as so many numbers are sure to be enough.
+fn survey(list: &mut [usize], room: usize, blocks: &FileBlocks<'_>) -> Option<Found>
+    ensures { Surveys room blocks.now.file.now list.old result list.new }
 {
-    let k = blocks_for(n);
+    let k = blocks_for(blocks.bytes);
     let mut run = Run {
         stretches: 0,
         replaced: 0,
@@ -118,32 +100,15 @@ fn survey_blocks(
         if run.is_settled(i, k - i, room) {
             return None;
         }
-        let at = i * per;
-        let many = per.min(len - at);
-        run = run.step(list, at, block_known(file, i, n), many);
+        let at = i * blocks.per;
+        let many = blocks.per.min(blocks.len - at);
+        run = run.step(list, at, blocks.is_known(i), many);
     }
-    let last = run.close(list, len);
+    let last = run.close(list, blocks.len);
     Some(Found {
         stretches: last.stretches,
         replaced: last.replaced,
     })
-}
-
-// The stretches of a file, so. A block holds whole samples.
-#[tactic(auto, using(shelf_head::proofs::Head::head_room))]
-fn survey(list: &mut [usize], room: usize, file: &[u8]) -> Option<Found>
-    requires { head_test file.now ≡ true }
-    ensures { Surveys room file.now list.old result list.new }
-{
-    let h = heading_in(file);
-    survey_blocks(
-        list,
-        room,
-        file,
-        h.len * h.unitsize,
-        h.len,
-        PAYLOAD / h.unitsize,
-    )
 }
 
 // The stretches of a file, told to a list that has room for all of them, or nothing. Nothing is written to one that has not: they are
@@ -152,8 +117,9 @@ pub fn find(list: &mut [usize], file: &[u8]) -> Option<Found>
     requires { head_test file.now ≡ true }
     ensures { Finds file.now list.old result list.new }
 {
+    let blocks = FileBlocks::of(file);
     let room = list.len();
-    if let Some(found) = survey(&mut [], room, file) {
+    if let Some(found) = survey(&mut [], room, &blocks) {
         if room < 2 * found.stretches {
             return None;
         }
@@ -161,5 +127,5 @@ pub fn find(list: &mut [usize], file: &[u8]) -> Option<Found>
             return Some(found);
         }
     }
-    survey(list, 0, file)
+    survey(list, 0, &blocks)
 }

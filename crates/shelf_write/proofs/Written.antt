@@ -6,12 +6,11 @@ use native.Mathlib.Omega.{arith}
 use lib.ListN.{length}
 use Rattle.rules.specs.Refusal.{Store, store_refusal}
 use Rattle.rules.specs.Shelf.{heading_of, filed_of, file_of, file_len}
-use Rattle.rules.specs.ShelfCalls.{write_refusal, written_to}
+use Rattle.rules.specs.ShelfCalls.{write_refusal, written_to, output_row}
 use Rattle.capture.specs.Record.{lent_of}
 use Rattle.capture.proofs.Calls.{unrefused_none}
 use Rattle.shelf_write.specs.Write.{Writes}
 use Rattle.std.specs.Prelude.{Err}
-use Rattle.rules.specs.ShelfCalls.{output_row}
 use Rattle.answer.specs.declared.Refusal.{Refusal}
 use Rattle.answer.specs.Answered.{number}
 use Rattle.answer.proofs.Answered.{number_least, stops}

@@ -1,13 +1,25 @@
--- What block 0 says of the samples.
-use Rattle.std.proofs.Common.{arith}
-use Rattle.shelf_stretches.proofs.Blocks.{measured, unit_some, bytes_few}
+-- The blocks so far are done.
+use Rattle.std.proofs.Common.{ℕ, ◌-◌, ap, arith}
+use Rattle.shelf_stretches.specs.Told.{most_numbers}
+use Rattle.shelf_stretches.proofs.Blocks.{loop_starts, block_inside, on_room, next_block, surveyed}
+use Rattle.shelf_stretches.proofs.Left.{enough}
 use Rattle.shelf_stretches.proofs.survey.Goals as goal
 
-pub overflow_mul-h : goal.overflow_mul-h
-overflow_mul-h c = record { fits = omega (arith, bytes_few (measured c.args.file.now c.requires c.heading_in-h.result c.heading_in-h.ensures)) }
+pub loop-i-init : goal.loop-i-init
+loop-i-init c = loop_starts c.args.blocks.now.file.now c.args.list.now
 
-pub nonzero_div-h : goal.nonzero_div-h
-nonzero_div-h c = unit_some c.args.file.now c.requires c.heading_in-h.result c.heading_in-h.ensures
+pub returns-then-is_settled : goal.returns-then-is_settled
+returns-then-is_settled c =
+    enough c.args.blocks.now.measured c.loop-i.invariant (omega arith) (ap (λ (k : ℕ). most_numbers c.loop-i.run (k - c.loop-i.i)) c.blocks_for-k.ensures) (c.is_settled.ensures c.if-is_settled.true)
 
-pub survey_blocks-requires : goal.survey_blocks-requires
-survey_blocks-requires c = measured c.args.file.now c.requires c.heading_in-h.result c.heading_in-h.ensures
+pub overflow_sub-blocks : goal.overflow_sub-blocks
+overflow_sub-blocks c = omega (arith, block_inside c.args.blocks.now.measured c.loop-i.invariant (omega arith))
+
+pub step-run-requires : goal.step-run-requires
+step-run-requires c = (on_room c.args.blocks.now.measured c.loop-i.invariant (omega arith), omega arith)
+
+pub loop-i-preserved : goal.loop-i-preserved
+loop-i-preserved c = next_block c.args.blocks.now.measured c.loop-i.invariant (omega arith) c.is_known.ensures c.min-many.ensures c.step-run.ensures.0 c.step-run.ensures.1
+
+pub returns : goal.returns
+returns c = surveyed c.args.blocks.now.measured c.loop-i.invariant (omega arith) c.args.room c.close-last.ensures.0 c.close-last.ensures.1
