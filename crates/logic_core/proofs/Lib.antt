@@ -1,5 +1,2 @@
 pub mod Codes
-mod Starts
-mod Told
-mod MillTold
-mod FilesTold
+pub mod Drawn

@@ -6,14 +6,14 @@ use Rattle.rules.specs.Node.{Node}
 use Rattle.rules.specs.Search.{count_in}
 use Rattle.rules.specs.Pixel.{View, pixel_range}
 use Rattle.rules.specs.Answer.{Answer, unless, unrefused}
-use Rattle.rules.specs.Refusal.{Store, Lent, fresh, store_refusal, get_refusal, samples_refusal, render_refusal, copied}
+use Rattle.rules.specs.Refusal.{Store, Lent, fresh, store_refusal, samples_refusal, render_refusal, copied}
 use Rattle.capture.specs.declared.Capture.{Capture}
 use Rattle.capture.specs.Record.{store_of, lent_of}
 use Rattle.capture.specs.Calls.{need_refusal, memory_need}
 use Rattle.append.specs.Append.{refusal_of, taken_of}
 use Rattle.store.specs.Stored.{Stored}
 use Rattle.summary.specs.Summary.{summary_of, summed}
-use Rattle.rules.specs.Reading.{copied_to}
+use Rattle.rules.specs.Reading.{get_answer, samples_answer, copied_to}
 use Rattle.rules.specs.Wrong.{NodeAt, whole_answer}
 use Rattle.whole.specs.Wrong.{held_in}
 use Rattle.render.specs.Render.{drawn}
@@ -31,13 +31,13 @@ view_of start spp = record { start = start; spp = spp }
 
 module _ (c : Capture) (samples : List ℕ) (levels : ℕ → List ℕ) where
   abbrev pub got_for : ℕ → Answer ℕ
-  got_for i = unless (get_refusal (store_of c) (lent_of samples levels) i) (sample_of c.unitsize samples i)
+  got_for i = get_answer (store_of c) (lent_of samples levels) (sample_of c.unitsize samples) i
 
   abbrev pub copy_refusal : ℕ → ℕ → List ℕ → ℕ
   copy_refusal start count output = samples_refusal (store_of c) (lent_of samples levels) start count (length output)
 
   abbrev pub copied_for : ℕ → ℕ → List ℕ → Answer ℕ
-  copied_for start count output = unless (copy_refusal start count output) (copied c.len start count)
+  copied_for start count output = samples_answer (store_of c) (lent_of samples levels) start count (length output)
 
   abbrev pub summed_for : ℕ → ℕ → Answer (Option Node)
   summed_for a b = unless (store_refusal (store_of c) (lent_of samples levels)) (summary_of levels (sample_of c.unitsize samples) c.len a b)

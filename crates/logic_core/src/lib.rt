@@ -23,7 +23,24 @@ ghost use Rattle.logic_core.specs.Asked.{needed_for, started_for, got_for, summe
 
 use codes::capture_in;
 use lines::Mask;
+use node::{Levels, Memory};
 use pixel::View;
+
+// What is lent to be read, slice by slice as C lends it, as one value.
+fn lent<'a>(
+    samples: &'a [u8],
+    l1: &'a [Mask],
+    l2: &'a [Mask],
+    l3: &'a [Mask],
+    l4: &'a [Mask],
+) -> Memory<'a>
+    ensures { result ≡ record { samples = samples.entry; levels = record { l1 = l1.entry; l2 = l2.entry; l3 = l3.entry; l4 = l4.entry } } }
+{
+    Memory {
+        samples,
+        levels: Levels { l1, l2, l3, l4 },
+    }
+}
 
 // How much memory a store needs: bytes of samples, and numbers of the levels 1 to 4. Refuses with 1.
 pub fn lc_needs(channels: usize, capacity: usize, sizes: &mut [usize; 5]) -> u32
@@ -46,7 +63,7 @@ pub fn lc_start<'a>(
 ) -> u32
     ensures { Out store_numbers (plain (started_for channels capacity samples.now (level_of l1.now l2.now l3.now l4.now))) result numbers.old numbers.new }
 {
-    let answer = capture::start(channels, capacity, samples, l1, l2, l3, l4);
+    let answer = capture::start(channels, capacity, lent(samples, l1, l2, l3, l4));
     codes::started_code(answer, numbers)
 }
 
@@ -80,8 +97,8 @@ pub fn lc_get<'a>(
 ) -> u32
     ensures { Out number (plain (got_for (capture_in numbers.now) samples.now (level_of l1.now l2.now l3.now l4.now) i)) result value.old value.new }
 {
-    let answer = capture::get(capture_in(numbers), samples, l1, l2, l3, l4, i);
-    codes::got_code(answer, value)
+    let answer = capture::get(capture_in(numbers), lent(samples, l1, l2, l3, l4), i);
+    codes::value_code(answer, value)
 }
 
 // 01's Samples(start, count): the count copied. Refuses with 1, 2 and 11.
@@ -101,16 +118,12 @@ pub fn lc_samples<'a>(
 {
     let answer = capture::samples(
         capture_in(numbers),
-        samples,
-        l1,
-        l2,
-        l3,
-        l4,
+        lent(samples, l1, l2, l3, l4),
         start,
         count,
         output,
     );
-    codes::copied_code(answer, copied)
+    codes::value_code(answer, copied)
 }
 
 // 01's Raw(c): where the chunk's stored bytes lie in sample memory. It has no code.
@@ -127,9 +140,9 @@ pub fn lc_raw<'a>(
 )
     ensures { RawLies (store_of (capture_in numbers.now)) samples.now (level_of l1.now l2.now l3.now l4.now) chunk from.new to.new }
 {
-    let part = capture::raw_part(capture_in(numbers), samples, l1, l2, l3, l4, chunk);
-    *from = part.from;
-    *to = part.to;
+    let part = capture::raw_part(capture_in(numbers), lent(samples, l1, l2, l3, l4), chunk);
+    *from = part.start;
+    *to = part.end;
 }
 
 // 01's whole: 0 where every node is right, 100 with the level and number of the first wrong one. Refuses with 1 and 2.
@@ -145,7 +158,7 @@ pub fn lc_whole<'a>(
 ) -> u32
     ensures { Out place_level (fault (wrong_for (capture_in numbers.now) samples.now (level_of l1.now l2.now l3.now l4.now))) result level.old level.new × Out place_number (fault (wrong_for (capture_in numbers.now) samples.now (level_of l1.now l2.now l3.now l4.now))) result number.old number.new }
 {
-    let answer = whole::whole(capture_in(numbers), samples, l1, l2, l3, l4);
+    let answer = whole::whole(capture_in(numbers), lent(samples, l1, l2, l3, l4));
     codes::checked_code(answer, level, number)
 }
 
@@ -164,7 +177,7 @@ pub fn lc_summary<'a>(
 ) -> u32
     ensures { Out node_numbers (perhaps (summed_for (capture_in numbers.now) samples.now (level_of l1.now l2.now l3.now l4.now) a b)) result node.old node.new × Out count_number (perhaps (summed_for (capture_in numbers.now) samples.now (level_of l1.now l2.now l3.now l4.now) a b)) result count.old count.new }
 {
-    let answer = summary::summary(capture_in(numbers), samples, l1, l2, l3, l4, a, b);
+    let answer = summary::summary(capture_in(numbers), lent(samples, l1, l2, l3, l4), a, b);
     codes::summed_code(answer, node, count)
 }
 
@@ -182,8 +195,8 @@ pub fn lc_density<'a>(
 ) -> u32
     ensures { Out number (plain (changes_for (capture_in numbers.now) samples.now (level_of l1.now l2.now l3.now l4.now) a b)) result count.old count.new }
 {
-    let answer = density::density(capture_in(numbers), samples, l1, l2, l3, l4, a, b);
-    codes::changes_code(answer, count)
+    let answer = density::density(capture_in(numbers), lent(samples, l1, l2, l3, l4), a, b);
+    codes::value_code(answer, count)
 }
 
 // An encoder replayed from lines a and b: its position, and its steps forward, backward and skipped (02: CR 6). Refuses with 1, 2 and 14.
@@ -201,7 +214,7 @@ pub fn lc_encoder<'a>(
 ) -> u32
     ensures { TurnsOut (encoder_of (capture_in numbers.now) samples.now (level_of l1.now l2.now l3.now l4.now) a b) result position.old position.new counts.old counts.new }
 {
-    let answer = encoder::encoder(capture_in(numbers), samples, l1, l2, l3, l4, a, b);
+    let answer = encoder::encoder(capture_in(numbers), lent(samples, l1, l2, l3, l4), a, b);
     codes::turns_code(answer, position, counts)
 }
 
@@ -220,7 +233,12 @@ pub fn lc_next_change<'a>(
 ) -> u32
     ensures { Sought number (next_of (capture_in numbers.now) samples.now (level_of l1.now l2.now l3.now l4.now) mask from) result place.old place.new read.old read.new }
 {
-    let answer = search::next_change(capture_in(numbers), samples, l1, l2, l3, l4, mask, from);
+    let answer = search::next_change(
+        capture_in(numbers),
+        lent(samples, l1, l2, l3, l4),
+        mask,
+        from,
+    );
     codes::found_code(answer, place, read)
 }
 
@@ -239,7 +257,12 @@ pub fn lc_prev_change<'a>(
 ) -> u32
     ensures { Sought number (previous_of (capture_in numbers.now) samples.now (level_of l1.now l2.now l3.now l4.now) mask from) result place.old place.new read.old read.new }
 {
-    let answer = search::prev_change(capture_in(numbers), samples, l1, l2, l3, l4, mask, from);
+    let answer = search::prev_change(
+        capture_in(numbers),
+        lent(samples, l1, l2, l3, l4),
+        mask,
+        from,
+    );
     codes::found_code(answer, place, read)
 }
 
@@ -263,11 +286,7 @@ pub fn lc_burst_at<'a>(
 {
     let answer = burst::burst_at(
         capture_in(numbers),
-        samples,
-        l1,
-        l2,
-        l3,
-        l4,
+        lent(samples, l1, l2, l3, l4),
         mask,
         sample,
         max_gap,
@@ -278,6 +297,7 @@ pub fn lc_burst_at<'a>(
 }
 
 // 01's render: width pixels, two numbers each, at the start of output. Refuses with 1, 2, 10 and 11.
+#[tactic(auto, using(crate::proofs::Drawn::drawn_code))]
 pub fn lc_render<'a>(
     numbers: &[usize; 5],
     samples: &[u8],
@@ -294,11 +314,7 @@ pub fn lc_render<'a>(
 {
     let answer = render::render(
         capture_in(numbers),
-        samples,
-        l1,
-        l2,
-        l3,
-        l4,
+        lent(samples, l1, l2, l3, l4),
         View { start, spp },
         width,
         output,

@@ -10,6 +10,7 @@ ghost use Rattle.codes.specs.Turned.{TurnsOut};
 ghost use Rattle.mill_codes.specs.Written.{first_place, end_place, marked_number, place, BurstOut};
 ghost use Rattle.logic_core.specs.Mill.{bounded_for, got_for, shown_for, CopiesOut, DrawsOut};
 
+use crate::lent;
 use codes::capture_in;
 use lines::Mask;
 use pixel::View;
@@ -28,7 +29,7 @@ pub fn lc_mill_extent<'a>(
 ) -> u32
     ensures { Out first_place (plain (bounded_for (capture_in numbers.now) samples.now (level_of l1.now l2.now l3.now l4.now))) result first.old first.new × Out end_place (plain (bounded_for (capture_in numbers.now) samples.now (level_of l1.now l2.now l3.now l4.now))) result end.old end.new × Out marked_number (plain (bounded_for (capture_in numbers.now) samples.now (level_of l1.now l2.now l3.now l4.now))) result marked.old marked.new }
 {
-    let answer = mill_read::extent(capture_in(numbers), samples, l1, l2, l3, l4);
+    let answer = mill_read::extent(capture_in(numbers), lent(samples, l1, l2, l3, l4));
     mill_codes::bounded_code(answer, first, end, marked)
 }
 
@@ -46,8 +47,13 @@ pub fn lc_mill_get<'a>(
 ) -> u32
     ensures { Out number (plain (got_for (capture_in numbers.now) samples.now (level_of l1.now l2.now l3.now l4.now) grant at)) result value.old value.new }
 {
-    let answer = mill_read::get(capture_in(numbers), samples, l1, l2, l3, l4, grant, at);
-    codes::got_code(answer, value)
+    let answer = mill_read::get(
+        capture_in(numbers),
+        lent(samples, l1, l2, l3, l4),
+        grant,
+        at,
+    );
+    codes::value_code(answer, value)
 }
 
 // 01's Samples: the count copied. Refuses with 1, 2, 13 and 11.
@@ -68,17 +74,13 @@ pub fn lc_mill_samples<'a>(
 {
     let answer = mill_read::samples(
         capture_in(numbers),
-        samples,
-        l1,
-        l2,
-        l3,
-        l4,
+        lent(samples, l1, l2, l3, l4),
         grant,
         start,
         count,
         output,
     );
-    codes::copied_code(answer, copied)
+    codes::value_code(answer, copied)
 }
 
 // 01's Summary: first, last and toggles, or 100 where the range is empty. Refuses with 1, 2 and 13.
@@ -96,7 +98,13 @@ pub fn lc_mill_summary<'a>(
 ) -> u32
     ensures { Out lines_numbers (perhaps (shown_for (capture_in numbers.now) samples.now (level_of l1.now l2.now l3.now l4.now) grant a b)) result node.old node.new }
 {
-    let answer = mill_read::summary(capture_in(numbers), samples, l1, l2, l3, l4, grant, a, b);
+    let answer = mill_read::summary(
+        capture_in(numbers),
+        lent(samples, l1, l2, l3, l4),
+        grant,
+        a,
+        b,
+    );
     mill_codes::shown_code(answer, node)
 }
 
@@ -118,16 +126,12 @@ pub fn lc_mill_next_change<'a>(
 {
     let answer = mill_search::next_change(
         capture_in(numbers),
-        samples,
-        l1,
-        l2,
-        l3,
-        l4,
+        lent(samples, l1, l2, l3, l4),
         grant,
         mask,
         from,
     );
-    mill_codes::found_code(answer, at, read)
+    codes::found_code(answer, at, read)
 }
 
 // 01's Previous: the place, or 100 where there is none. Refuses with 1, 2, 12 and 13.
@@ -148,16 +152,12 @@ pub fn lc_mill_prev_change<'a>(
 {
     let answer = mill_search::prev_change(
         capture_in(numbers),
-        samples,
-        l1,
-        l2,
-        l3,
-        l4,
+        lent(samples, l1, l2, l3, l4),
         grant,
         mask,
         from,
     );
-    mill_codes::found_code(answer, at, read)
+    codes::found_code(answer, at, read)
 }
 
 // 01's burst_at: first, last, and the jumps at the end and at the start, or 100 where there is none. Refuses with 1, 2, 12 and 13.
@@ -183,11 +183,7 @@ pub fn lc_mill_burst_at<'a>(
 {
     let answer = mill_search::burst_at(
         capture_in(numbers),
-        samples,
-        l1,
-        l2,
-        l3,
-        l4,
+        lent(samples, l1, l2, l3, l4),
         grant,
         mask,
         sample,
@@ -214,11 +210,18 @@ pub fn lc_mill_encoder<'a>(
 ) -> u32
     ensures { TurnsOut (encoder_of (capture_in numbers.now) samples.now (level_of l1.now l2.now l3.now l4.now) grant a b) result position.old position.new counts.old counts.new }
 {
-    let answer = mill_encoder::encoder(capture_in(numbers), samples, l1, l2, l3, l4, grant, a, b);
+    let answer = mill_encoder::encoder(
+        capture_in(numbers),
+        lent(samples, l1, l2, l3, l4),
+        grant,
+        a,
+        b,
+    );
     codes::turns_code(answer, position, counts)
 }
 
 // 01's render; start is a place as the mill counts. Refuses with 1, 2, 10 and 11.
+#[tactic(auto, using(crate::proofs::Drawn::drawn_code))]
 pub fn lc_mill_render<'a>(
     numbers: &[usize; 5],
     samples: &[u8],
@@ -236,11 +239,7 @@ pub fn lc_mill_render<'a>(
 {
     let answer = mill_render::render(
         capture_in(numbers),
-        samples,
-        l1,
-        l2,
-        l3,
-        l4,
+        lent(samples, l1, l2, l3, l4),
         grant,
         View { start, spp },
         width,

@@ -6,9 +6,11 @@ ghost use Rattle.codes.specs.Code.{plain, Out};
 ghost use Rattle.feeder_codes.specs.Recorder.{begun_numbers, cut_number};
 ghost use Rattle.logic_core.specs.Recorder.{begun_for, PushesOut};
 
+use crate::lent;
 use lines::Mask;
 
 // 01's start of a recorder. Terms are two bytes each. Refuses with 1 to 7.
+#[tactic(auto, using(feeder::proofs::Begun::start_rule_lem))]
 pub fn lc_feeder_start<'a>(
     channels: usize,
     capacity: usize,
@@ -35,11 +37,7 @@ pub fn lc_feeder_start<'a>(
         term_bytes::terms_in(terms),
         feeder_codes::wish_in(seconds, wish),
         rate,
-        samples,
-        l1,
-        l2,
-        l3,
-        l4,
+        lent(samples, l1, l2, l3, l4),
         ring,
     );
     feeder_codes::begun_code(answer, numbers, cut)

@@ -7,7 +7,8 @@ ghost use Rattle.codes.specs.Code.{plain, Out};
 ghost use Rattle.shelf_codes.specs.Said.{said_numbers};
 ghost use Rattle.logic_core.specs.Files.{WritesOut, ReadsOut, SalvagesOut};
 
-use codes::{capture_in, started_code};
+use crate::lent;
+use codes::capture_in;
 use lines::Mask;
 
 // How long a capture's file is, in bytes. Refuses with 1.
@@ -15,7 +16,7 @@ pub fn lc_file_len(numbers: &[usize; 5], len: &mut usize) -> u32
     ensures { Out number (plain (length_answer (store_of (capture_in numbers.now)))) result len.old len.new }
 {
     let answer = shelf_head::file_len(capture_in(numbers));
-    shelf_codes::length_code(answer, len)
+    codes::value_code(answer, len)
 }
 
 // What block 0 of a file says: unit, len, whether there is a mark, the mark (0 if none). Looks at the first 512 bytes.
@@ -40,8 +41,8 @@ pub fn lc_write<'a>(
 ) -> u32
     ensures { WritesOut (store_of (capture_in numbers.now)) samples.now (level_of l1.now l2.now l3.now l4.now) output.old result len.old len.new output.new }
 {
-    let answer = shelf_write::write(capture_in(numbers), samples, l1, l2, l3, l4, output);
-    shelf_codes::length_code(answer, len)
+    let answer = shelf_write::write(capture_in(numbers), lent(samples, l1, l2, l3, l4), output);
+    codes::value_code(answer, len)
 }
 
 // A capture from its file, into a new store of a capacity: its record; levels are built afresh. Refuses with 1 (the
@@ -59,7 +60,7 @@ pub fn lc_read(
     ensures { ReadsOut capacity file.now samples.old (level_of l1.old l2.old l3.old l4.old) result numbers.old numbers.new samples.new (level_of l1.new l2.new l3.new l4.new) }
 {
     let answer = shelf_read::read(capacity, file, samples, l1, l2, l3, l4);
-    started_code(answer, numbers)
+    codes::started_code(answer, numbers)
 }
 
 // A capture from a file with bad blocks, into a new store of a capacity (02: CR 8): its record, the unknown stretches, and

@@ -6,6 +6,7 @@ ghost use Rattle.codes.specs.Record.{capture_in, number};
 ghost use Rattle.codes.specs.Code.{perhaps, Out};
 ghost use Rattle.unknown.specs.Answer.{certain_of, possible_of};
 
+use crate::lent;
 use codes::capture_in;
 use lines::Mask;
 
@@ -26,11 +27,7 @@ pub fn lc_next_certain<'a>(
 {
     let answer = unknown::next_certain(
         capture_in(numbers),
-        samples,
-        l1,
-        l2,
-        l3,
-        l4,
+        lent(samples, l1, l2, l3, l4),
         stretches,
         mask,
         from,
@@ -55,11 +52,7 @@ pub fn lc_prev_certain<'a>(
 {
     let answer = unknown::prev_certain(
         capture_in(numbers),
-        samples,
-        l1,
-        l2,
-        l3,
-        l4,
+        lent(samples, l1, l2, l3, l4),
         stretches,
         mask,
         from,
@@ -84,11 +77,7 @@ pub fn lc_next_possible<'a>(
 {
     let answer = unknown::next_possible(
         capture_in(numbers),
-        samples,
-        l1,
-        l2,
-        l3,
-        l4,
+        lent(samples, l1, l2, l3, l4),
         stretches,
         mask,
         from,
@@ -113,11 +102,7 @@ pub fn lc_prev_possible<'a>(
 {
     let answer = unknown::prev_possible(
         capture_in(numbers),
-        samples,
-        l1,
-        l2,
-        l3,
-        l4,
+        lent(samples, l1, l2, l3, l4),
         stretches,
         mask,
         from,
