@@ -10,7 +10,7 @@ use Rattle.rules.specs.Shelf.{heading_in, head_test}
 use Rattle.rules.specs.ShelfCalls.{capacity_wrong, store_short}
 use Rattle.rules.specs.Salvage as rule
 use Rattle.answer.specs.declared.Refusal.TheVariants.{Head}
-use Rattle.claim_alike.proofs.Rows.{result_for}
+use Rattle.claim_alike.proofs.Rows.{Told, result_for}
 use Rattle.shelf_salvage.specs.declared.Salvaged as call
 use Rattle.shelf_salvage.specs.Salvage.{salvaged_as, salvage_of}
 use Rattle.claim_captures.specs.Words.{Memory}
@@ -35,11 +35,12 @@ module _ (capacity : ℕ) (file : List ℕ) (m : Memory) (list : List ℕ) where
   abbrev pub salvage_leaves : Memory
   salvage_leaves = filled_with (heading_in file).unit (rule.salvage_count capacity (lent_in m) (length list) file) (rule.salvaged_bytes file) m
 
+  row : Told (rule.salvage_refusal capacity (lent_in m) (length list) file)
+  row = file_told 17 (Head, refl) (capacity_wrong capacity) (not (head_test file)) (store_short capacity (lent_in m) (heading_in file) || ltb (length list) (rule.list_need file))
+
   may_salvage : (answer : Answer rule.Salvaged) × (m' : Memory) × (list' : List ℕ) × Salvage capacity file m list answer m' list'
   may_salvage =
-      let v =
-      result_for salvaged_as (rule.salvage_refusal capacity (lent_in m) (length list) file) (salvaged_for (rule.salvaged_of capacity file)) (rule.salvaged_of capacity file) refl
-      (file_told 17 (Head, refl) (capacity_wrong capacity) (not (head_test file)) (store_short capacity (lent_in m) (heading_in file) || ltb (length list) (rule.list_need file))) in (
+      let v = result_for salvaged_as (rule.salvage_refusal capacity (lent_in m) (length list) file) (salvaged_for (rule.salvaged_of capacity file)) _ refl row in (
         salvage_of v.0,
         salvage_leaves,
         rule.salvage_list capacity (lent_in m) list file,

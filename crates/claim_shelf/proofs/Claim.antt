@@ -51,26 +51,29 @@ pub file_told : (number : ℕ) → Known number → (wrong bad short : Bool) →
 file_told number k wrong bad short =
     first_told (record { number = 1; holds = wrong } ∷ record { number = number; holds = bad } ∷ record { number = 15; holds = short } ∷ []) ((Record, refl), (k, ((Room, refl), tt)))
 
-may_write : (st : Store) (m : Memory) (output : List ℕ) → (answer : Answer ℕ) × (output' : List ℕ) × Writes st m output answer output'
-may_write st m output =
-    let v =
-    result_for (λ x. x) (write_refusal st (lent_in m) (length output)) (file_len (heading_of st)) _ refl
-    (store_told st (lent_in m) (output_row st (length output) ∷ []) ((Room, refl), tt)) in (
-      length_of v.0,
-      write_output st (lent_in m) m.samples output,
-      (record_for st, v.0, refl, (([], ([], tt)), somewhere, anywhere, record { answer_is = v.1; output_is = refl }), refl),
-    )
+module _ (st : Store) (m : Memory) (output : List ℕ) where
+  write_row : Told (write_refusal st (lent_in m) (length output))
+  write_row = store_told st (lent_in m) (output_row st (length output) ∷ []) ((Room, refl), tt)
+
+  may_write : (answer : Answer ℕ) × (output' : List ℕ) × Writes st m output answer output'
+  may_write =
+      let v = result_for (λ x. x) (write_refusal st (lent_in m) (length output)) (file_len (heading_of st)) _ refl write_row in (
+        length_of v.0,
+        write_output st (lent_in m) m.samples output,
+        (record_for st, v.0, refl, (([], ([], tt)), somewhere, anywhere, record { answer_is = v.1; output_is = refl }), refl),
+      )
 
 module _ (capacity : ℕ) (file : List ℕ) (m : Memory) where
   -- the memory that a reading leaves
   abbrev pub read_leaves : Memory
   read_leaves = filled_with (heading_in file).unit (read_count capacity (lent_in m) file) (bytes_in file) m
 
+  read_row : Told (read_refusal capacity (lent_in m) file)
+  read_row = file_told 16 (File, refl) (capacity_wrong capacity) (not (file_test file)) (store_short capacity (lent_in m) (heading_in file))
+
   may_read : (answer : Answer Store) × (m' : Memory) × Reads capacity file m answer m'
   may_read =
-      let v =
-      result_for store_of (read_refusal capacity (lent_in m) file) (record_for (store_in capacity (heading_in file))) _ refl
-      (file_told 16 (File, refl) (capacity_wrong capacity) (not (file_test file)) (store_short capacity (lent_in m) (heading_in file))) in (
+      let v = result_for store_of (read_refusal capacity (lent_in m) file) (record_for (store_in capacity (heading_in file))) _ refl read_row in (
         answer_of store_of v.0,
         read_leaves,
         (v.0, (([], ([], ([], ([], ([], ([], tt)))))), somewhere, anywhere, record { answer_is = v.1; memory = filled_is (heading_in file).unit (read_count capacity (lent_in m) file) (bytes_in file) m }), refl),

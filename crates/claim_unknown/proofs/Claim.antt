@@ -1,17 +1,20 @@
 -- The claims over the calls' contracts.
 use mathlib.Core.Path.{◌≡◌, refl, sym, ◌∙◌}
 use mathlib.Core.Bool.{Bool, true, false}
-use mathlib.Core.List.{List, []}
-use Rattle.std.specs.Prelude.{Option, None, Some}
+use mathlib.Core.List.{List, [], ◌∷◌}
+use Rattle.std.specs.Prelude.{Option, Result}
 use Prim.Native.Nat.{ℕ}
-use Rattle.rules.specs.Answer.{Answer, refused, given}
-use Rattle.rules.specs.Unknown.{Sureness, certain, possible}
+use Rattle.rules.specs.Answer.{Answer}
+use Rattle.rules.specs.Unknown.{Sureness, certain, possible, unknown_refusal, list_row}
+use Rattle.answer.specs.declared.Refusal.{Refusal}
+use Rattle.answer.specs.declared.Refusal.TheVariants.{Stretches}
 use Rattle.capture.specs.declared.Capture.{Capture}
-use Rattle.unknown.specs.declared.Located.{Located}
-use Rattle.unknown.specs.declared.Located.TheVariants as located
-use Rattle.unknown.specs.Answer.{located_of}
+use Rattle.capture.specs.Record.{store_of, lent_of}
+use Rattle.unknown.specs.Answer.{located_of, certain_of, possible_of}
+use Rattle.claim_alike.proofs.Rows.{Told, result_for}
 use Rattle.claim_captures.specs.Words.{Memory, levels}
 use Rattle.claim_captures.specs.Claim as captures
+use Rattle.claim_captures.proofs.Rows.{store_told}
 use Rattle.claim_captures.proofs.Answers.{anywhere, somewhere}
 use Rattle.claim_captures.proofs.Alike.{captures_alike}
 use Rattle.claim_appends.proofs.Stored.{appends_stored}
@@ -23,10 +26,17 @@ use Rattle.claim_unknown.specs.Claim.{Locates, UnknownSearched, SalvagedAcross, 
 use Rattle.claim_unknown.proofs.Searches.{answer_of, searches}
 use Rattle.claim_unknown.proofs.Salvaged.{salvaged_searched, made_alike}
 
-pub located_for : (x : Answer (Option ℕ)) → (v : Located) × (located_of v ≡ x)
-located_for (refused n) = (located.Refused n, refl)
-located_for (given None) = (located.Nothing, refl)
-located_for (given (Some i)) = (located.At i, refl)
+-- the place that the call's contract says, or the refusal of its row
+located_for : (sure : Sureness) (back : Bool) (c : Capture) (m : Memory) (list : List ℕ) (mask from : ℕ) → (v : Result (Option ℕ) Refusal) × (located_of v ≡ answer_of sure back c m.samples (levels m) list mask from)
+unfolding certain_of possible_of
+located_for sure back c m list mask from = go sure
+  where
+    row : Told (unknown_refusal (store_of c) (lent_of m.samples (levels m)) list)
+    row = store_told (store_of c) (lent_of m.samples (levels m)) (list_row c.len list ∷ []) ((Stretches, refl), tt)
+
+    go : (w : Sureness) → (v : Result (Option ℕ) Refusal) × (located_of v ≡ answer_of w back c m.samples (levels m) list mask from)
+    go certain = result_for (λ x. x) (unknown_refusal (store_of c) (lent_of m.samples (levels m)) list) _ _ refl row
+    go possible = result_for (λ x. x) (unknown_refusal (store_of c) (lent_of m.samples (levels m)) list) _ _ refl row
 
 told : (sure : Sureness) (back : Bool) (c : Capture) (m : Memory) (list : List ℕ) (mask from : ℕ) (answer : Answer (Option ℕ)) → Locates sure back c m list mask from answer
     → answer ≡ answer_of sure back c m.samples (levels m) list mask from
@@ -36,13 +46,13 @@ told possible false c m list mask from answer (v, (κs, p, l, promised), v-is) =
 told possible true c m list mask from answer (v, (κs, p, l, promised), v-is) = sym v-is ∙ promised
 
 may : (sure : Sureness) (back : Bool) (c : Capture) (m : Memory) (list : List ℕ) (mask from : ℕ) → (answer : Answer (Option ℕ)) × Locates sure back c m list mask from answer
-may sure back c m list mask from = let v = located_for (answer_of sure back c m.samples (levels m) list mask from) in (located_of v.0, allowed sure back v.0 v.1)
+may sure back c m list mask from = let v = located_for sure back c m list mask from in (located_of v.0, allowed sure back v.0 v.1)
   where
-    allowed : (w : Sureness) (b : Bool) (v : Located) → located_of v ≡ answer_of w b c m.samples (levels m) list mask from → Locates w b c m list mask from (located_of v)
-    allowed certain false v e = (v, (([], ([], ([], tt))), somewhere, anywhere, e), refl)
-    allowed certain true v e = (v, (([], ([], ([], tt))), somewhere, anywhere, e), refl)
-    allowed possible false v e = (v, (([], ([], ([], tt))), somewhere, anywhere, e), refl)
-    allowed possible true v e = (v, (([], ([], ([], tt))), somewhere, anywhere, e), refl)
+    allowed : (w : Sureness) (b : Bool) (v : Result (Option ℕ) Refusal) → located_of v ≡ answer_of w b c m.samples (levels m) list mask from → Locates w b c m list mask from (located_of v)
+    allowed certain false v e = (v, (([], ([], tt)), somewhere, anywhere, e), refl)
+    allowed certain true v e = (v, (([], ([], tt)), somewhere, anywhere, e), refl)
+    allowed possible false v e = (v, (([], ([], tt)), somewhere, anywhere, e), refl)
+    allowed possible true v e = (v, (([], ([], tt)), somewhere, anywhere, e), refl)
 
 pub unknown_searched : UnknownSearched
 unknown_searched = searches (λ (c : Capture). c) captures.LookAlike Locates told may (λ run₁ mark₁ c₁ m₁ run₂ mark₂ c₂ m₂ one two v. (captures_alike run₁ mark₁ c₁ m₁ run₂ mark₂ c₂ m₂ one two v).2)
