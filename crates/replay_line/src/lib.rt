@@ -3,7 +3,8 @@
 
 use feeder::Feeder;
 use lines::Mask;
-use number::lesser;
+use memory::lent;
+use node::Memory;
 use replay_ask::ask;
 use replay_change::{write, writes};
 use replay_file::{about_files, file_line};
@@ -12,7 +13,7 @@ use replay_text::operations::Operation;
 use replay_unknown::{about_unknown, unknown_line};
 
 // The lengths that the lent slices have.
-#[derive(Clone, Copy)]
+#[derive(Clone, Copy, Default)]
 pub struct Lent {
     pub samples: usize,
     pub l1: usize,
@@ -22,26 +23,36 @@ pub struct Lent {
     pub ring: usize,
 }
 
+// The memory that every list of data/ is replayed in.
+#[derive(Drop)]
+pub struct Space {
+    pub samples: Vec<u8>,
+    pub l1: Vec<Mask>,
+    pub l2: Vec<Mask>,
+    pub l3: Vec<Mask>,
+    pub l4: Vec<Mask>,
+    pub ring: Vec<u8>,
+    pub output: Vec<Mask>,
+    pub piece: Vec<u8>,
+    pub file: Vec<u8>,
+}
+
 // A line that writes nothing in memory but the output.
-fn read_only<'a>(
+fn read_only(
     o: Operation,
     line: &[u8],
     f: Feeder,
-    samples: &[u8],
-    l1: &'a [Mask],
-    l2: &'a [Mask],
-    l3: &'a [Mask],
-    l4: &'a [Mask],
+    memory: Memory<'_>,
     ring: &[u8],
     output: &mut [Mask],
 ) -> Change {
     if begins(o.code) {
-        return begin(o, line, f, samples, l1, l2, l3, l4, ring);
+        return begin(o, line, f, memory, ring);
     }
     if about_unknown(o.code) {
-        return unknown_line(o, line, f, samples, l1, l2, l3, l4);
+        return unknown_line(o, line, f, memory);
     }
-    leaves(f, ask(o, f, samples, l1, l2, l3, l4, output), o.next)
+    leaves(f, ask(o, f, memory, output), o.next)
 }
 
 // What a line does, over the parts of memory that are lent.
@@ -65,54 +76,30 @@ fn over_lent(
     if about_files(o.code) {
         return file_line(o, f, samples, l1, l2, l3, l4, file);
     }
-    read_only(
-        o,
-        line,
-        f,
-        &samples[..],
-        &l1[..],
-        &l2[..],
-        &l3[..],
-        &l4[..],
-        &ring[..],
-        output,
-    )
+    let memory = lent(&samples[..], &l1[..], &l2[..], &l3[..], &l4[..]);
+    read_only(o, line, f, memory, &ring[..], output)
+}
+
+// As much of a memory as is lent, at most all.
+fn lend<T>(memory: &mut [T], n: usize) -> &mut [T] {
+    let end = n.min(memory.len());
+    &mut memory[..end]
 }
 
 // What a line does, where so much of the memory is lent.
-pub fn step(
-    o: Operation,
-    line: &[u8],
-    f: Feeder,
-    lent: Lent,
-    samples: &mut [u8],
-    l1: &mut [Mask],
-    l2: &mut [Mask],
-    l3: &mut [Mask],
-    l4: &mut [Mask],
-    ring: &mut [u8],
-    output: &mut [Mask],
-    piece: &mut [u8],
-    file: &mut [u8],
-) -> Change {
-    let e = lesser(lent.samples, samples.len());
-    let e1 = lesser(lent.l1, l1.len());
-    let e2 = lesser(lent.l2, l2.len());
-    let e3 = lesser(lent.l3, l3.len());
-    let e4 = lesser(lent.l4, l4.len());
-    let er = lesser(lent.ring, ring.len());
+pub fn step(o: Operation, line: &[u8], f: Feeder, lent: Lent, space: &mut Space) -> Change {
     over_lent(
         o,
         line,
         f,
-        &mut samples[0..e],
-        &mut l1[0..e1],
-        &mut l2[0..e2],
-        &mut l3[0..e3],
-        &mut l4[0..e4],
-        &mut ring[0..er],
-        output,
-        piece,
-        file,
+        lend(&mut space.samples, lent.samples),
+        lend(&mut space.l1, lent.l1),
+        lend(&mut space.l2, lent.l2),
+        lend(&mut space.l3, lent.l3),
+        lend(&mut space.l4, lent.l4),
+        lend(&mut space.ring, lent.ring),
+        &mut space.output,
+        &mut space.piece,
+        &mut space.file,
     )
 }
