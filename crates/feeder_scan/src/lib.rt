@@ -141,7 +141,7 @@ pub fn first_fire(masks: Masks, prev: Option<Mask>, samples: &Samples<'_>) -> us
     }
     let w = Wanted::of(masks);
     let p = prev.unwrap_or(samples.at(0));
-    // The unit is a number in each branch, so that each gets its own loops.
+    // The unit is a number in each branch, so that each gets its own loops. They are inlined for it: else a push of 64 bytes takes a third longer.
     if unitsize == 1 {
         fire_in_blocks(
             w,
