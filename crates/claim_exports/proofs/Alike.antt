@@ -28,7 +28,7 @@ use Rattle.claim_captures.proofs.Answers.{unless_same}
 use Rattle.claim_captures.proofs.Alike.{agreed, same_seen, places}
 use Rattle.claim_captures.proofs.Additive.{add_up}
 use Rattle.claim_exports.specs.Questions.{Got, got, summed, CutSummed, cut_summed, found, bursted, turned, drawn, view_of, Answers, cut_node, cut_drawn, LookAlike, Additive}
-use Rattle.claim_exports.proofs.Answers.{mark_held, exports_answer}
+use Rattle.claim_exports.proofs.Answers.{exports_answer}
 
 -- cut down, what is told of a summary is what is told of the summary cut down
 cut_summed_lem : (v : ℕ) (o : Option Node) (old : List ℕ) (count : ℕ) → cut_node v (summed o old count) ≡ cut_summed (cut_summary v o) (cut_pixels v old)
@@ -68,7 +68,7 @@ module _ {run₁ : List ℕ} {mark₁ : Option ℕ} (n₁ : List ℕ) (m₁ : Me
 
   alike_runs : LookAlike v n₁ m₁ n₂ m₂ → Same v run₁ mark₁ run₂ mark₂
   alike_runs look = record {
-    marks = sym one.mark_is ∙ mark_held n₁ ∙ look.marks ∙ sym (mark_held n₂) ∙ two.mark_is;
+    marks = sym one.mark_is ∙ look.marks ∙ two.mark_is;
     runs = alike_same v (at run₁) (length run₁) (at run₂) (length run₂) (sym one.len_is ∙ look.lens ∙ two.len_is) samples;
   }
     where
@@ -81,7 +81,7 @@ module _ {run₁ : List ℕ} {mark₁ : Option ℕ} (n₁ : List ℕ) (m₁ : Me
   runs_alike : Same v run₁ mark₁ run₂ mark₂ → LookAlike v n₁ m₁ n₂ m₂
   runs_alike same = record {
     lens = one.len_is ∙ same.runs.len ∙ sym two.len_is;
-    marks = sym (mark_held n₁) ∙ one.mark_is ∙ same.marks ∙ sym two.mark_is ∙ mark_held n₂;
+    marks = one.mark_is ∙ same.marks ∙ sym two.mark_is;
     summaries = λ a b _ _ node size count.
         agreed (cut_node v) (a₁.summary_is a b node size count) (a₂.summary_is a b node size count)
         (cut_summed_lem v (summary (at run₁) (length run₁) a b) node count

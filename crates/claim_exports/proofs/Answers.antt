@@ -1,11 +1,9 @@
 -- Asked through the exports with numbers and memory that hold a run, each question gives 01's code and numbers for the run, and no other: what the calls answer, told by `codes`.
 use mathlib.Core.Path.{◌≡◌, refl, sym, ap, ◌∙◌, subst, subst⁻¹}
-use mathlib.Core.Bool.{Bool, true, false, cond}
 use mathlib.Core.List.{List, [], ◌∷◌, ◌++◌}
-use Rattle.std.specs.Prelude.{Option, None, Some}
+use Rattle.std.specs.Prelude.{Option, None, Some, Result}
 use Prim.Native.Nat.{ℕ, zero, suc, ◌+◌, ◌*◌}
 use native.Mathlib.Nat.{suc-ne-zero}
-use lib.Dec.{eqb}
 use lib.Ieee.{Float}
 use lib.IntN.{ℤ, pos}
 use lib.ListN.{length, drop}
@@ -24,40 +22,34 @@ use Rattle.rules.proofs.SampleBytes.{list_whole}
 use Rattle.rules.proofs.Refusal.{rows_left}
 use Rattle.rules.specs.Encoder.{Turns, encoder, pair_row}
 use Rattle.codes.specs.Turned.{step_numbers, TurnsOut}
+use Rattle.answer.specs.declared.Refusal.{Refusal}
+use Rattle.answer.specs.declared.Refusal.TheVariants.{View, Output}
+use Rattle.answer.specs.Answered.{told_of}
+use Rattle.claim_alike.proofs.Rows.{result_for}
 use Rattle.claim_alike.proofs.Below.{render_below}
 use Rattle.capture.specs.declared.Capture.{Capture}
-use Rattle.capture.specs.declared.Mark.TheVariants.{Absent, At}
-use Rattle.capture.specs.Record.{mark_of, store_of, lent_of}
-use Rattle.capture.specs.Numbers.{marked_in, mark_place_in}
+use Rattle.capture.specs.Record.{store_of, lent_of}
 use Rattle.rules.specs.Reading.{copied_to}
 use Rattle.capture.proofs.Calls.{over_none}
 use Rattle.summary.specs.Summary.{summed}
 use Rattle.pixel.specs.declared.View as pixel
-use Rattle.render.specs.declared.Drawn.{Drawn}
 use Rattle.render.specs.Render as drawing
 use Rattle.render.proofs.Answers.{render_row, render_refused}
 use Rattle.codes.specs.Code.{plain, perhaps, Out}
 use Rattle.codes.specs.Sought.{Sought}
 use Rattle.codes.specs.Record.{capture_in, lines_numbers, node_numbers, count_number, burst_numbers, number}
 use Rattle.logic_core.specs.Asked.{DrawsOut}
-use Rattle.claim_captures.specs.Words.{Memory, levels, at, Answered, Places, shown_at}
+use Rattle.claim_captures.specs.Words.{Memory, levels, at, Answered, Places, shown}
 use Rattle.claim_captures.specs.Claim.{Held}
 use Rattle.claim_captures.specs.Claim as calls
-use Rattle.claim_captures.proofs.Answers.{answers, agree, right, asked_run, copied_inside, drawn_for, anywhere, somewhere}
-use Rattle.claim_exports.specs.Questions.{One, Signed, mark_in, MayGet, MaySamples, MaySummary, MayDensity, MayNext, MayPrevious, MayBurst, MayEncoder, MayRender, found, bursted, drawn, view_of, Answers}
+use Rattle.claim_captures.proofs.Rows.{store_told}
+use Rattle.claim_captures.proofs.Answers.{answers, agree, right, asked_run, copied_inside, anywhere, somewhere}
+use Rattle.claim_exports.specs.Questions.{One, Signed, MayGet, MaySamples, MaySummary, MayDensity, MayNext, MayPrevious, MayBurst, MayEncoder, MayRender, found, bursted, drawn, view_of, Answers}
 use Rattle.claim_exports.specs.Questions as told
 
 -- what a question of the calls answers is what its contract asks for
-pub asked_is : {X A : Type 0} {told : X → A} {asked x : A} → Answered (λ v. (κs : Lfts 2) × (p : Places) × (told v ≡ asked)) told x → asked ≡ x
+pub asked_is : {X A : Type 0} {told : X → A} {asked x : A} → Answered (λ v. (κs : Lfts 1) × (p : Places) × (told v ≡ asked)) told x → asked ≡ x
 asked_is a = sym a.allowed.2 ∙ a.is a.answer a.allowed
-
--- the mark, as the record's numbers hold it
-pub mark_held : (numbers : List ℕ) → mark_of (capture_in numbers).trigger ≡ mark_in numbers
-mark_held numbers = go (eqb (marked_in numbers) 0)
-  where
-    go : (b : Bool) → mark_of (cond b Absent (At (mark_place_in numbers))) ≡ cond b None (Some (mark_place_in numbers))
-    go true = refl
-    go false = refl
 
 -- ---- a code and numbers for each of 01's answers, and no others
 -- all numbers behind a pointer are written
@@ -293,8 +285,10 @@ module _ {run : List ℕ} {mark : Option ℕ} (numbers : List ℕ) (m : Memory) 
     drawn_only : (v : told.Drawn) → DrawsOut c m.samples (levels m) start spp width output v.code v.output → v ≡ drawn (unless refusal (render (at run) (length run) (view_of start spp) width)) width output
     drawn_only v out = go refusal refl
       where
-        r : (r : Drawn) × (drawing.drawn_of r ≡ unless refusal tt)
-        r = drawn_for (unless refusal tt)
+        r : (r : Result (Unit {0}) Refusal) × (told_of r ≡ unless refusal tt)
+        r =
+            result_for (λ x. x) refusal tt tt refl
+            (store_told (store_of c) (lent_of m.samples (levels m)) (view_rows (view_of start spp) width (length output)) ((View, refl), ((Output, refl), tt)))
 
         -- what the call under it draws
         call : drawing.Draws (summed (levels m) t) (store_of c) (lent_of m.samples (levels m)) (view_of start spp) width output r.0 v.output
@@ -305,12 +299,12 @@ module _ {run : List ℕ} {mark : Option ℕ} (numbers : List ℕ) (m : Memory) 
           where
             row : v.output ≡ render (at run) (length run) (view_of start spp) width ++ drop (2 * width) output
             row =
-                render_row ([], ([], ([], tt))) c (shown_at anywhere m.samples) (shown_at anywhere m.l1) (shown_at anywhere m.l2) (shown_at anywhere m.l3) (shown_at anywhere m.l4) view width (at_last anywhere output) r.0 v.output call (right c m h) e
+                render_row ([], ([], tt)) c (shown somewhere m) view width (at_last anywhere output) r.0 v.output call (right c m h) e
                 ∙ ap (λ (l : List ℕ). l ++ drop (2 * width) output) (render_below t (at run) c.len (agree c m h) (view_of start spp) width ∙ ap (λ (n : ℕ). render (at run) n (view_of start spp) width) h.len_is)
         go (suc n) e = λ i. record { code = (out.code_is ∙ e) i; output = same i }
           where
             same : v.output ≡ output
-            same = render_refused ([], ([], ([], tt))) c (shown_at anywhere m.samples) (shown_at anywhere m.l1) (shown_at anywhere m.l2) (shown_at anywhere m.l3) (shown_at anywhere m.l4) view width (at_last anywhere output) r.0 v.output call (λ z. suc-ne-zero n (sym e ∙ z))
+            same = render_refused ([], ([], tt)) c (shown somewhere m) view width (at_last anywhere output) r.0 v.output call (λ z. suc-ne-zero n (sym e ∙ z))
 
     render_is : Answered (MayRender numbers m start spp width output) (λ v. v)
         (drawn (unless (first_of (view_rows (view_of start spp) width (length output))) (render (at run) (length run) (view_of start spp) width)) width output)

@@ -1,9 +1,8 @@
 -- Demand 3 over the exports: a recording's numbers and memory hold its run, so its answers are 01's, and two look alike exactly when their runs are the same to the viewer. So its densities add up, and its encoders replay.
-use mathlib.Core.Path.{sym, ◌∙◌}
 use Rattle.claim_captures.proofs.Turns.{replayed, reversed}
 use Rattle.claim_exports.specs.Questions.{SaysTurns}
 use Rattle.claim_exports.specs.Claim.{Recording, Selects, asked, run, Demand3, DensitiesAdd, EncodersReplay, EncodersReverse}
-use Rattle.claim_exports.proofs.Answers.{mark_held, exports_answer}
+use Rattle.claim_exports.proofs.Answers.{exports_answer}
 use Rattle.claim_exports.proofs.Alike.{exports_alike, additive}
 use Rattle.claim_exports.proofs.Turns.{exports_replay}
 use Rattle.claim_exports.proofs.Recordings.{recording_held, recording_codes}
@@ -11,7 +10,7 @@ use Rattle.claim_exports.proofs.Recordings.{recording_held, recording_codes}
 selects : (r : Recording) → Selects r
 selects r = record {
   len_is = (recording_held r).len_is;
-  mark_is = sym (mark_held (asked r)) ∙ (recording_held r).mark_is;
+  mark_is = (recording_held r).mark_is;
   codes_are = recording_codes r;
 }
 

@@ -1,34 +1,41 @@
 -- A store that the exports filled is one that the calls filled: the numbers read back as the record that each call returned. So they hold the samples that were taken.
-use mathlib.Core.Path.{◌≡◌, refl, sym, ap, ap₂, ◌∙◌, subst⁻¹}
+use mathlib.Core.Path.{◌≡◌, refl, sym, ap, ap₂, ◌∙◌, subst, subst⁻¹}
 use mathlib.Core.List.{List, [], ◌∷◌}
-use Rattle.std.specs.Prelude.{None}
+use mathlib.Core.Logic.{inl, inr}
+use Rattle.std.specs.Prelude.{None, Result, Ok, Err}
 use Prim.Native.Nat.{ℕ, zero, suc, ◌+◌}
 use native.Mathlib.Nat.{suc-ne-zero}
 use lib.ListN.{length, length-set}
 use lib.Seq.{length-sets}
 use Rattle.rules.specs.Answer.{given, unless}
-use Rattle.rules.specs.Refusal.{Store, fresh, store_refusal}
+use Rattle.rules.specs.Sample.{sample_count}
+use Rattle.rules.specs.Refusal.{Store, fresh, store_refusal, room_row}
+use Rattle.answer.specs.declared.Refusal.{Refusal}
+use Rattle.answer.specs.declared.Refusal.TheVariants.{Full}
+use Rattle.answer.specs.Answered as answered
+use Rattle.claim_alike.proofs.Rows.{Told as RowTold}
 use Rattle.capture.specs.declared.Capture.{Capture}
 use Rattle.capture.specs.Record.{store_of, lent_of}
 use Rattle.capture.specs.Numbers.{len_at}
-use Rattle.append.specs.declared.Appended.{Appended}
-use Rattle.append.specs.Append.{appended_of, number_of, record_of, grown, refusal_of, taken_of}
+use Rattle.store.specs.Stored.{Stored}
+use Rattle.append.specs.Append.{Appends, record_of, grown, refusal_of, taken_of}
+use Rattle.append.proofs.Answer.{taken_all, appends_refused, appends_done}
 use Rattle.codes.specs.Code.{plain, Out}
 use Rattle.codes.specs.Record.{capture_in, store_numbers}
 use Rattle.codes.proofs.ReadBack.{store_back, len_back}
 use Rattle.logic_core.specs.Asked.{AppendsOut}
 use Rattle.claim_captures.specs.Words.{Memory, levels}
 use Rattle.claim_captures.specs.Claim.{Held}
+use Rattle.claim_captures.proofs.Rows.{store_told}
 use Rattle.claim_captures.proofs.Answers.{anywhere, somewhere}
 use Rattle.claim_appends.specs.Claim as calls
 use Rattle.claim_appends.specs.Claim.Appending.{stop as called-stop, step as called-step}
 use Rattle.claim_appends.proofs.Stored.{appends_stored}
-use Rattle.claim_appends.proofs.Existence.{appended_for}
 use Rattle.claim_captures.proofs.Turns.{replayed, reversed}
 use Rattle.claim_exports.specs.Questions.{SaysTurns}
 use Rattle.claim_exports.specs.Filled.{MayStore, MayAppend, Appending, Filling, stored, Stores, Filled, DensitiesAdd, EncodersReplay, EncodersReverse}
 use Rattle.claim_exports.specs.Filled.Appending.{stop, step}
-use Rattle.claim_exports.proofs.Answers.{mark_held, exports_answer}
+use Rattle.claim_exports.proofs.Answers.{exports_answer}
 use Rattle.claim_exports.proofs.Alike.{exports_alike, additive}
 use Rattle.claim_exports.proofs.Turns.{exports_replay}
 
@@ -59,9 +66,23 @@ module _ (numbers : List ℕ) (size : length numbers ≡ 5) (m : Memory) (bytes 
   out : AppendsOut c bytes m.samples (levels m) code numbers numbers' m'.samples (levels m')
   out = may.4
 
+  row : RowTold (refusal_of c m.samples (levels m) bytes)
+  unfolding refusal_of
+  row = store_told (store_of c) (lent_of m.samples (levels m)) (room_row (store_of c) (sample_count c.unitsize bytes) ∷ []) ((Full, refl), tt)
+
   -- the answer of the call under it
-  told : (v : Appended) × (appended_of v ≡ unless (refusal_of c m.samples (levels m) bytes) (capture_in numbers')) × (number_of v ≡ refusal_of c m.samples (levels m) bytes) × (record_of v ≡ capture_in numbers')
-  told = appended_for (refusal_of c m.samples (levels m) bytes) (capture_in numbers')
+  told : (v : Result Capture Refusal) × Appends c bytes m.samples (levels m) v m'.samples (levels m')
+  told = go row
+    where
+      go : RowTold (refusal_of c m.samples (levels m) bytes) → (v : Result Capture Refusal) × Appends c bytes m.samples (levels m) v m'.samples (levels m')
+      go (inl z) = (
+        Ok (grown c (sample_count c.unitsize bytes)),
+        appends_done c bytes m.samples (levels m) (sym z) m'.samples (levels m')
+            (subst (λ (n : ℕ). Stored c.unitsize c.len n bytes m.samples (levels m) m'.samples (levels m')) (taken_all c bytes m.samples (levels m) z) out.memory),
+      )
+      go (inr r) =
+          let d = appends_refused c bytes m.samples (levels m) r.0 r.1 in
+          (Err r.0, record { answer_is = d.answer_is; number_is = d.number_is; record_is = d.record_is; memory = out.memory })
 
   reads : capture_in numbers' ≡ grown c (taken_of c m.samples (levels m) bytes)
   reads = ap capture_in out.numbers_are ∙ len_back numbers size (c.len + taken_of c m.samples (levels m) bytes)
@@ -70,10 +91,14 @@ module _ (numbers : List ℕ) (size : length numbers ≡ 5) (m : Memory) (bytes 
   appended_size = ap length out.numbers_are ∙ length-set numbers len_at (c.len + taken_of c m.samples (levels m) bytes) ∙ size
 
   may_append : calls.MayAppend c m bytes told.0 m'
-  may_append = (([], ([], ([], ([], ([], ([], tt)))))), somewhere, anywhere, record { answer_is = told.1 ∙ ap (unless (refusal_of c m.samples (levels m) bytes)) reads; number_is = told.2; record_is = told.3 ∙ reads; memory = out.memory })
+  may_append = (([], ([], ([], ([], ([], ([], tt)))))), somewhere, anywhere, told.1)
 
-  code_told : code ≡ number_of told.0
-  code_told = out.code_is ∙ sym told.2
+  -- the record that it returned is what the numbers read
+  record_told : record_of c told.0 ≡ capture_in numbers'
+  record_told = told.1.record_is ∙ sym reads
+
+  code_told : code ≡ answered.refusal_of told.0
+  code_told = out.code_is ∙ sym told.1.number_is
 
 -- ---- a list
 record Told (numbers : List ℕ) (m : Memory) (appends : List (List ℕ)) (codes numbers'' : List ℕ) (m'' : Memory) : Type 0 where
@@ -87,8 +112,8 @@ all_told numbers size {m = m} (step {bytes = bytes} {code = code} {numbers' = nu
     let v = told numbers size m bytes code numbers' m' may in
     let more = all_told numbers' (appended_size numbers size m bytes code numbers' m' may) rest in
     record {
-      said = number_of v.0 ∷ more.said;
-      appended = called-step (may_append numbers size m bytes code numbers' m' may) (subst⁻¹ (λ (x : Capture). calls.Appending x m' appends more.said (capture_in numbers'') m'') v.3 more.appended);
+      said = answered.refusal_of v.0 ∷ more.said;
+      appended = called-step (may_append numbers size m bytes code numbers' m' may) (subst⁻¹ (λ (x : Capture). calls.Appending x m' appends more.said (capture_in numbers'') m'') (record_told numbers size m bytes code numbers' m' may) more.appended);
       codes_are = ap₂ (λ (n : ℕ) (ns : List ℕ). n ∷ ns) (code_told numbers size m bytes code numbers' m' may) more.codes_are;
     }
 
@@ -104,7 +129,7 @@ module _ (a : Filling) where
     before = a.before;
     fresh = capture_in a.fresh;
     started = (
-      ([], ([], tt)),
+      ([], tt),
       somewhere,
       ap given (fresh_is a.channels a.capacity a.before a.blank a.five a.fresh a.started)
           ∙ sym (ap (λ (n : ℕ). unless n (fresh a.channels a.capacity)) (started a.channels a.capacity a.before a.blank a.five a.fresh a.started).0),
@@ -123,7 +148,7 @@ module _ (a : Filling) where
   stores : Stores a
   stores = record {
     len_is = filling_held.len_is;
-    mark_is = sym (mark_held a.numbers) ∙ filling_held.mark_is;
+    mark_is = filling_held.mark_is;
     codes_are = done.codes_are ∙ (appends_stored filled_by).numbers_are;
   }
 

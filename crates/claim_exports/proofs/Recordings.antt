@@ -18,6 +18,8 @@ use Rattle.capture.specs.Record.{lent_of}
 use Rattle.feeder.specs.declared.Feeder.{Feeder}
 use Rattle.feeder.specs.Record.{recorder_of}
 use Rattle.feeder_push.specs.declared.Pushed.{Pushed}
+use Rattle.std.specs.Prelude.{Result}
+use Rattle.answer.specs.declared.Refusal.{Refusal}
 use Rattle.feeder_push.specs.Push.{reply_as, feeder_in}
 use Rattle.feeder_numbers.specs.Numbers.{feeder_from}
 use Rattle.term_bytes.specs.Bytes.{terms_in}
@@ -72,18 +74,18 @@ module _ (numbers : List ℕ) (size : length numbers ≡ 17) (m : Memory) (bytes
   abbrev left : Left
   left = left_for (feeder_from numbers) bytes m.store.samples (levels m.store) m.ring
 
-  -- the answer of the call under it
-  told : (v : Pushed) × (reply_as v ≡ left.reply) × (feeder_in v ≡ feeder_from numbers')
-  told = pushed_for left.reply (feeder_from numbers')
-
-  -- the record that it returned is what the numbers read
+  -- the record that the call under it returns is what the numbers read
   reads : recorder_of (feeder_from numbers') ≡ left.recorder
   reads = ap (λ (l : List ℕ). recorder_of (feeder_from l)) out.numbers_are ∙ push_back numbers size (lengths m) m.store.samples m.ring bytes are
+
+  -- its answer
+  told : (v : Result Pushed Refusal) × (reply_as v ≡ left.reply) × (feeder_in (feeder_from numbers) v ≡ feeder_from numbers')
+  told = pushed_for (feeder_from numbers) (feeder_from numbers') (lengths m) m.store.samples m.ring bytes reads
 
   pushed_size : length numbers' ≡ 17
   pushed_size = ap length out.numbers_are ∙ after_size numbers left.reply left.recorder ∙ size
 
-  len_is : left.recorder.store.len ≡ (feeder_in told.0).capture.len
+  len_is : left.recorder.store.len ≡ (feeder_in (feeder_from numbers) told.0).capture.len
   len_is = ap (λ (r : Recorder). r.store.len) (sym reads) ∙ ap (λ (f : Feeder). f.capture.len) (sym told.2)
 
   may_push : calls.MayPush (feeder_from numbers) (lent m) bytes told.0 (lent m')

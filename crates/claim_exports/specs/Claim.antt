@@ -15,10 +15,10 @@ use Rattle.term_bytes.specs.Bytes.{terms_in}
 use Rattle.feeder_codes.specs.Recorder.{wish_in}
 use Rattle.logic_core.proofs.recorder.lc_feeder_start.Reads as lc-feeder-start
 use Rattle.logic_core.proofs.recorder.lc_push.Reads as lc-push
-use Rattle.claim_captures.specs.Words.{levels, Same, AreBytes, Ref, Places, lending, lending_mut, shown_at}
+use Rattle.claim_captures.specs.Words.{levels, Same, AreBytes, Ref, Places, lending_mut, shown_at}
 use Rattle.claim_captures.specs.Words as words
 use Rattle.claim_captures.specs.Turns.{Replayed, Reversed}
-use Rattle.claim_exports.specs.Questions.{One, mark_in, Answers, LookAlike, Additive, SaysTurns}
+use Rattle.claim_exports.specs.Questions.{One, lending, mark_in, Answers, LookAlike, Additive, SaysTurns}
 
 -- ---- recordings
 -- "the memory lent to it, whatever that holds": a store's, and the ring

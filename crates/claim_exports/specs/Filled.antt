@@ -10,10 +10,10 @@ use Rattle.capture.specs.Record.{lent_of}
 use Rattle.capture.specs.Numbers.{len_in}
 use Rattle.logic_core.proofs.lc_start.Reads as lc-start
 use Rattle.logic_core.proofs.lc_append.Reads as lc-append
-use Rattle.claim_captures.specs.Words.{Memory, levels, Same, AreBytes, Ref, Places, lending, lending_mut, shown_at}
+use Rattle.claim_captures.specs.Words.{Memory, levels, Same, AreBytes, Ref, Places, lending_mut, shown_at}
 use Rattle.claim_appends.specs.Claim.{stored_from, numbers_from}
 use Rattle.claim_captures.specs.Turns.{Replayed, Reversed}
-use Rattle.claim_exports.specs.Questions.{mark_in, Answers, LookAlike, Additive, SaysTurns}
+use Rattle.claim_exports.specs.Questions.{lending, mark_in, Answers, LookAlike, Additive, SaysTurns}
 
 -- lc_start may give a code and leave these numbers
 abbrev pub MayStore : ℕ → ℕ → Memory → List ℕ → ℕ → List ℕ → Type 0

@@ -25,7 +25,7 @@ use Rattle.logic_core.proofs.lc_burst_at.Reads as lc-burst-at
 use Rattle.logic_core.proofs.lc_encoder.Reads as lc-encoder
 use Rattle.logic_core.proofs.lc_render.Reads as lc-render
 use Rattle.codes.specs.Turned.{turns_in}
-use Rattle.claim_captures.specs.Words.{Memory, at, AddUp, Answered, Agree, Usize, F64, Ref, Places, lending, shown_at}
+use Rattle.claim_captures.specs.Words.{Memory, at, AddUp, Answered, Agree, Usize, F64, Ref, Shown, Places, shown_at}
 
 -- ---- the record's numbers: which is which, capture.specs.Numbers says
 abbrev pub mark_in : List ℕ → Option ℕ
@@ -38,6 +38,10 @@ One = MutBor ℕ
 -- and a signed one
 abbrev pub Signed : Type 0
 Signed = MutBor ℤ
+
+-- arguments of an export: its record's numbers, the memory that is lent, slice by slice, and the others
+abbrev pub lending : {A B : Type 0} → A → Places → Memory → B → A × (Shown × (Shown × (Shown × (Shown × (Shown × B)))))
+lending c p m others = (c, (shown_at p.samples m.samples, (shown_at p.l1 m.l1, (shown_at p.l2 m.l2, (shown_at p.l3 m.l3, (shown_at p.l4 m.l4, others))))))
 
 -- ---- lc_get: the code, and the number behind `value`
 pub record Got : Type 0 where
