@@ -14,7 +14,6 @@ use Rattle.rules.specs.Refusal.{Lent, Recorder, start_refusal}
 use Rattle.rules.specs.Push.{Left}
 use Rattle.rules.specs.Start.{Begun, begun}
 use Rattle.capture.specs.declared.Capture.{Capture}
-use Rattle.capture.specs.Record.{lent_of}
 use Rattle.feeder.specs.declared.Feeder.{Feeder}
 use Rattle.feeder.specs.Record.{recorder_of}
 use Rattle.feeder_push.specs.declared.Pushed.{Pushed}
@@ -45,10 +44,7 @@ abbrev given_as : Given → calls.Given
 given_as g = record { channels = g.channels; capacity = g.capacity; limit = g.limit; terms = terms_in g.terms; wish = wish_in g.seconds g.wish; rate = g.rate }
 
 abbrev lengths : Memory → Lent
-lengths m = lent_of m.store.samples (levels m.store)
-
-lengths_are : (m : Memory) → calls.lengths m.store ≡ lengths m
-lengths_are m = refl
+lengths m = calls.lengths m.store
 
 -- ---- start
 -- code 0: no row refuses, and the numbers are the fresh recorder's
@@ -133,7 +129,7 @@ module _ (r : Recording) where
     was_cut = (begun (settings r.setup)).was_cut;
     started =
         ap (λ (c : Recorder). given (record { recorder = c; was_cut = (begun (settings r.setup)).was_cut })) (fresh_is r.setup r.before r.blank r.seventeen r.cut r.fresh r.was_cut r.started)
-        ∙ sym (ap (λ (n : ℕ). unless n (begun (settings r.setup))) (ap (λ (l : Lent). start_refusal (settings r.setup) l (length r.before.ring)) (lengths_are r.before) ∙ (started r.setup r.before r.blank r.seventeen r.cut r.fresh r.was_cut r.started).0));
+        ∙ sym (ap (λ (n : ℕ). unless n (begun (settings r.setup))) (started r.setup r.before r.blank r.seventeen r.cut r.fresh r.was_cut r.started).0);
     pushes = r.pushes;
     are_bytes = r.are_bytes;
     replies = done.replies;

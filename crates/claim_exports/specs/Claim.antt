@@ -1,8 +1,7 @@
 -- Demand 3 over the exports: a program that starts recorders with lc_feeder_start and pushes with lc_push, to be held beside include/logic_core.h. 01: Lists of pushes.
 -- What is asked of them, and when two look alike, is in Questions.
 -- No range is asked of settings, memory and the viewer's lines; a push is of bytes, and a record's numbers are as many as the header says.
-use Rattle.std.specs.Prelude.{◌≡◌, Bool, List, [], ◌∷◌, map, ◌↔◌, ℕ, Float, length, take}
-use Rattle.std.specs.Prelude.{Option}
+use Rattle.std.specs.Prelude.{◌≡◌, Bool, List, [], ◌∷◌, map, ◌↔◌, ℕ, Float, length, take, Option}
 use contract.Lifetimes.{Lfts}
 use denote.Ref.{at_last}
 use Rattle.rules.specs.Selection.{Settings, Rule, rule_of, run_of, Reply, refused, going_on, complete, replies_of}

@@ -1,7 +1,6 @@
 -- Stores that a program filled with lc_start and lc_append, to be held beside include/logic_core.h: what they hold and answer, and when two look alike. 01: Store.
 -- What is asked of them is in Questions. No range is asked of channels, capacity and memory; an append is of bytes, and a record's numbers are five.
-use Rattle.std.specs.Prelude.{◌≡◌, List, [], ◌∷◌, ◌↔◌, ℕ, length}
-use Rattle.std.specs.Prelude.{None}
+use Rattle.std.specs.Prelude.{◌≡◌, List, [], ◌∷◌, ◌↔◌, ℕ, length, None}
 use contract.Lifetimes.{Lfts}
 use denote.Ref.{at_last}
 use Rattle.rules.specs.Sample.{unit_of}

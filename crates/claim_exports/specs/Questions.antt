@@ -1,8 +1,7 @@
 -- The questions that a program asks of a capture through the exports, to be held beside include/logic_core.h: their codes, what stands behind their out pointers, and
 -- when two captures look alike to a viewer of chosen lines. A capture is its record's five numbers and its memory.
 -- `Post` of an export's generated `Reads` is what its `ensures` says of the arguments, the code, and what stands behind its pointers afterwards.
-use Rattle.std.specs.Prelude.{◌≡◌, false, cond, List, [], ◌∷◌, ◌++◌, ℕ, ◌*◌, ◌≤◌, ◌<◌, eqb, Float, ℤ, length, drop}
-use Rattle.std.specs.Prelude.{Option, None, Some}
+use Rattle.std.specs.Prelude.{◌≡◌, false, cond, List, [], ◌∷◌, ◌++◌, ℕ, ◌*◌, ◌≤◌, ◌<◌, eqb, Float, ℤ, length, drop, Option, None, Some}
 use contract.Lifetimes.{Lfts}
 use denote.Ref.{MutBor, at_last}
 use Rattle.rules.specs.Sample.{list_from, Word, all_lines, Within}
