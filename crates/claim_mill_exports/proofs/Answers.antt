@@ -1,7 +1,7 @@
 -- Asked through the exports with numbers and memory that hold a run, each of a mill's questions gives the code and the numbers of the run's granted lines, and no others.
 use mathlib.Core.Path.{◌≡◌, refl, sym, ap, ◌∙◌, subst, subst⁻¹}
 use mathlib.Core.List.{List, [], ◌∷◌, ◌++◌}
-use Rattle.std.specs.Prelude.{Option, None, Some}
+use Rattle.std.specs.Prelude.{Option, None, Some, Result}
 use Prim.Native.Nat.{ℕ, zero, suc, ◌+◌, ◌*◌}
 use native.Mathlib.Nat.{suc-ne-zero}
 use lib.Bits.{bit_and}
@@ -9,7 +9,7 @@ use lib.Ieee.{Float}
 use lib.IntN.{ℤ}
 use lib.ListN.{length, drop}
 use denote.Ref.{at_last}
-use Rattle.rules.specs.Sample.{sample_of, list_from}
+use Rattle.rules.specs.Sample.{sample_of, list_from, cut_lines}
 use Rattle.rules.specs.Node.{Lines, node_of}
 use Rattle.rules.specs.Search.{summary, cut_summary}
 use Rattle.rules.specs.Walk.{Counted, through, next_search, previous_search}
@@ -24,13 +24,15 @@ use Rattle.rules.specs.Answer.{Answer, refused, given, unless, unrefused}
 use Rattle.rules.proofs.Sample.{list_same}
 use Rattle.rules.proofs.SampleBytes.{list_whole}
 use Rattle.rules.proofs.Row.{from_stored}
+use Rattle.answer.specs.declared.Refusal.{Refusal}
+use Rattle.answer.specs.declared.Refusal.TheVariants as rows
+use Rattle.claim_alike.proofs.Rows.{result_for}
 use Rattle.claim_alike.proofs.Below.{row_below}
 use Rattle.capture.specs.declared.Capture.{Capture}
 use Rattle.capture.specs.Record.{store_of, lent_of}
 use Rattle.rules.specs.Reading.{copied_to}
 use Rattle.summary.specs.Summary as memory
 use Rattle.pixel.specs.declared.View as pixel
-use Rattle.render.specs.declared.Drawn as answer
 use Rattle.render.specs.Render.{drawn_of}
 use Rattle.mill.specs.Reader.{origin_in}
 use Rattle.mill_read.specs.Read.{Extent, extent_for}
@@ -42,9 +44,10 @@ use Rattle.codes.specs.Record.{capture_in, lines_numbers, number}
 use Rattle.mill_codes.specs.Written.{first_place, end_place, marked_number, jump_numbers, BurstOut}
 use Rattle.mill_codes.specs.Written as written
 use Rattle.logic_core.specs.Mill.{DrawsOut}
-use Rattle.claim_captures.specs.Words.{Memory, levels, at, Answered, shown_at}
+use Rattle.claim_captures.specs.Words.{Memory, levels, at, Answered, shown}
 use Rattle.claim_captures.specs.Claim.{Held}
-use Rattle.claim_captures.proofs.Answers.{agree, right, drawn_for, anywhere, somewhere, asked_run, copied_inside}
+use Rattle.claim_captures.proofs.Rows.{store_told}
+use Rattle.claim_captures.proofs.Answers.{agree, right, anywhere, somewhere, asked_run, copied_inside}
 use Rattle.claim_mill.specs.Claim as calls
 use Rattle.claim_mill.proofs.Answers.{mill_answers}
 use Rattle.claim_exports.specs.Questions.{got, turned, copies, CutSummed, Drawn, drawn, view_of}
@@ -240,21 +243,18 @@ module _ {run : List ℕ} {mark : Option ℕ} (numbers : List ℕ) (m : Memory) 
     abbrev copy_refusal_lem : ℕ
     copy_refusal_lem = mill_samples_refusal (store_of c) lent p n (length output)
 
-    abbrev shown : (ℕ → ℕ) → ℕ → ℕ
-    shown f j = bit_and (f j) grant
-
     samples_are : Answered (MaySamples numbers m grant p n output old) (λ v. v)
         (copies (unless (first_of (mill_samples_rows mark (length run) p n (length output))) (list_from (λ i. bit_and (at run i) grant) (place mark p) (refusal.copied (length run) (place mark p) n))) output old)
     samples_are = record {
       is = λ v may.
-          copies_only copy_refusal_lem (refusal.copied c.len i n) (shown t) i output old v may.5.count_is may.5.output_is
+          copies_only copy_refusal_lem (refusal.copied c.len i n) (cut_lines grant t) i output old v may.5.count_is may.5.output_is
           ∙ ap (λ (x : Answer (List ℕ)). copies x output old)
-          (asked_run c m h (λ x j. mill_samples_rows x j p n (length output)) (λ f x j. list_from (shown f) (place_at (origin_of x) p) (refusal.copied j (place_at (origin_of x) p) n))
-          (λ z. list_same (shown t) (shown (at run)) i i (refusal.copied c.len i n) (λ j l. ap (λ (v : ℕ). bit_and v grant) (agree c m h (i + j) (copied_inside c.len i n j l)))));
+          (asked_run c m h (λ x j. mill_samples_rows x j p n (length output)) (λ f x j. list_from (cut_lines grant f) (place_at (origin_of x) p) (refusal.copied j (place_at (origin_of x) p) n))
+          (λ z. list_same (cut_lines grant t) (cut_lines grant (at run)) i i (refusal.copied c.len i n) (λ j l. ap (λ (v : ℕ). bit_and v grant) (agree c m h (i + j) (copied_inside c.len i n j l)))));
       answer = record {
         code = (got (unless copy_refusal_lem (refusal.copied c.len i n)) old).code;
         copied = (got (unless copy_refusal_lem (refusal.copied c.len i n)) old).value;
-        output = copied_to (shown t) i (unrefused copy_refusal_lem (refusal.copied c.len i n)) output;
+        output = copied_to (cut_lines grant t) i (unrefused copy_refusal_lem (refusal.copied c.len i n)) output;
       };
       allowed = (([], ([], ([], ([], ([], tt))))), anywhere, somewhere, anywhere, nowhere, record { count_is = got_out (unless copy_refusal_lem (refusal.copied c.len i n)) old; output_is = refl });
     }
@@ -274,8 +274,8 @@ module _ {run : List ℕ} {mark : Option ℕ} (numbers : List ℕ) (m : Memory) 
     drawn_only : (v : Drawn) → DrawsOut c m.samples (levels m) grant start spp width output v.code v.output → v ≡ drawn (unless draw_refusal_lem (row t (c.trigger) c.len)) width output
     drawn_only v out = go draw_refusal_lem refl
       where
-        r : (r : answer.Drawn) × (drawn_of r ≡ unless draw_refusal_lem tt)
-        r = drawn_for (unless draw_refusal_lem tt)
+        r : (r : Result Unit Refusal) × (drawn_of r ≡ unless draw_refusal_lem tt)
+        r = result_for (λ x. x) draw_refusal_lem tt tt refl (store_told (store_of c) lent (view_rows (view_of start spp) width (length output)) ((rows.View, refl), ((rows.Output, refl), tt)))
 
         -- what the call under it draws
         call : MillDraws (memory.summed (levels m) t) (store_of c) lent grant (view_of start spp) width output r.0 v.output
@@ -285,12 +285,11 @@ module _ {run : List ℕ} {mark : Option ℕ} (numbers : List ℕ) (m : Memory) 
         go zero e = λ i. record { code = (out.code_is ∙ e) i; output = drawn_row i }
           where
             drawn_row : v.output ≡ row t (c.trigger) c.len ++ drop (2 * width) output
-            drawn_row =
-                render_row ([], ([], ([], tt))) c (shown_at anywhere m.samples) (shown_at anywhere m.l1) (shown_at anywhere m.l2) (shown_at anywhere m.l3) (shown_at anywhere m.l4) grant view width (at_last anywhere output) r.0 v.output call (right c m h) e
+            drawn_row = render_row ([], ([], tt)) c (shown somewhere m) grant view width (at_last anywhere output) r.0 v.output call (right c m h) e
         go (suc n) e = λ i. record { code = (out.code_is ∙ e) i; output = same i }
           where
             same : v.output ≡ output
-            same = render_refused ([], ([], ([], tt))) c (shown_at anywhere m.samples) (shown_at anywhere m.l1) (shown_at anywhere m.l2) (shown_at anywhere m.l3) (shown_at anywhere m.l4) grant view width (at_last anywhere output) r.0 v.output call (λ z. suc-ne-zero n (sym e ∙ z))
+            same = render_refused ([], ([], tt)) c (shown somewhere m) grant view width (at_last anywhere output) r.0 v.output call (λ z. suc-ne-zero n (sym e ∙ z))
 
     render_is : Answered (MayRender numbers m grant start spp width output) (λ v. v)
         (drawn (unless (first_of (view_rows (view_of start spp) width (length output))) (cut_pixels grant (row_by (node_of (at run)) (range_from (origin_of mark) (view_of start spp) (length run)) 0 width))) width output)

@@ -26,9 +26,9 @@ use Rattle.logic_core.proofs.mill_reader.lc_mill_prev_change.Reads as lc-mill-pr
 use Rattle.logic_core.proofs.mill_reader.lc_mill_burst_at.Reads as lc-mill-burst-at
 use Rattle.logic_core.proofs.mill_reader.lc_mill_encoder.Reads as lc-mill-encoder
 use Rattle.logic_core.proofs.mill_reader.lc_mill_render.Reads as lc-mill-render
-use Rattle.claim_captures.specs.Words.{Memory, at, Same, Answered, Agree, Ref, Places, lending, shown_at}
+use Rattle.claim_captures.specs.Words.{Memory, at, Same, Answered, Agree, Ref, Places, shown_at}
 use Rattle.claim_captures.specs.Turns.{Replayed, Reversed}
-use Rattle.claim_exports.specs.Questions.{One, Signed, Got, got, Copied, copies, CutSummed, cut_summed, Turned, turned, ReadsAs, Drawn, drawn, view_of}
+use Rattle.claim_exports.specs.Questions.{One, Signed, lending, Got, got, Copied, copies, CutSummed, cut_summed, Turned, turned, ReadsAs, Drawn, drawn, view_of}
 use Rattle.claim_exports.specs.Claim.{Recording, run, mark, asked}
 
 -- ---- lc_mill_extent: the code, the places behind `first` and `end`, and the flag behind `marked`
