@@ -1,7 +1,6 @@
 -- Shelf files over the exports, to be held beside include/logic_core.h: `Files` (claim_shelf) says what is promised. 02: CR 7.
 -- A record's numbers are five; no range is asked of them, of memory, output and capacity, nor of what stands behind an out pointer.
-use Rattle.std.specs.Prelude.{◌≡◌, List, ℕ, length, take}
-use Rattle.std.specs.Prelude.{Option}
+use Rattle.std.specs.Prelude.{◌≡◌, List, ℕ, length, take, Option}
 use contract.Lifetimes.{Lfts}
 use denote.Ref.{at_last}
 use Rattle.rules.specs.Answer.{Answer, unless}
@@ -10,10 +9,10 @@ use Rattle.capture.specs.Record.{store_of}
 use Rattle.codes.specs.Record.{capture_in}
 use Rattle.logic_core.proofs.shelf.lc_write.Reads as lc-write
 use Rattle.logic_core.proofs.shelf.lc_read.Reads as lc-read
-use Rattle.claim_captures.specs.Words.{Memory, Ref, Places, lending, lending_mut, shown_at}
+use Rattle.claim_captures.specs.Words.{Memory, Ref, Places, lending_mut, shown_at}
 use Rattle.claim_captures.specs.Claim.{Held}
 use Rattle.claim_shelf.specs.Files.{Enough, Files}
-use Rattle.claim_exports.specs.Questions.{One, LookAlike}
+use Rattle.claim_exports.specs.Questions.{One, lending, LookAlike}
 use Rattle.claim_exports.specs.Claim.{Recording, asked}
 
 -- lc_write may give a code, and leave this length and this output
