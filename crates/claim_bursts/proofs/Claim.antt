@@ -2,7 +2,7 @@
 use mathlib.Core.Path.{◌≡◌, refl, sym, ap, ◌∙◌}
 use mathlib.Core.Bool.{Bool, true, false, cond}
 use mathlib.Core.List.{List, [], ◌∷◌}
-use Rattle.std.specs.Prelude.{Option, None, Some}
+use Rattle.std.specs.Prelude.{Option, None, Some, Result}
 use Prim.Native.Nat.{ℕ, zero, suc, ◌≤◌}
 use native.Mathlib.Nat.{suc-ne-zero}
 use native.Mathlib.Omega.{arith}
@@ -15,6 +15,8 @@ use Rattle.rules.specs.Burst.{Burst, most_place, burst, burst_search}
 use Rattle.rules.specs.Mill.{MillBurst, origin_of, place_at, shown_burst, beyond, before_first, mill_search_rows}
 use Rattle.rules.proofs.Bursts.{says_meet}
 use Rattle.rules.proofs.BurstList.{lists_once}
+use Rattle.answer.specs.declared.Refusal.{Refusal}
+use Rattle.answer.specs.declared.Counted as told
 use Rattle.capture.specs.declared.Capture.{Capture}
 use Rattle.capture.proofs.Answer.{unless_given}
 use Rattle.codes.specs.Code.{perhaps_in}
@@ -23,18 +25,19 @@ use Rattle.codes.proofs.ReadBack.{refusal_back}
 use Rattle.claim_captures.specs.Words.{Memory, at}
 use Rattle.claim_captures.specs.Claim.{Held}
 use Rattle.claim_captures.proofs.Answers.{bounds, answers}
+use Rattle.claim_captures.proofs.Alike.{given_same}
 use Rattle.claim_appends.specs.Claim as appends
 use Rattle.claim_appends.proofs.Stored.{appends_stored}
 use Rattle.claim_recording.specs.Claim as recordings
 use Rattle.claim_recording.proofs.Selection.{selection}
-use Rattle.mill_search.specs.declared.Bursts as mill-answer
+use Rattle.mill_search.specs.declared.Burst as mill-call
 use Rattle.mill_search.specs.Answer as mill-told
 use Rattle.claim_mill.specs.Claim as mills
 use Rattle.claim_mill.proofs.Answers.{mill_answers}
 use Rattle.claim_exports.specs.Questions.{Bursted, bursted, mark_in}
 use Rattle.claim_exports.specs.Claim as exported
 use Rattle.claim_exports.specs.Filled as filled
-use Rattle.claim_exports.proofs.Answers.{mark_held, exports_answer}
+use Rattle.claim_exports.proofs.Answers.{exports_answer}
 use Rattle.claim_exports.proofs.Recordings.{recording_held}
 use Rattle.claim_exports.proofs.Fillings.{filling_held}
 use Rattle.claim_mill_exports.specs.Claim as mill-exports
@@ -46,9 +49,6 @@ promised : {Q : Type 0} (s : ℕ → ℕ) (len : ℕ) → len ≤ most_place →
     → ((mask : ℕ) (q : Q) (gap tolerance budget : ℕ) (o : Option Burst) → Says mask q gap tolerance budget o → burst s len mask (place q) gap tolerance budget ≡ o)
     → Promised s len place Says
 promised {Q} s len few place Says is = let h = says_meet s len few place Says is in record { meet = h; lists = lists_once s len place Says h }
-
-given_one : {A : Type 0} {a b : A} → given a ≡ given b → a ≡ b
-given_one e = cc
 
 -- ---- codes
 -- a refusal's number is none of 0 and 100
@@ -77,7 +77,7 @@ module _ (first last : ℤ) (jumps : List ℕ) (read : ℕ) where
   mill_read_back (Some b) steps = refl
 
   mill_read : (n : ℕ) → n ≤ 13 → (w : Counted MillBurst) (x : Option MillBurst) → read_in (written (unless n w)) ≡ given x → w.found ≡ x
-  mill_read zero h w x e = given_one (sym (mill_read_back w.found w.steps) ∙ e)
+  mill_read zero h w x e = given_same _ _ (sym (mill_read_back w.found w.steps) ∙ e)
   mill_read (suc n) h w x e = absurd (never (sym (refusal_back (suc n) (mill_burst_in first last jumps) (omega (arith, h)) (suc-ne-zero n)) ∙ e))
     where
       never : {A : Type 0} {y : A} {k : ℕ} → refused k ≡ given y → ⊥
@@ -89,7 +89,7 @@ few run mark c m h = omega (arith, h.len_is, (bounds c m h).len_most, (bounds c 
 
 module _ (run : List ℕ) (mark : Option ℕ) (c : Capture) (m : Memory) (h : Held run mark c m) where
   -- what a mill is told
-  moved_to : (grant mask : ℕ) (sample : ℤ) (gap tolerance budget : ℕ) (v : mill-answer.Bursts) (w : Counted MillBurst) → mills.MayBurst c m grant mask sample gap tolerance budget v → mill-told.burst_as v ≡ given w
+  moved_to : (grant mask : ℕ) (sample : ℤ) (gap tolerance budget : ℕ) (v : Result (told.Counted mill-call.Burst) Refusal) (w : Counted MillBurst) → mills.MayBurst c m grant mask sample gap tolerance budget v → mill-told.burst_as v ≡ given w
       → shown_burst (origin_of mark) (burst (at run) (length run) mask (place_at (origin_of mark) sample) gap tolerance budget) ≡ w.found
   moved_to grant mask sample gap tolerance budget v w may e =
       ap (λ (x : Counted MillBurst). x.found)
@@ -98,7 +98,7 @@ module _ (run : List ℕ) (mark : Option ℕ) (c : Capture) (m : Memory) (h : He
 
   said : (mask : ℕ) (q : Asker) (gap tolerance budget : ℕ) (o : Option Burst) → Says c m mask q gap tolerance budget o → burst (at run) (length run) mask (place_of mark q) gap tolerance budget ≡ o
   said mask (service sample) gap tolerance budget o (v, read, may, e) =
-      ap (λ (w : Counted Burst). w.found) (given_one (sym (((answers c m h).burst_is mask sample gap tolerance budget).is v may) ∙ e))
+      ap (λ (w : Counted Burst). w.found) (given_same _ _ (sym (((answers c m h).burst_is mask sample gap tolerance budget).is v may) ∙ e))
   said mask (mill grant sample) gap tolerance budget o (v, read, may, e) =
       shown_one (origin_of mark) (burst (at run) (length run) mask (place_at (origin_of mark) sample) gap tolerance budget) o
       (moved_to grant mask sample gap tolerance budget v (through (shown_burst (origin_of (c.trigger))) (record { found = o; steps = read })) may e ∙ ap (λ (x : Option ℕ). shown_burst (origin_of x) o) h.mark_is)
@@ -130,10 +130,10 @@ module _ (run : List ℕ) (mark : Option ℕ) (numbers : List ℕ) (m : Memory) 
   export_said mask (service sample) gap tolerance budget o (ends, read, size, v, may, e) =
       let w = burst_search (at run) (length run) mask sample gap tolerance budget in
       let z = ((exports_answer numbers m h).burst_is mask sample gap tolerance budget ends size read).is v may in
-      given_one (sym (read_back w.found w.steps ends) ∙ sym (ap (λ (x : Bursted). perhaps_in x.code (burst_in x.ends)) z) ∙ e)
+      given_same _ _ (sym (read_back w.found w.steps ends) ∙ sym (ap (λ (x : Bursted). perhaps_in x.code (burst_in x.ends)) z) ∙ e)
   export_said mask (mill grant sample) gap tolerance budget o (first, last, jumps, read, size, v, may, e) =
       shown_one (origin_of mark) (burst (at run) (length run) mask (place_at (origin_of mark) sample) gap tolerance budget) o
-      (export_moved_to grant mask sample gap tolerance budget first last jumps size read v (shown_burst (origin_of (mark_in numbers)) o) may e ∙ ap (λ (x : Option ℕ). shown_burst (origin_of x) o) (sym (mark_held numbers) ∙ h.mark_is))
+      (export_moved_to grant mask sample gap tolerance budget first last jumps size read v (shown_burst (origin_of (mark_in numbers)) o) may e ∙ ap (λ (x : Option ℕ). shown_burst (origin_of x) o) h.mark_is)
 
   export_says : (mask : ℕ) (q : Asker) (gap tolerance budget : ℕ) → Unrefused mark mask q → (o : Option Burst) × ExportSays numbers m mask q gap tolerance budget o
   export_says mask (service sample) gap tolerance budget u =
@@ -156,7 +156,7 @@ module _ (run : List ℕ) (mark : Option ℕ) (numbers : List ℕ) (m : Memory) 
           a.allowed,
           ap (read_in (pos 0) (pos 0) jumps 0) (a.is a.answer a.allowed ∙ ap (λ (n : ℕ). written (pos 0) (pos 0) jumps 0 (unless n (through (shown_burst (origin_of mark)) w))) u)
               ∙ mill_read_back (pos 0) (pos 0) jumps 0 (shown_burst (origin_of mark) w.found) w.steps
-              ∙ ap (λ (x : Option ℕ). given (shown_burst (origin_of x) w.found)) (sym h.mark_is ∙ mark_held numbers),
+              ∙ ap (λ (x : Option ℕ). given (shown_burst (origin_of x) w.found)) (sym h.mark_is),
         ),
       )
 

@@ -2,17 +2,19 @@
 -- `BurstsMeet` and `ListsOnce` (rules.specs.Bursts) say what is promised; here stands who promises it. That each "below the budget" is needed, rules.proofs.BorderBursts computes.
 -- No range is asked of masks, grants, places, gaps, tolerances and budgets.
 use Rattle.std.specs.Prelude.{◌≡◌, List, ℕ, ◌≤◌, ℤ, length, get_or}
-use Rattle.std.specs.Prelude.{Option, None}
+use Rattle.std.specs.Prelude.{Option, None, Result}
 use Rattle.rules.specs.Answer.{given}
 use Rattle.rules.specs.Walk.{Counted, through}
 use Rattle.rules.specs.Burst.{Burst, most_place, burst}
 use Rattle.rules.specs.Bursts.{BurstsMeet, ListsOnce}
 use Rattle.rules.specs.Refusal.{first_of}
 use Rattle.rules.specs.Mill.{MillBurst, origin_of, place_at, shown_burst, mill_search_rows}
+use Rattle.answer.specs.declared.Refusal.{Refusal}
+use Rattle.answer.specs.declared.Counted as told
 use Rattle.capture.specs.declared.Capture.{Capture}
-use Rattle.burst.specs.declared.Bursts.{Bursts}
+use Rattle.burst.specs.declared.Burst as call
 use Rattle.burst.specs.Answer.{burst_as}
-use Rattle.mill_search.specs.declared.Bursts as mill-answer
+use Rattle.mill_search.specs.declared.Burst as mill-call
 use Rattle.mill_search.specs.Answer as mill-told
 use Rattle.codes.specs.Code.{perhaps_in}
 use Rattle.codes.specs.Record.{capture_in}
@@ -49,9 +51,9 @@ Unrefused mark mask (mill grant sample) = first_of (mill_search_rows grant mask 
 -- ---- the calls: they may answer so, whatever was read. A mill is told the run's burst with its places moved by the mark
 abbrev pub Says : Capture → Memory → ℕ → Asker → ℕ → ℕ → ℕ → Option Burst → Type 0
 Says c m mask (service sample) gap tolerance budget o =
-    (v : Bursts) × (read : ℕ) × MayBurst c m mask sample gap tolerance budget v × (burst_as v ≡ given (record { found = o; steps = read }))
+    (v : Result (told.Counted call.Burst) Refusal) × (read : ℕ) × MayBurst c m mask sample gap tolerance budget v × (burst_as v ≡ given (record { found = o; steps = read }))
 Says c m mask (mill grant sample) gap tolerance budget o =
-    (v : mill-answer.Bursts) × (read : ℕ) × mills.MayBurst c m grant mask sample gap tolerance budget v
+    (v : Result (told.Counted mill-call.Burst) Refusal) × (read : ℕ) × mills.MayBurst c m grant mask sample gap tolerance budget v
     × (mill-told.burst_as v ≡ given (through (shown_burst (origin_of (c.trigger))) (record { found = o; steps = read })))
 
 -- ---- the exports: what stands behind the pointers, read back
@@ -81,7 +83,7 @@ pub record BurstsThatMeet : Type 0 where
   pub may : (run : List ℕ) (mark : Option ℕ) (c : Capture) (m : Memory) → Held run mark c m → (mask : ℕ) (q : Asker) (gap tolerance budget : ℕ) → Unrefused mark mask q
       → (o : Option Burst) × Says c m mask q gap tolerance budget o
   -- and whatever a mill is told, unless it is refused, is a burst of the run with its places moved, or none
-  pub moved : (run : List ℕ) (mark : Option ℕ) (c : Capture) (m : Memory) → Held run mark c m → (grant mask : ℕ) (sample : ℤ) (gap tolerance budget : ℕ) (v : mill-answer.Bursts) (w : Counted MillBurst)
+  pub moved : (run : List ℕ) (mark : Option ℕ) (c : Capture) (m : Memory) → Held run mark c m → (grant mask : ℕ) (sample : ℤ) (gap tolerance budget : ℕ) (v : Result (told.Counted mill-call.Burst) Refusal) (w : Counted MillBurst)
       → mills.MayBurst c m grant mask sample gap tolerance budget v → mill-told.burst_as v ≡ given w → (o : Option Burst) × (w.found ≡ shown_burst (origin_of mark) o)
   -- so after every list of pushes and of appends
   pub recorded : (r : recordings.Recording) → Promised (at (recordings.run r)) (length (recordings.run r)) (place_of (recordings.mark r)) (Says (recordings.store r) r.memory.store)
