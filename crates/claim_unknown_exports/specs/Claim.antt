@@ -1,7 +1,6 @@
 -- Searches across unknown stretches over the exports, to be held beside include/logic_core.h: `Searches` (claim_unknown) says what is promised. 02: CR 9.
 -- A capture is its record's five numbers and its memory. No range is asked of list, mask and place, nor of what stands behind the out pointer.
-use Rattle.std.specs.Prelude.{◌≡◌, Bool, true, false, List, ℕ}
-use Rattle.std.specs.Prelude.{Option, None}
+use Rattle.std.specs.Prelude.{◌≡◌, Bool, true, false, List, ℕ, Option, None}
 use contract.Lifetimes.{Lfts}
 use denote.Ref.{at_last}
 use Rattle.rules.specs.Answer.{Answer}
@@ -12,8 +11,8 @@ use Rattle.logic_core.proofs.unknown_stretches.lc_next_certain.Reads as lc-next-
 use Rattle.logic_core.proofs.unknown_stretches.lc_prev_certain.Reads as lc-prev-certain
 use Rattle.logic_core.proofs.unknown_stretches.lc_next_possible.Reads as lc-next-possible
 use Rattle.logic_core.proofs.unknown_stretches.lc_prev_possible.Reads as lc-prev-possible
-use Rattle.claim_captures.specs.Words.{Memory, Ref, Places, lending, shown_at}
-use Rattle.claim_exports.specs.Questions.{One, LookAlike}
+use Rattle.claim_captures.specs.Words.{Memory, Ref, Places, shown_at}
+use Rattle.claim_exports.specs.Questions.{One, lending, LookAlike}
 use Rattle.claim_exports.specs.Claim.{Recording, run, mark, asked}
 use Rattle.claim_exports.specs.Filled.{Filling, stored}
 use Rattle.claim_unknown.specs.Searches.{Searches, SalvagedSearched, MadeAlike}
