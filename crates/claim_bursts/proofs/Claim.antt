@@ -101,7 +101,7 @@ module _ (run : List ℕ) (mark : Option ℕ) (c : Capture) (m : Memory) (h : He
       ap (λ (w : Counted Burst). w.found) (given_same _ _ (sym (((answers c m h).burst_is mask sample gap tolerance budget).is v may) ∙ e))
   said mask (mill grant sample) gap tolerance budget o (v, read, may, e) =
       shown_one (origin_of mark) (burst (at run) (length run) mask (place_at (origin_of mark) sample) gap tolerance budget) o
-      (moved_to grant mask sample gap tolerance budget v (through (shown_burst (origin_of (c.trigger))) (record { found = o; steps = read })) may e ∙ ap (λ (x : Option ℕ). shown_burst (origin_of x) o) h.mark_is)
+      (moved_to grant mask sample gap tolerance budget v (through (shown_burst (origin_of c.trigger)) (record { found = o; steps = read })) may e ∙ ap (λ (x : Option ℕ). shown_burst (origin_of x) o) h.mark_is)
 
   says : (mask : ℕ) (q : Asker) (gap tolerance budget : ℕ) → Unrefused mark mask q → (o : Option Burst) × Says c m mask q gap tolerance budget o
   says mask (service sample) gap tolerance budget u =

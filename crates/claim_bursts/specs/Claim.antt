@@ -1,8 +1,7 @@
 -- Bursts that meet, to be held beside document 02 and include/logic_core.h: of the rule, and of what burst_at and a mill's burst_at, lc_burst_at and lc_mill_burst_at answer. 02: CR 13.
 -- `BurstsMeet` and `ListsOnce` (rules.specs.Bursts) say what is promised; here stands who promises it. That each "below the budget" is needed, rules.proofs.BorderBursts computes.
 -- No range is asked of masks, grants, places, gaps, tolerances and budgets.
-use Rattle.std.specs.Prelude.{◌≡◌, List, ℕ, ◌≤◌, ℤ, length, get_or}
-use Rattle.std.specs.Prelude.{Option, None, Result}
+use Rattle.std.specs.Prelude.{◌≡◌, List, ℕ, ◌≤◌, ℤ, length, get_or, Option, None, Result}
 use Rattle.rules.specs.Answer.{given}
 use Rattle.rules.specs.Walk.{Counted, through}
 use Rattle.rules.specs.Burst.{Burst, most_place, burst}
@@ -54,7 +53,7 @@ Says c m mask (service sample) gap tolerance budget o =
     (v : Result (told.Counted call.Burst) Refusal) × (read : ℕ) × MayBurst c m mask sample gap tolerance budget v × (burst_as v ≡ given (record { found = o; steps = read }))
 Says c m mask (mill grant sample) gap tolerance budget o =
     (v : Result (told.Counted mill-call.Burst) Refusal) × (read : ℕ) × mills.MayBurst c m grant mask sample gap tolerance budget v
-    × (mill-told.burst_as v ≡ given (through (shown_burst (origin_of (c.trigger))) (record { found = o; steps = read })))
+    × (mill-told.burst_as v ≡ given (through (shown_burst (origin_of c.trigger)) (record { found = o; steps = read })))
 
 -- ---- the exports: what stands behind the pointers, read back
 -- first, last, the jumps at the end and at the start

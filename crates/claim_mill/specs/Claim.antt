@@ -1,8 +1,7 @@
 -- CR 1: what a mill's reader is told of a capture with right levels, a recording for one, and that it learns nothing of lines not granted.
 -- The claim speaks of the calls' own contracts, as that of `claim_captures` does: `Post` of a call's generated `Reads` is what its `ensures` says.
 -- No range is asked of grant, masks, places and counts.
-use Rattle.std.specs.Prelude.{◌≡◌, List, ℕ, ℤ, length}
-use Rattle.std.specs.Prelude.{Option, Result}
+use Rattle.std.specs.Prelude.{◌≡◌, List, ℕ, ℤ, length, Option, Result}
 use Rattle.std.specs.Int.Bits.{bit_and}
 use contract.Lifetimes.{Lfts}
 use denote.Ref.{at_last}

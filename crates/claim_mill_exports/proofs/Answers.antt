@@ -271,7 +271,7 @@ module _ {run : List ℕ} {mark : Option ℕ} (numbers : List ℕ) (m : Memory) 
     abbrev row : (ℕ → ℕ) → Option ℕ → ℕ → List ℕ
     row f x n = cut_pixels grant (row_by (node_of f) (range_from (origin_of x) (view_of start spp) n) 0 width)
 
-    drawn_only : (v : Drawn) → DrawsOut c m.samples (levels m) grant start spp width output v.code v.output → v ≡ drawn (unless draw_refusal_lem (row t (c.trigger) c.len)) width output
+    drawn_only : (v : Drawn) → DrawsOut c m.samples (levels m) grant start spp width output v.code v.output → v ≡ drawn (unless draw_refusal_lem (row t c.trigger c.len)) width output
     drawn_only v out = go draw_refusal_lem refl
       where
         r : (r : Result Unit Refusal) × (drawn_of r ≡ unless draw_refusal_lem tt)
@@ -281,10 +281,10 @@ module _ {run : List ℕ} {mark : Option ℕ} (numbers : List ℕ) (m : Memory) 
         call : MillDraws (memory.summed (levels m) t) (store_of c) lent grant (view_of start spp) width output r.0 v.output
         call = record { answer_is = r.1; output_is = out.output_is }
 
-        go : (n : ℕ) → draw_refusal_lem ≡ n → v ≡ drawn (unless n (row t (c.trigger) c.len)) width output
+        go : (n : ℕ) → draw_refusal_lem ≡ n → v ≡ drawn (unless n (row t c.trigger c.len)) width output
         go zero e = λ i. record { code = (out.code_is ∙ e) i; output = drawn_row i }
           where
-            drawn_row : v.output ≡ row t (c.trigger) c.len ++ drop (2 * width) output
+            drawn_row : v.output ≡ row t c.trigger c.len ++ drop (2 * width) output
             drawn_row = render_row ([], ([], tt)) c (shown somewhere m) grant view width (at_last anywhere output) r.0 v.output call (right c m h) e
         go (suc n) e = λ i. record { code = (out.code_is ∙ e) i; output = same i }
           where

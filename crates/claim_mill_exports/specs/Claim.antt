@@ -1,8 +1,7 @@
 -- CR 1 over the exports: what lc_mill_* tell a mill of a recording, and that it learns nothing of lines not granted; to be held beside include/logic_core.h.
 -- A capture is its record's five numbers and its memory. `Post` of an export's generated `Reads` is what its `ensures` says of the arguments, the code, and what stands behind its pointers
 -- afterwards. No range is asked of grant, masks, places and counts.
-use Rattle.std.specs.Prelude.{◌≡◌, cond, List, [], ◌∷◌, ℕ, Float, ℤ, length}
-use Rattle.std.specs.Prelude.{Option, None, Some}
+use Rattle.std.specs.Prelude.{◌≡◌, cond, List, [], ◌∷◌, ℕ, Float, ℤ, length, Option, None, Some}
 use Rattle.std.specs.Int.Bits.{bit_and}
 use contract.Lifetimes.{Lfts}
 use denote.Ref.{at_last}
