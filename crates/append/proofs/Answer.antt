@@ -1,6 +1,6 @@
 -- Laws of the answer: which row refuses, and the record of equations in each case.
 use Prim.Native.Nat.{ℕ, ◌+◌, ◌*◌, ◌≤◌, ◌<◌}
-use mathlib.Core.Path.{◌≡◌, refl, sym, ap, subst⁻¹}
+use mathlib.Core.Path.{◌≡◌, refl, sym, ap, ◌∙◌, subst⁻¹}
 use mathlib.Core.Bool.{Bool, false, cond}
 use mathlib.Core.List.{List, [], ◌∷◌}
 use mathlib.Core.Logic.{◌↔◌}
@@ -17,7 +17,8 @@ use Rattle.store.specs.Room.{AppendRoom}
 use Rattle.store.proofs.Fits.{sound_room}
 use Rattle.store.proofs.Stored.{stored_none}
 use Rattle.capture.specs.declared.Capture.{Capture}
-use Rattle.capture.specs.Record.{store_of, lent_of}
+use Rattle.node.specs.declared.Memory.{Memory}
+use Rattle.capture.specs.Record.{store_of, lent_of, lent_in}
 use Rattle.capture.proofs.Answer.{rows_refuse, rows_decide}
 use Rattle.std.specs.Prelude.{Ok, Err}
 use Rattle.answer.specs.declared.Refusal.{Refusal}
@@ -31,6 +32,10 @@ whole_bytes unit bytes = div-mul-le_self (length bytes) unit
 -- the row of an append alone
 abbrev row_8 : Capture → List ℕ → List Row
 row_8 c b = record { number = 8; holds = ltb c.capacity (c.len + sample_count c.unitsize b) } ∷ []
+
+-- what rows 1 and 2 say of memory, known to be this
+pub rows_of : (c : Capture) {n : ℕ} {m m' : Memory} → n ≡ store_refusal (store_of c) (lent_in m) → m ≡ m' → n ≡ store_refusal (store_of c) (lent_in m')
+rows_of c e p = e ∙ ap (λ (m : Memory). store_refusal (store_of c) (lent_in m)) p
 
 module _ (c : Capture) (b s : List ℕ) (lv : ℕ → List ℕ) where
   pub room_of : Sound (store_of c) (lent_of s lv) → c.len + sample_count c.unitsize b ≤ c.capacity → AppendRoom c.unitsize c.len (sample_count c.unitsize b) (length s) lv (length b)

@@ -2,34 +2,14 @@
 #![tactic(auto)]
 
 ghost use Rattle.std.specs.Prelude.{◌≡◌};
-ghost use Rattle.rules.specs.Refusal.{store_refusal};
-ghost use Rattle.answer.specs.Answered.{refusal_of};
 ghost use Rattle.node.specs.Memory.{level_of};
-ghost use Rattle.capture.specs.Record.{store_of, lent_of};
 ghost use Rattle.append.specs.Append.{Appends};
 
 use answer::Refusal;
 use capture::Capture;
 use lines::Mask;
-use node::{Levels, Memory};
+use memory::lent;
 use store::append_samples;
-
-// Rows 1 and 2. The slices are lent together here: a `Memory` in `append` itself would be of five lifetimes.
-fn check<'a>(
-    c: Capture,
-    samples: &'a [u8],
-    l1: &'a [Mask],
-    l2: &'a [Mask],
-    l3: &'a [Mask],
-    l4: &'a [Mask],
-) -> Result<(), Refusal>
-    ensures { refusal_of result ≡ store_refusal (store_of c) (lent_of samples.now (level_of l1.now l2.now l3.now l4.now)) }
-{
-    c.check(&Memory {
-        samples,
-        levels: Levels { l1, l2, l3, l4 },
-    })
-}
 
 // 01's append: whole samples of the bytes join the capture, a leftover byte is dropped; refuses with 1, 2 and 8.
 // What the contract means is in proofs/Theorems.antt: right_stays (right levels stay right), made_anew (from the level below), old_stay and new_follow (the samples),
@@ -45,7 +25,7 @@ pub fn append(
 ) -> Result<Capture, Refusal>
     ensures { Appends c bytes.now samples.old (level_of l1.old l2.old l3.old l4.old) result samples.new (level_of l1.new l2.new l3.new l4.new) }
 {
-    check(c, &samples[..], &l1[..], &l2[..], &l3[..], &l4[..])?;
+    c.check(&lent(&samples[..], &l1[..], &l2[..], &l3[..], &l4[..]))?;
     let n = bytes.len() / c.unitsize;
     if c.capacity - c.len < n {
         return Err(Refusal::Full);

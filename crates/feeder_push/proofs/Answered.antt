@@ -28,7 +28,8 @@ use Rattle.feeder_run.specs.Run.{RunRoom, Takes}
 use Rattle.feeder_lists.specs.Bytes.{units}
 use Rattle.feeder_lists.specs.Push.{store_bytes, firing_bytes, taken_bytes, push_bytes, left_by}
 use Rattle.feeder_lists.proofs.Left.{left_is}
-use Rattle.capture.specs.Record.{lent_of}
+use Rattle.node.specs.declared.Memory.{Memory}
+use Rattle.capture.specs.Record.{lent_of, lent_in}
 use Rattle.feeder.specs.declared.Feeder.{Feeder}
 use Rattle.feeder.specs.Record.{armed_as, recorder_of}
 use Rattle.feeder.proofs.Rows.{recorder_sound}
@@ -41,6 +42,10 @@ use Rattle.feeder_push.proofs.Left.{stores_is}
 -- of the ring nothing, and all of the push
 nothing_kept : (u pre : ℕ) (g : List ℕ) (place : ℕ) (b : List ℕ) → kept_bytes u pre g place 0 ++ drop (0 * u) b ≡ b
 nothing_kept u pre g place b = rw (zero-sub place, zero-mul u, zero-min place, zero-mul u) refl
+
+-- what rows 1 and 2 say of memory, known to be this
+pub rows_of : (f : Feeder) (g : List ℕ) {n : ℕ} {m m' : Memory} → n ≡ recorder_refusal (recorder_of f) (lent_in m) (length g) → m ≡ m' → n ≡ recorder_refusal (recorder_of f) (lent_in m') (length g)
+rows_of f g e p = e ∙ ap (λ (m : Memory). recorder_refusal (recorder_of f) (lent_in m) (length g)) p
 
 module _ (f : Feeder) (s : List ℕ) (lv : ℕ → List ℕ) (g b : List ℕ) where
   abbrev c : Recorder

@@ -23,32 +23,13 @@ use feeder_run::store_run;
 use feeder_scan::samples::Samples;
 use feeder_scan::{first_fire, last_sample};
 use lines::Mask;
-use node::{Levels, Memory};
+use memory::lent;
 
 // The record after a push: the recording goes on, or is complete. After a refusal it is as it was given.
 #[derive(Clone, Copy)]
 pub enum Pushed {
     GoingOn(Feeder),
     Complete(Feeder),
-}
-
-// Rows 1 and 2. The slices are lent together here: a `Memory` in `push` itself would be of five lifetimes.
-fn check<'a>(
-    f: &Feeder,
-    samples: &'a [u8],
-    l1: &'a [Mask],
-    l2: &'a [Mask],
-    l3: &'a [Mask],
-    l4: &'a [Mask],
-    ring: &[u8],
-) -> Result<(), Refusal>
-    ensures { refusal_of result ≡ recorder_refusal (recorder_of f.now) (lent_of samples.now (level_of l1.now l2.now l3.now l4.now)) (length ring.now) }
-{
-    let memory = Memory {
-        samples,
-        levels: Levels { l1, l2, l3, l4 },
-    };
-    f.check(&memory, ring)
 }
 
 // 01's push: refused with 1, 2 or 8 and everything as it was given, or the samples go to the ring or to the store.
@@ -64,13 +45,8 @@ pub fn push(
 ) -> Result<Pushed, Refusal>
     ensures { Pushes f bytes.now samples.old (level_of l1.old l2.old l3.old l4.old) ring.old result samples.new (level_of l1.new l2.new l3.new l4.new) ring.new }
 {
-    check(
-        &f,
-        &samples[..],
-        &l1[..],
-        &l2[..],
-        &l3[..],
-        &l4[..],
+    f.check(
+        &lent(&samples[..], &l1[..], &l2[..], &l3[..], &l4[..]),
         &ring[..],
     )?;
     let unitsize = f.capture.unitsize;

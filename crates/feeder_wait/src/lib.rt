@@ -14,7 +14,8 @@ use feeder_numbers::{masks_in, previous_in, recorder};
 use feeder_scan::samples::Samples;
 use feeder_scan::{any_level, fire_few};
 use lines::Mask;
-use node::{Levels, Memory};
+use memory::lent;
+use node::Memory;
 use number::MOST_SAMPLES;
 
 // Whether it waits with nothing stored, as start and push leave its numbers, and neither row 1 nor row 2 holds.
@@ -160,10 +161,7 @@ pub fn wait_short<'a>(
 ) -> bool
     ensures { ShortAfter result numbers.old (lent_of samples.now (level_of l1.now l2.now l3.now l4.now)) ring.old bytes.now numbers.new ring.new }
 {
-    let memory = Memory {
-        samples,
-        levels: Levels { l1, l2, l3, l4 },
-    };
+    let memory = lent(samples, l1, l2, l3, l4);
     if !waits(&*numbers, &memory, ring.len()) {
         return false;
     }

@@ -23,24 +23,8 @@ ghost use Rattle.logic_core.specs.Asked.{needed_for, started_for, got_for, summe
 
 use codes::capture_in;
 use lines::Mask;
-use node::{Levels, Memory};
+use memory::lent;
 use pixel::View;
-
-// What is lent to be read, slice by slice as C lends it, as one value.
-fn lent<'a>(
-    samples: &'a [u8],
-    l1: &'a [Mask],
-    l2: &'a [Mask],
-    l3: &'a [Mask],
-    l4: &'a [Mask],
-) -> Memory<'a>
-    ensures { result ≡ record { samples = samples.entry; levels = record { l1 = l1.entry; l2 = l2.entry; l3 = l3.entry; l4 = l4.entry } } }
-{
-    Memory {
-        samples,
-        levels: Levels { l1, l2, l3, l4 },
-    }
-}
 
 // How much memory a store needs: bytes of samples, and numbers of the levels 1 to 4. Refuses with 1.
 pub fn lc_needs(channels: usize, capacity: usize, sizes: &mut [usize; 5]) -> u32

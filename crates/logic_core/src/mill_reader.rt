@@ -10,9 +10,9 @@ ghost use Rattle.codes.specs.Turned.{TurnsOut};
 ghost use Rattle.mill_codes.specs.Written.{first_place, end_place, marked_number, place, BurstOut};
 ghost use Rattle.logic_core.specs.Mill.{bounded_for, got_for, shown_for, CopiesOut, DrawsOut};
 
-use crate::lent;
 use codes::capture_in;
 use lines::Mask;
+use memory::lent;
 use pixel::View;
 
 // The places that the run has, from first on and below end, and whether place 0 is a mark. Refuses with 1 and 2.

@@ -6,8 +6,8 @@ ghost use Rattle.codes.specs.Code.{plain, Out};
 ghost use Rattle.feeder_codes.specs.Recorder.{begun_numbers, cut_number};
 ghost use Rattle.logic_core.specs.Recorder.{begun_for, PushesOut};
 
-use crate::lent;
 use lines::Mask;
+use memory::lent;
 
 // 01's start of a recorder. Terms are two bytes each. Refuses with 1 to 7.
 #[tactic(auto, using(feeder::proofs::Begun::start_rule_lem))]

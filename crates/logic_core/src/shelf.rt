@@ -7,9 +7,9 @@ ghost use Rattle.codes.specs.Code.{plain, Out};
 ghost use Rattle.shelf_codes.specs.Said.{said_numbers};
 ghost use Rattle.logic_core.specs.Files.{WritesOut, ReadsOut, SalvagesOut};
 
-use crate::lent;
 use codes::capture_in;
 use lines::Mask;
+use memory::lent;
 
 // How long a capture's file is, in bytes. Refuses with 1.
 pub fn lc_file_len(numbers: &[usize; 5], len: &mut usize) -> u32

@@ -6,9 +6,9 @@ ghost use Rattle.codes.specs.Record.{capture_in, number};
 ghost use Rattle.codes.specs.Code.{perhaps, Out};
 ghost use Rattle.unknown.specs.Answer.{certain_of, possible_of};
 
-use crate::lent;
 use codes::capture_in;
 use lines::Mask;
+use memory::lent;
 
 // The next certain change after a place, or 100 where there is none. Refuses with 1, 2 and 18.
 pub fn lc_next_certain<'a>(

@@ -1,18 +1,12 @@
 // Numbers that crates share.
 #![tactic(auto)]
 
-ghost use Rattle.std.specs.Prelude.{◌≡◌, ◌<◌, ◌^◌, min};
+ghost use Rattle.std.specs.Prelude.{◌≡◌, ◌<◌, ◌^◌};
 ghost use Rattle.std.proofs.Math.IntN.{sub_ℕ};
 ghost use Rattle.std.specs.Int.Signed.{mag};
 
 // 01: the largest capacity of a store, and the most bytes that seconds keep before a trigger.
 pub const MOST_SAMPLES: usize = 67108864;
-
-pub fn lesser(a: usize, b: usize) -> usize
-    ensures { result ≡ min a b }
-{
-    a.min(b)
-}
 
 // How far p is from 0 or, where it is negative, from −1: the smallest number has no opposite.
 pub fn magnitude(p: i64) -> usize

@@ -19,12 +19,13 @@ use Rattle.store.specs.Stored.{LevelsAfter, Stored}
 use Rattle.store.proofs.Fits.{sound_room}
 use Rattle.store.proofs.Stored.{stored_none}
 use Rattle.capture.specs.declared.Capture.{Capture}
-use Rattle.capture.specs.Record.{store_of, lent_of}
+use Rattle.node.specs.declared.Memory.{Memory}
+use Rattle.capture.specs.Record.{store_of, lent_of, lent_in}
 use Rattle.std.specs.Prelude.{Ok, Err}
 use Rattle.answer.specs.declared.Refusal.{Refusal}
 use Rattle.answer.specs.Answered.{number}
 use Rattle.answer.proofs.Answered.{number_least}
-use Rattle.rules.specs.Answer.{refused, given, unless}
+use Rattle.rules.specs.Answer.{Answer, refused, given, unless}
 use Rattle.capture.proofs.Answer.{unless_given}
 use Rattle.capture.proofs.Calls.{unrefused_none, unrefused_all}
 use Rattle.shelf_read.specs.Read.{room_refusal, TakeRoom, bytes_behind, Reads}
@@ -47,6 +48,11 @@ pub stored_taken : (unit len : ℕ) (file s s' : List ℕ) (lv lv' : ℕ → Lis
     → LevelsAfter unit 0 len s' lv lv' → Stored unit 0 len (bytes_behind (len * unit) file) s lv s' lv'
 stored_taken unit len file s s' lv lv' e d =
     stored_front unit len (bytes_behind (len * unit) file) s s' lv lv' (e ∙ ap (λ (l : List ℕ). paste s 0 (take (len * unit) (payloads (blocks_for (len * unit)) l)) (len * unit)) (behind file)) d
+
+-- what row 15 says of memory, known to be this
+pub row_of : (capacity : ℕ) (h : Heading) {a : Answer Store} {m m' : Memory}
+    → a ≡ unless (room_refusal capacity (lent_in m) h) (store_in capacity h) → m ≡ m' → a ≡ unless (room_refusal capacity (lent_in m') h) (store_in capacity h)
+row_of capacity h e p = e ∙ ap (λ (m : Memory). unless (room_refusal capacity (lent_in m) h) (store_in capacity h)) p
 
 -- a new store has room for what a file says
 module _ {capacity : ℕ} (samples : List ℕ) {levels : ℕ → List ℕ} {h : Heading} (r : Headed h) (least : 1 ≤ capacity) (most : capacity ≤ most_samples) (holds : h.len ≤ capacity)

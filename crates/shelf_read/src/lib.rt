@@ -10,14 +10,15 @@ ghost use Rattle.rules.specs.ShelfCalls.{capacity_wrong, store_in};
 ghost use Rattle.answer.specs.Answered.{answer_of};
 ghost use Rattle.store.specs.Stored.{Stored};
 ghost use Rattle.node.specs.Memory.{level_of};
-ghost use Rattle.capture.specs.Record.{store_of, lent_of};
+ghost use Rattle.capture.specs.Record.{store_of, lent_in};
 ghost use Rattle.shelf_head.specs.Head.{BlocksRoom};
 ghost use Rattle.shelf_read.specs.Read.{room_refusal, TakeRoom, bytes_behind, Reads};
 
 use answer::Refusal;
 use capture::Capture;
 use lines::Mask;
-use node::{Levels, Memory};
+use memory::lent;
+use node::Memory;
 use number::MOST_SAMPLES;
 use shelf_block::{BLOCK, PAYLOAD, PAYLOAD_AT, good};
 use shelf_head::{blocks_for, file_size, head_good, heading_in};
@@ -72,19 +73,10 @@ pub fn capacity_wrong(capacity: usize) -> bool
 }
 
 // The record of a new store for what block 0 of a file says, or 15 where no store of this capacity and memory holds that.
-// The memory's parts come one by one: a struct of what is lent anew from a `&mut` gets no proof in the caller.
 #[tactic(auto, using(shelf_head::proofs::Head::head_room, rules::proofs::ShelfHead::heading_headed))]
-pub fn new_store<'a>(
-    capacity: usize,
-    file: &[u8],
-    samples: &'a [u8],
-    l1: &'a [Mask],
-    l2: &'a [Mask],
-    l3: &'a [Mask],
-    l4: &'a [Mask],
-) -> Result<Capture, Refusal>
+pub fn new_store(capacity: usize, file: &[u8], memory: &Memory<'_>) -> Result<Capture, Refusal>
     requires { (capacity ≤ most_samples) × (head_test file.now ≡ true) }
-    ensures { answer_of store_of result ≡ unless (room_refusal capacity (lent_of samples.now (level_of l1.now l2.now l3.now l4.now)) (heading_in file.now)) (store_in capacity (heading_in file.now)) }
+    ensures { answer_of store_of result ≡ unless (room_refusal capacity (lent_in memory.now) (heading_in file.now)) (store_in capacity (heading_in file.now)) }
 {
     let h = heading_in(file);
     let c = Capture {
@@ -93,11 +85,7 @@ pub fn new_store<'a>(
         len: h.len,
         trigger: h.trigger,
     };
-    let memory = Memory {
-        samples,
-        levels: Levels { l1, l2, l3, l4 },
-    };
-    if capacity < h.len || c.is_short(&memory) {
+    if capacity < h.len || c.is_short(memory) {
         return Err(Refusal::Room);
     }
     Ok(c)
@@ -139,15 +127,8 @@ pub fn read(
     if !file_good(file) {
         return Err(Refusal::File);
     }
-    let c = new_store(
-        capacity,
-        file,
-        &samples[..],
-        &l1[..],
-        &l2[..],
-        &l3[..],
-        &l4[..],
-    )?;
+    let memory = lent(&samples[..], &l1[..], &l2[..], &l3[..], &l4[..]);
+    let c = new_store(capacity, file, &memory)?;
     take_samples(c, file, samples, l1, l2, l3, l4);
     Ok(c)
 }

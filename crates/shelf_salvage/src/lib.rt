@@ -16,6 +16,7 @@ ghost use Rattle.shelf_salvage.specs.Salvage.{Gathers, blanked, BlankRoom, Opene
 use answer::Refusal;
 use capture::Capture;
 use lines::Mask;
+use memory::lent;
 use shelf_block::{BLOCK, PAYLOAD};
 use shelf_head::{blocks_for, head_good};
 use shelf_read::{capacity_wrong, gather, new_store};
@@ -98,15 +99,8 @@ pub fn salvage(
     if !head_good(file) {
         return Err(Refusal::Head);
     }
-    let c = new_store(
-        capacity,
-        file,
-        &samples[..],
-        &l1[..],
-        &l2[..],
-        &l3[..],
-        &l4[..],
-    )?;
+    let memory = lent(&samples[..], &l1[..], &l2[..], &l3[..], &l4[..]);
+    let c = new_store(capacity, file, &memory)?;
     let Some(found) = find(stretches, file) else {
         return Err(Refusal::Room);
     };
