@@ -34,13 +34,14 @@ module _ (c : Capture) (m : Memory) (bytes : List ℕ) where
   abbrev n : ℕ
   n = taken_of c m.samples (levels m) bytes
 
-  row : Told number
+  -- nothing refuses, or the number is its row's
+  pub append_told : Told number
   unfolding refusal_of
-  row = store_told (store_of c) (lent_of m.samples (levels m)) (room_row (store_of c) (sample_count c.unitsize bytes) ∷ []) ((Full, refl), tt)
+  append_told = store_told (store_of c) (lent_of m.samples (levels m)) (room_row (store_of c) (sample_count c.unitsize bytes) ∷ []) ((Full, refl), tt)
 
   -- the refusal of its row, or the record with the samples
   told : (v : Result Capture Refusal) × (told_of v ≡ unless number (grown c n)) × (answered.refusal_of v ≡ number) × (record_of c v ≡ grown c n)
-  told = go row
+  told = go append_told
     where
       go : Told number → (v : Result Capture Refusal) × (told_of v ≡ unless number (grown c n)) × (answered.refusal_of v ≡ number) × (record_of c v ≡ grown c n)
       go (inl z) = (Ok (grown c n), goes number (grown c n) (grown c n) z refl, sym z, refl)

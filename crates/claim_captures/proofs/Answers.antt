@@ -153,7 +153,7 @@ module _ {run : List ℕ} {mark : Option ℕ} (c : Capture) (m : Memory) (h : He
   answered told some rule-of over_memory below = allowing told some (λ v e. over_memory v e ∙ asked_run (λ x n. []) (λ f x n. rule-of f n) (λ z. below))
 
   -- what a question may answer where its rows are those of refusals
-  may_answer : {X A : Type 0} (f : X → A) {a : A} → (x : X) × (f x ≡ a) → (rest : List Row) → AllKnown rest
+  pub may_answer : {X A : Type 0} (f : X → A) {a : A} → (x : X) × (f x ≡ a) → (rest : List Row) → AllKnown rest
       → (v : Result X Refusal) × (answer_of f v ≡ unless (first_of (store_rows (store_of c) lent rest)) a)
   may_answer f {a} x rest k = result_for f (first_of (store_rows (store_of c) lent rest)) x.0 a x.1 (store_told (store_of c) lent rest k)
 

@@ -30,6 +30,7 @@ use Rattle.claim_captures.proofs.Rows.{store_told}
 use Rattle.claim_captures.proofs.Answers.{anywhere, somewhere}
 use Rattle.claim_appends.specs.Claim as calls
 use Rattle.claim_appends.specs.Claim.Appending.{stop as called-stop, step as called-step}
+use Rattle.claim_appends.proofs.Existence.{append_told}
 use Rattle.claim_appends.proofs.Stored.{appends_stored}
 use Rattle.claim_captures.proofs.Turns.{replayed, reversed}
 use Rattle.claim_exports.specs.Questions.{SaysTurns}
@@ -66,13 +67,9 @@ module _ (numbers : List ℕ) (size : length numbers ≡ 5) (m : Memory) (bytes 
   out : AppendsOut c bytes m.samples (levels m) code numbers numbers' m'.samples (levels m')
   out = may.4
 
-  row : RowTold (refusal_of c m.samples (levels m) bytes)
-  unfolding refusal_of
-  row = store_told (store_of c) (lent_of m.samples (levels m)) (room_row (store_of c) (sample_count c.unitsize bytes) ∷ []) ((Full, refl), tt)
-
   -- the answer of the call under it
   told : (v : Result Capture Refusal) × Appends c bytes m.samples (levels m) v m'.samples (levels m')
-  told = go row
+  told = go (append_told c m bytes)
     where
       go : RowTold (refusal_of c m.samples (levels m) bytes) → (v : Result Capture Refusal) × Appends c bytes m.samples (levels m) v m'.samples (levels m')
       go (inl z) = (

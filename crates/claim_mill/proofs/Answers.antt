@@ -55,7 +55,7 @@ use Rattle.mill_render.proofs.Answers.{render_row}
 use Rattle.claim_captures.specs.Words.{Memory, levels, at, Answered, shown}
 use Rattle.claim_captures.specs.Claim.{samples_in, pixels_in, Held}
 use Rattle.claim_captures.proofs.Rows.{store_told, answer_seen}
-use Rattle.claim_captures.proofs.Answers.{found_for, turns_for, copied_list, copied_inside, anywhere, somewhere, allowing, agree, right, asked_run}
+use Rattle.claim_captures.proofs.Answers.{found_for, turns_for, copied_list, copied_inside, anywhere, somewhere, allowing, agree, right, asked_run, may_answer}
 use Rattle.claim_mill.specs.Claim.{MayExtent, MayGet, MaySamples, MaySummary, MayNext, MayPrevious, MayBurst, MayEncoder, MayRender, place, MillAnswers}
 
 -- ---- the code's value for each of the rules'
@@ -96,24 +96,19 @@ module _ {run : List ℕ} {mark : Option ℕ} (c : Capture) (m : Memory) (h : He
   abbrev ms : node.Memory
   ms = shown somewhere m
 
-  -- what a question may answer where its rows are those of refusals
-  may_answer : {X A : Type 0} (f : X → A) {a : A} → (x : X) × (f x ≡ a) → (rest : List Row) → AllKnown rest
-      → (v : Result X Refusal) × (answer_of f v ≡ unless (first_of (store_rows (store_of c) lent rest)) a)
-  may_answer f {a} x rest k = result_for f (first_of (store_rows (store_of c) lent rest)) x.0 a x.1 (store_told (store_of c) lent rest k)
-
   extent_is : Answered (MayExtent c m) bounded_of (given (extent_for mark (length run)))
   extent_is = allowing bounded_of (may_answer extent_as (bounds_for (extent_for k c.len)) [] tt) (λ v e. e ∙ asked_run c m h (λ x n. []) (λ f x n. extent_for x n) (λ z. refl))
 
   module _ (grant : ℕ) where
     get_is : (p : ℤ) → Answered (MayGet c m grant p) told_of (unless (first_of (mill_get_rows mark (length run) p)) (bit_and (at run (place mark p)) grant))
     get_is p =
-        allowing told_of (may_answer (λ v. v) (bit_and (t (place_at (origin_of k) p)) grant, refl) (mill_get_rows k c.len p) ((Before, refl), ((Place, refl), tt)))
+        allowing told_of (may_answer c m h (λ v. v) (bit_and (t (place_at (origin_of k) p)) grant, refl) (mill_get_rows k c.len p) ((Before, refl), ((Place, refl), tt)))
         (λ v e. e ∙ asked_run c m h (λ x n. mill_get_rows x n p) (λ f x n. bit_and (f (place_at (origin_of x) p)) grant) (λ z. ap (λ (v : ℕ). bit_and v grant) (agree c m h (place_at (origin_of k) p) (got_inside k c.len p z))))
 
     summary_is : (a b : ℤ) → Answered (MaySummary c m grant a b) shown_of (unless (first_of (mill_summary_rows mark a b)) (cut_summary grant (summary (at run) (length run) (place mark a) (place mark b))))
     summary_is a b =
         allowing shown_of
-        (may_answer (option_map as_lines) (lines_for (cut_summary grant (summary_of (levels m) t c.len (place_at (origin_of k) a) (place_at (origin_of k) b)))) (mill_summary_rows k a b) ((Before, refl), ((Before, refl), tt)))
+        (may_answer c m h (option_map as_lines) (lines_for (cut_summary grant (summary_of (levels m) t c.len (place_at (origin_of k) a) (place_at (origin_of k) b)))) (mill_summary_rows k a b) ((Before, refl), ((Before, refl), tt)))
         (λ v e. summary_right ([], tt) c ms grant a b v e (right c m h)
         ∙ asked_run c m h (λ x n. mill_summary_rows x a b) (λ f x n. cut_summary grant (summary f n (place_at (origin_of x) a) (place_at (origin_of x) b)))
         (λ z. ap (cut_summary grant) (summary_below t (at run) c.len (agree c m h) (place_at (origin_of k) a) (place_at (origin_of k) b))))
@@ -121,7 +116,7 @@ module _ {run : List ℕ} {mark : Option ℕ} (c : Capture) (m : Memory) (h : He
     -- a search's answer, unless 12 or 13 refuses
     may_find : {X A : Type 0} (f : X → A) {a : A} → (x : X) × (f x ≡ a) → (mask : ℕ) (p : ℤ)
         → (v : Result X Refusal) × (answer_of f v ≡ unless (first_of (store_rows (store_of c) lent (mill_search_rows grant mask k p))) a)
-    may_find f x mask p = may_answer f x (mill_search_rows grant mask k p) ((Grant, refl), ((Before, refl), tt))
+    may_find f x mask p = may_answer c m h f x (mill_search_rows grant mask k p) ((Grant, refl), ((Before, refl), tt))
 
     next_is : (mask : ℕ) (p : ℤ) → Answered (MayNext c m grant mask p) found_of (unless (first_of (mill_search_rows grant mask mark p)) (through (shown_place (origin_of mark)) (next_search (at run) (length run) mask (place mark p))))
     unfolding change_of
@@ -168,7 +163,7 @@ module _ {run : List ℕ} {mark : Option ℕ} (c : Capture) (m : Memory) (h : He
       samples_are : Answered (MaySamples c m grant p n output) samples_in
           (unless (first_of (mill_samples_rows mark (length run) p n (length output))) (list_from (cut_lines grant (at run)) (place mark p) (copied (length run) (place mark p) n)))
       samples_are =
-          let v = may_answer (λ v. v) (copied c.len i n, refl) (mill_samples_rows k c.len p n (length output)) ((Before, refl), ((Output, refl), tt)) in
+          let v = may_answer c m h (λ v. v) (copied c.len i n, refl) (mill_samples_rows k c.len p n (length output)) ((Before, refl), ((Output, refl), tt)) in
           record {
             is = λ v may.
                 answer_seen (λ k. take k v.output) copies_number (copied c.len i n) _ v.answer may.3.answer_is (copied_list (cut_lines grant t) i copies_number (copied c.len i n) output v.output may.3.output_is)
@@ -193,7 +188,7 @@ module _ {run : List ℕ} {mark : Option ℕ} (c : Capture) (m : Memory) (h : He
       render_is : Answered (MayRender c m grant view width output) (pixels_in width)
           (unless (first_of (view_rows (view_as view) width (length output))) (cut_pixels grant (row_by (node_of (at run)) (range_from (origin_of mark) (view_as view) (length run)) 0 width)))
       render_is =
-          let v = may_answer (λ v. v) (tt, refl) (view_rows (view_as view) width (length output)) ((View, refl), ((Output, refl), tt)) in
+          let v = may_answer c m h (λ v. v) (tt, refl) (view_rows (view_as view) width (length output)) ((View, refl), ((Output, refl), tt)) in
           record {
             is = λ v may.
                 answer_seen (λ _. take (2 * width) v.output) number tt (row t k c.len) v.answer may.3.answer_is

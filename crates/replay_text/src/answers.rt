@@ -1,4 +1,8 @@
 // The answer to a line, and whether it is the recorded one.
+ghost use Rattle.std.specs.Prelude.{◌≡◌, Err};
+ghost use Rattle.answer.specs.declared.Refusal.{Refusal};
+ghost use Rattle.answer.specs.Answered.{number};
+
 use crate::numbers::number;
 use answer::Refusal;
 use lines::Mask;
@@ -12,7 +16,9 @@ pub struct Answer {
     pub listed: usize,
 }
 
-pub fn refused(refusal: u8) -> Answer {
+pub fn refused(refusal: u8) -> Answer
+    ensures { (result.refusal ≡ refusal) × (result.count ≡ 0) }
+{
     Answer {
         refusal,
         count: 0,
@@ -85,6 +91,7 @@ pub fn agrees(line: &[u8], at: usize, a: Answer, output: &[Mask]) -> bool {
 // A refusal's number, or what is said of the value.
 pub fn told<T, F: FnOnce(T) -> Answer + Drop>(outcome: Result<T, Refusal>, say: F) -> Answer
     requires { F.IsAlwaysCallable say }
+    ensures { (r : Refusal) → outcome ≡ Err r → result.refusal ≡ number r }
 {
     match outcome {
         Ok(value) => say(value),
