@@ -74,7 +74,7 @@ pub fn capacity_wrong(capacity: usize) -> bool
 
 // The record of a new store for what block 0 of a file says, or 15 where no store of this capacity and memory holds that.
 #[tactic(auto, using(shelf_head::proofs::Head::head_room, rules::proofs::ShelfHead::heading_headed))]
-pub fn new_store(capacity: usize, file: &[u8], memory: &Memory<'_>) -> Result<Capture, Refusal>
+pub fn store_for(capacity: usize, file: &[u8], memory: &Memory<'_>) -> Result<Capture, Refusal>
     requires { (capacity ≤ most_samples) × (head_test file.now ≡ true) }
     ensures { answer_of store_of result ≡ unless (room_refusal capacity (lent_in memory.now) (heading_in file.now)) (store_in capacity (heading_in file.now)) }
 {
@@ -128,7 +128,7 @@ pub fn read(
         return Err(Refusal::File);
     }
     let memory = lent(&samples[..], &l1[..], &l2[..], &l3[..], &l4[..]);
-    let c = new_store(capacity, file, &memory)?;
+    let c = store_for(capacity, file, &memory)?;
     take_samples(c, file, samples, l1, l2, l3, l4);
     Ok(c)
 }

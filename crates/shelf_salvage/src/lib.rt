@@ -19,7 +19,7 @@ use lines::Mask;
 use memory::lent;
 use shelf_block::{BLOCK, PAYLOAD};
 use shelf_head::{blocks_for, head_good};
-use shelf_read::{capacity_wrong, gather, new_store};
+use shelf_read::{capacity_wrong, gather, store_for};
 use shelf_stretches::find;
 use store::rebuild_levels;
 
@@ -100,7 +100,7 @@ pub fn salvage(
         return Err(Refusal::Head);
     }
     let memory = lent(&samples[..], &l1[..], &l2[..], &l3[..], &l4[..]);
-    let c = new_store(capacity, file, &memory)?;
+    let c = store_for(capacity, file, &memory)?;
     let Some(found) = find(stretches, file) else {
         return Err(Refusal::Room);
     };

@@ -8,8 +8,8 @@ use Rattle.shelf_read.proofs.Tested.{capacity_right}
 use Rattle.shelf_read.proofs.Taken.{row_of, reads_short, takes, reads_done}
 use Rattle.shelf_read.proofs.read.Goals as goal
 
-pub new_store-requires : goal.new_store-requires
-new_store-requires c = ((capacity_right c.args.capacity (sym c.if-capacity_wrong.ensures)).1, (passed c.args.file.now (sym c.if-not-file_good.ensures)).0)
+pub store_for-requires : goal.store_for-requires
+store_for-requires c = ((capacity_right c.args.capacity (sym c.if-capacity_wrong.ensures)).1, (passed c.args.file.now (sym c.if-not-file_good.ensures)).0)
 
 pub returns-in_err-c : goal.returns-in_err-c
 returns-in_err-c c =
