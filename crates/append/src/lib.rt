@@ -11,6 +11,7 @@ use lines::Mask;
 use memory::lent;
 use store::append_samples;
 
+// Slices that are written to come one by one, as in `store`.
 // 01's append: whole samples of the bytes join the capture, a leftover byte is dropped; refuses with 1, 2 and 8.
 // What the contract means is in proofs/Theorems.antt: right_stays (right levels stay right), made_anew (from the level below), old_stay and new_follow (the samples),
 // lengths_stay, bytes_stay, nodes_stay and refused_leaves (all else stays), new_alone (what the written nodes depend on), pieces (in pieces as at once).

@@ -16,7 +16,8 @@ use changes::Changes;
 use lines::Mask;
 use node::Memory;
 
-// The first and last change of a burst, and the jumps made at its end and at its start.
+// The first and last change of a burst, and the jumps made at its end and at its start. A mill has a Burst of its own: places are numbers of another
+// kind there, and clauses say which.
 #[derive(Clone, Copy)]
 pub struct Burst {
     pub first: usize,

@@ -97,7 +97,7 @@ module _ {run : List ℕ} {mark : Option ℕ} (c : Capture) (m : Memory) (h : He
   ms = shown somewhere m
 
   extent_is : Answered (MayExtent c m) bounded_of (given (extent_for mark (length run)))
-  extent_is = allowing bounded_of (may_answer extent_as (bounds_for (extent_for k c.len)) [] tt) (λ v e. e ∙ asked_run c m h (λ x n. []) (λ f x n. extent_for x n) (λ z. refl))
+  extent_is = allowing bounded_of (may_answer c m h extent_as (bounds_for (extent_for k c.len)) [] tt) (λ v e. e ∙ asked_run c m h (λ x n. []) (λ f x n. extent_for x n) (λ z. refl))
 
   module _ (grant : ℕ) where
     get_is : (p : ℤ) → Answered (MayGet c m grant p) told_of (unless (first_of (mill_get_rows mark (length run) p)) (bit_and (at run (place mark p)) grant))
@@ -148,7 +148,7 @@ module _ {run : List ℕ} {mark : Option ℕ} (c : Capture) (m : Memory) (h : He
     encoder_is : (a b : ℕ) → Answered (MayEncoder c m grant a b) encoded_of (unless (first_of (mill_encoder_rows grant a b)) (encoder (at run) (length run) a b))
     unfolding encoder_of
     encoder_is a b =
-        allowing encoded_of (may_answer as_turns (turns_for (hops_of c.unitsize c.len m.samples (levels m) a b)) (mill_encoder_rows grant a b) ((Pair, refl), ((Grant, refl), tt)))
+        allowing encoded_of (may_answer c m h as_turns (turns_for (hops_of c.unitsize c.len m.samples (levels m) a b)) (mill_encoder_rows grant a b) ((Pair, refl), ((Grant, refl), tt)))
         (λ v e. encoder_right ([], tt) c ms grant a b v e (right c m h)
         ∙ asked_run c m h (λ x n. mill_encoder_rows grant a b) (λ f x n. encoder f n a b) (λ z. encoder_below t (at run) c.len (agree c m h) a b))
 

@@ -25,13 +25,14 @@ use feeder_scan::{first_fire, last_sample};
 use lines::Mask;
 use memory::lent;
 
-// The record after a push: the recording goes on, or is complete. After a refusal it is as it was given.
+// The record after a push: the recording goes on, or is complete.
 #[derive(Clone, Copy)]
 pub enum Pushed {
     GoingOn(Feeder),
     Complete(Feeder),
 }
 
+// Slices that are written to come one by one, as in `store`.
 // 01's push: refused with 1, 2 or 8 and everything as it was given, or the samples go to the ring or to the store.
 pub fn push(
     f: Feeder,

@@ -16,7 +16,9 @@ use lines::Mask;
 use store::append_parts;
 
 // The w newest samples of the ring, and the push's but for the first d, join the stored ones, as far as the limit has room.
-// How many did, or nothing where not all have room.
+// How many did, or nothing where not all have room. Slices that are written to come one by one, as in `store`. Inlined, the record of a short push
+// stays in registers.
+#[inline(always)]
 pub fn store_run(
     f: &Feeder,
     samples: &mut [u8],

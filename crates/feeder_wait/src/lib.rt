@@ -63,7 +63,7 @@ fn fires(numbers: &[usize; 17], pushed: &Samples<'_>) -> bool
     false
 }
 
-// Two bytes from `at` on.
+// Two bytes from `at` on. Two and four are written out: see `copy_few`.
 fn put_two(ring: &mut [u8], at: usize, a: u8, b: u8)
     requires { at + 2 ≤ length ring.old }
     ensures { ring.new ≡ sets ring.old at (a ∷ b ∷ []) }

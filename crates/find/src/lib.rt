@@ -1,6 +1,6 @@
 // A search within one chunk: 01's walk over the nodes that memory holds, in runs of nodes of one level.
 // Places are the capture's; the chunk's samples are lent as their part of sample memory, levels are lent whole.
-// `back` says which way: forward and backward are one loop, the source's find_fwd and find_back.
+// `back` says which way, as the rules' definitions do: forward and backward are one loop, the source's find_fwd and find_back.
 #![tactic(auto)]
 
 pub mod part;
@@ -30,7 +30,8 @@ struct Passed {
     value: Mask,
 }
 
-// The nodes of one level; those of level 0 are the samples, of a part or of a whole capture, and then `level` is not read.
+// The nodes of one level; those of level 0 are the samples, of a part or of a whole capture, and then `level` is not read. No enum of the two: a walk
+// asks for a level by its number.
 #[derive(Clone, Copy)]
 pub struct Row<'a> {
     pub unitsize: usize,
@@ -75,7 +76,9 @@ impl<'a> Row<'a> {
     }
 
     // How many of n nodes can be passed, up to the first that is not quiet; before is the value before them.
-    // One loop for samples and nodes, forward and backward: what does not change in it is asked once, outside.
+    // One loop for samples and nodes, forward and backward: what does not change in it is asked once, outside. A struct handed over by reference
+    // goes through memory, run by run: inlined it stays in registers.
+    #[inline(always)]
     fn run(&self, back: bool, from: usize, n: usize, before: Mask, mask: Mask) -> Passed
         requires { RunIn self.now back from n }
         ensures { Run (nth_node back (row_node self.now) from) mask before n result.count result.value }

@@ -36,7 +36,7 @@ pub struct Bounds {
 pub fn extent(c: Capture, memory: Memory<'_>) -> Result<Bounds, Refusal>
     ensures { bounded_of result ≡ unless (store_refusal (store_of c) (lent_in memory.entry)) (extent_of (store_of c)) }
 {
-    check(c, memory, false, 0, 0)?;
+    c.check(&memory)?;
     let base = origin(c);
     Ok(Bounds {
         first: counted_from(base, 0),

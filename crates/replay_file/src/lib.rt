@@ -18,10 +18,10 @@ use shelf_salvage::Salvaged;
 
 // The length of the file that was written, and its digest.
 fn written(outcome: Result<usize, Refusal>, file: &[u8]) -> Answer {
-    match outcome {
-        Ok(n) => given(2, [n, digest_of_bytes(&file[..n.min(file.len())]), 0, 0, 0]),
-        Err(refusal) => refused(refusal.number()),
-    }
+    told(
+        outcome,
+        |n| given(2, [n, digest_of_bytes(&file[..n.min(file.len())]), 0, 0, 0]),
+    )
 }
 
 // Unit, len, and the mark.

@@ -1,4 +1,4 @@
-// What a line begins with: the code of its operation, and its arguments.
+// What a line begins with: the code of its operation, as the lists' README numbers them, and its arguments.
 use crate::numbers::number;
 
 // The code, its arguments, and where the bytes after them start. The last argument of 11, 12, 25 to 28, 51, 52 and 53 is

@@ -92,6 +92,7 @@ pub fn store_for(capacity: usize, file: &[u8], memory: &Memory<'_>) -> Result<Ca
 }
 
 // The samples of a good file go to the start of a new store's memory, and its levels are built.
+// Slices that are written to come one by one, as in `store`.
 fn take_samples(
     c: Capture,
     file: &[u8],

@@ -54,7 +54,7 @@ fn fill_samples(c: Capture, file: &[u8], list: &[usize], samples: &mut [u8])
     blank(samples, list, c.unitsize);
 }
 
-// And the levels are built.
+// And the levels are built. Slices that are written to come one by one, as in `store`.
 fn fill_store(
     c: Capture,
     file: &[u8],

@@ -16,6 +16,7 @@ use node::Node;
 use rebuild::{join_first, put_running, rebuild_above, rebuild_new};
 
 // n samples of the bytes join the len stored ones, and the nodes of every level above them are made.
+// Slices that are written to come one by one, here and above: a struct of `&mut` shows its ends in a clause as nested pairs only.
 pub fn append_samples(
     samples: &mut [u8],
     l1: &mut [Mask],
@@ -60,12 +61,14 @@ pub fn append_parts(
     rebuild_levels(&samples[..], l1, l2, l3, l4, unitsize, len, n);
 }
 
-// The bytes of src go to dst, from at on.
+// The bytes of src go to dst, from at on. Nothing is copied without a call: an unarmed recorder's push brings two runs of none.
 pub fn copy_at(dst: &mut [u8], at: usize, src: &[u8])
     requires { at + length src.now ≤ length dst.old }
     ensures { dst.new ≡ paste dst.old at src.now (length src.now) }
 {
-    dst[at..at + src.len()].copy_from_slice(src);
+    if !src.is_empty() {
+        dst[at..at + src.len()].copy_from_slice(src);
+    }
 }
 
 // n samples stand behind the first len: every node that covers one of them is made, level by level. From each level the node of the new samples

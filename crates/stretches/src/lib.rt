@@ -1,4 +1,5 @@
 // Lists of unknown stretches that a caller lends, first place and count of each: what row 18 refuses, and where a stretch lies. 02: CR 9.
+// Pairs lie in a slice of numbers, as C lends them.
 #![tactic(auto)]
 
 pub mod known;

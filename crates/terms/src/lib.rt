@@ -33,7 +33,8 @@ pub struct Masks {
     pub edge: Mask,
 }
 
-// What a list of terms comes to: the lines that they name, once there is a term, and whether a line is above the highest.
+// What a list of terms comes to: the lines that they name, once there is a term, and whether a line is above the highest. No Result: rows 1 and 2
+// are asked first, of what the list is no part of.
 #[derive(Clone, Copy)]
 pub struct Terms {
     pub masks: Option<Masks>,
