@@ -212,40 +212,35 @@ module _ {run : List ℕ} {mark : Option ℕ} (numbers : List ℕ) (m : Memory) 
         );
       }
 
+  -- what a search's export leaves behind its two pointers, whatever stood there: it leaves that alone, and may leave it
+  sought : {x : Answer Walked} (w : Walked) (place read : ℕ) → x ≡ given w
+      → ((v : told.Found) → Sought number x v.code place v.place read v.read → v ≡ found w.found w.steps place)
+      × Sought number x (found w.found w.steps place).code place (found w.found w.steps place).place read (found w.found w.steps place).read
+  sought w place read e = (
+    λ v may. found_only w.steps place read w.found v (subst (λ (x : Answer Walked). Sought number x v.code place v.place read v.read) e may),
+    subst⁻¹ (λ (x : Answer Walked). Sought number x (found w.found w.steps place).code place (found w.found w.steps place).place read (found w.found w.steps place).read) e (found_out w.steps place read w.found),
+  )
+
   next_is : (mask from place read : ℕ)
       → Answered (MayNext numbers m mask from place read) (λ v. v) (found (next_search (at run) (length run) mask from).found (next_search (at run) (length run) mask from).steps place)
   next_is mask from place read =
-      let e = asked_is (below.next_is mask from) in
       let w = next_search (at run) (length run) mask from in
+      let s = sought w place read (asked_is (below.next_is mask from)) in
       record {
-        is = λ v may. found_only w.steps place read w.found v (subst (λ (x : Answer Walked). Sought number x v.code place v.place read v.read) e may.5);
+        is = λ v may. s.0 v may.5;
         answer = found w.found w.steps place;
-        allowed = (
-          ([], ([], ([], ([], ([], tt))))),
-          anywhere,
-          somewhere,
-          nowhere,
-          nowhere,
-          subst⁻¹ (λ (x : Answer Walked). Sought number x (found w.found w.steps place).code place (found w.found w.steps place).place read (found w.found w.steps place).read) e (found_out w.steps place read w.found),
-        );
+        allowed = (([], ([], ([], ([], ([], tt))))), anywhere, somewhere, nowhere, nowhere, s.1);
       }
 
   previous_is : (mask from place read : ℕ)
       → Answered (MayPrevious numbers m mask from place read) (λ v. v) (found (previous_search (at run) (length run) mask from).found (previous_search (at run) (length run) mask from).steps place)
   previous_is mask from place read =
-      let e = asked_is (below.previous_is mask from) in
       let w = previous_search (at run) (length run) mask from in
+      let s = sought w place read (asked_is (below.previous_is mask from)) in
       record {
-        is = λ v may. found_only w.steps place read w.found v (subst (λ (x : Answer Walked). Sought number x v.code place v.place read v.read) e may.5);
+        is = λ v may. s.0 v may.5;
         answer = found w.found w.steps place;
-        allowed = (
-          ([], ([], ([], ([], ([], tt))))),
-          anywhere,
-          somewhere,
-          nowhere,
-          nowhere,
-          subst⁻¹ (λ (x : Answer Walked). Sought number x (found w.found w.steps place).code place (found w.found w.steps place).place read (found w.found w.steps place).read) e (found_out w.steps place read w.found),
-        );
+        allowed = (([], ([], ([], ([], ([], tt))))), anywhere, somewhere, nowhere, nowhere, s.1);
       }
 
   burst_is : (mask sample gap tolerance budget : ℕ) (ends : List ℕ) → length ends ≡ 4 → (read : ℕ)
