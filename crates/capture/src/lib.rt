@@ -19,9 +19,8 @@ ghost use Rattle.capture.specs.Stored.{sample_in, Opens};
 use answer::Refusal;
 use level::{CHUNK, nodes_of};
 use lines::Mask;
-use node::{Memory, SIZE};
+use node::{Levels, Memory, SIZE};
 use number::MOST_SAMPLES;
-use std::ops::Range;
 use stored::Stored;
 
 // 01's store. Sample bytes and the four levels of nodes are lent to each call.
@@ -230,22 +229,34 @@ fn chunk_end(len: usize, ci: usize) -> usize
     base + CHUNK
 }
 
-// 01's Raw(c) as a range of sample memory: a caller that no slice can be returned to takes the part itself.
-pub fn raw_part(c: Capture, memory: Memory<'_>, chunk: usize) -> Range<usize>
-    ensures { RawLies (store_of c) memory.entry.samples.now (levels_of memory.entry.levels) chunk result.start result.end }
-{
-    let Ok(stored) = c.open(memory) else {
-        return 0..0;
-    };
-    if stored.len.div_ceil(CHUNK) <= chunk {
-        return 0..0;
-    }
-    chunk * CHUNK * stored.unitsize..chunk_end(stored.len, chunk) * stored.unitsize
+// Where a part of sample memory starts and ends: the library's Range is no Copy.
+#[derive(Clone, Copy)]
+pub struct Part {
+    pub from: usize,
+    pub to: usize,
 }
 
-// 01's Raw(c): a chunk's stored bytes, empty past the end and where 1 or 2 applies.
-pub fn raw<'s>(c: Capture, memory: Memory<'s>, chunk: usize) -> &'s [u8]
-    ensures { RawPart (store_of c) memory.entry.samples (levels_of memory.entry.levels) chunk result }
+// 01's Raw(c) as two places: a caller that no slice can be returned to takes the part itself.
+pub fn raw_part(c: Capture, memory: Memory<'_>, chunk: usize) -> Part
+    ensures { RawLies (store_of c) memory.entry.samples.now (levels_of memory.entry.levels) chunk result.from result.to }
 {
-    &memory.samples[raw_part(c, memory, chunk)]
+    let Ok(stored) = c.open(memory) else {
+        return Part { from: 0, to: 0 };
+    };
+    if stored.len.div_ceil(CHUNK) <= chunk {
+        return Part { from: 0, to: 0 };
+    }
+    Part {
+        from: chunk * CHUNK * stored.unitsize,
+        to: chunk_end(stored.len, chunk) * stored.unitsize,
+    }
+}
+
+// 01's Raw(c): a chunk's stored bytes, empty past the end and where 1 or 2 applies. They point into the samples alone, so that
+// the levels are free while they are read.
+pub fn raw<'s>(c: Capture, samples: &'s [u8], levels: Levels<'_>, chunk: usize) -> &'s [u8]
+    ensures { RawPart (store_of c) samples.entry (levels_of levels.entry) chunk result }
+{
+    let part = raw_part(c, Memory { samples, levels }, chunk);
+    &samples[part.from..part.to]
 }

@@ -125,8 +125,8 @@ pub fn lc_raw<'a>(
     ensures { RawLies (store_of (capture_in numbers.now)) samples.now (level_of l1.now l2.now l3.now l4.now) chunk from.new to.new }
 {
     let part = capture::raw_part(capture_in(numbers), lent(samples, l1, l2, l3, l4), chunk);
-    *from = part.start;
-    *to = part.end;
+    *from = part.from;
+    *to = part.to;
 }
 
 // 01's whole: 0 where every node is right, 100 with the level and number of the first wrong one. Refuses with 1 and 2.

@@ -3,12 +3,13 @@
 // and one line more for the first that did.
 #![tactic(auto)]
 
-ghost use Rattle.std.specs.Prelude.{◌≡◌, ◌-◌, length, IfOk, IfSome, take};
+ghost use Rattle.std.specs.Prelude.{◌≡◌, ◌-◌, length, IfOk, IfSome, take, vec_len};
 ghost use Rattle.std.specs.Str.{IsCharBoundary};
 
-use replay_line::Space;
-use replay_list::replay_list;
 use replay_list::state::State;
+use replay_list::{
+    File, Level1, Level2, Level3, Level4, Output, Piece, Ring, Samples, replay_list,
+};
 use std::alloc::Allocator;
 use std::io::Read;
 use std::rt::{Env, Files};
@@ -58,28 +59,56 @@ fn read<R: Files + Alloc + Eprint>(rt: &R, path: &str) -> io::Result<Vec<u8, R::
 }
 
 // The lists that the arguments name, one after the other. Each begins with zeros where files stand.
-fn lists<R: Files + Env + Alloc + Print + Eprint>(rt: &R, space: &mut Space) -> io::Result<()> {
+fn lists<R: Files + Env + Alloc + Print + Eprint>(
+    rt: &R,
+    samples: &mut Samples,
+    l1: &mut Level1,
+    l2: &mut Level2,
+    l3: &mut Level3,
+    l4: &mut Level4,
+    ring: &mut Ring,
+    output: &mut Output,
+    piece: &mut Piece,
+    file: &mut File,
+) -> io::Result<()> {
     for path in env::args(rt)?.skip(1) {
         let text = read(rt, &path)?;
-        space.file.fill(0);
-        let s = replay_list(&text, space);
+        file.fill(0);
+        let s = replay_list(&text, samples, l1, l2, l3, l4, ring, output, piece, file);
         report(rt, &path, s)?;
     }
     Ok(())
 }
 
-// Memory for every list of data/.
+// The array that a Vec as long holds.
+fn array<T, const N: usize>(numbers: &mut Vec<T>) -> &mut [T; N]
+    requires { vec_len numbers.old ≡ N }
+    ensures { result.now ≡ numbers.old.items }
+{
+    numbers.as_mut_array().unwrap()
+}
+
+// What is lent is too large for the stack.
 fn main(rt: HostRuntime) -> io::Result<()> {
-    let mut space = Space {
-        samples: vec![in rt.alloc(); 0; 4194304]?,
-        l1: vec![in rt.alloc(); 0; 655360]?,
-        l2: vec![in rt.alloc(); 0; 20480]?,
-        l3: vec![in rt.alloc(); 0; 640]?,
-        l4: vec![in rt.alloc(); 0; 20]?,
-        ring: vec![in rt.alloc(); 0; 524288]?,
-        output: vec![in rt.alloc(); 0; 131074]?,
-        piece: vec![in rt.alloc(); 0; 65536]?,
-        file: vec![in rt.alloc(); 0; 65536]?,
-    };
-    lists(&rt, &mut space)
+    let mut samples = vec![in rt.alloc(); 0; 4194304]?;
+    let mut l1 = vec![in rt.alloc(); 0; 655360]?;
+    let mut l2 = vec![in rt.alloc(); 0; 20480]?;
+    let mut l3 = vec![in rt.alloc(); 0; 640]?;
+    let mut l4 = vec![in rt.alloc(); 0; 20]?;
+    let mut ring = vec![in rt.alloc(); 0; 524288]?;
+    let mut output = vec![in rt.alloc(); 0; 131074]?;
+    let mut piece = vec![in rt.alloc(); 0; 65536]?;
+    let mut file = vec![in rt.alloc(); 0; 65536]?;
+    lists(
+        &rt,
+        array(&mut samples),
+        array(&mut l1),
+        array(&mut l2),
+        array(&mut l3),
+        array(&mut l4),
+        array(&mut ring),
+        array(&mut output),
+        array(&mut piece),
+        array(&mut file),
+    )
 }

@@ -135,7 +135,7 @@ pub fn ask(o: Operation, f: Feeder, memory: Memory<'_>, output: &mut [Mask]) -> 
             capture::samples(c, memory, a[0], a[1], first(output, a[2])),
             |n| listed(n),
         ),
-        17 => part(capture::raw(c, memory, a[0])),
+        17 => part(capture::raw(c, memory.samples, memory.levels, a[0])),
         18 => told(whole::whole(c, memory), |w| checked(w)),
         20 => told(
             search::next_change(c, memory, mask_of(a[0]), a[1]),

@@ -1,6 +1,8 @@
 // The lines that write samples or levels: a put, and an append or a push, piece by piece.
 #![tactic(auto)]
 
+ghost use Rattle.std.specs.Prelude.{◌≡◌};
+
 use answer::Refusal;
 use capture::Capture;
 use feeder::Feeder;
@@ -32,14 +34,18 @@ fn put(o: Operation, l1: &mut [Mask], l2: &mut [Mask], l3: &mut [Mask], l4: &mut
     }
 }
 
-fn after_append(f: Feeder, appended: Result<Capture, Refusal>, next: usize) -> Change {
+fn after_append(f: Feeder, appended: Result<Capture, Refusal>, next: usize) -> Change
+    ensures { result.next ≡ next }
+{
     match appended {
         Ok(capture) => leaves(Feeder { capture, ..f }, one(capture.len), next),
         Err(refusal) => leaves(f, refused(refusal.number()), next),
     }
 }
 
-fn after_push(f: Feeder, pushed: Result<Pushed, Refusal>, next: usize) -> Change {
+fn after_push(f: Feeder, pushed: Result<Pushed, Refusal>, next: usize) -> Change
+    ensures { result.next ≡ next }
+{
     match pushed {
         Ok(Pushed::GoingOn(new)) => leaves(new, one(0), next),
         Ok(Pushed::Complete(new)) => leaves(new, one(1), next),

@@ -23,20 +23,6 @@ pub struct Lent {
     pub ring: usize,
 }
 
-// The memory that every list of data/ is replayed in.
-#[derive(Drop)]
-pub struct Space {
-    pub samples: Vec<u8>,
-    pub l1: Vec<Mask>,
-    pub l2: Vec<Mask>,
-    pub l3: Vec<Mask>,
-    pub l4: Vec<Mask>,
-    pub ring: Vec<u8>,
-    pub output: Vec<Mask>,
-    pub piece: Vec<u8>,
-    pub file: Vec<u8>,
-}
-
 // A line that writes nothing in memory but the output.
 fn read_only(
     o: Operation,
@@ -86,20 +72,35 @@ fn lend<T>(memory: &mut [T], n: usize) -> &mut [T] {
     &mut memory[..end]
 }
 
-// What a line does, where so much of the memory is lent.
-pub fn step(o: Operation, line: &[u8], f: Feeder, lent: Lent, space: &mut Space) -> Change {
+// What a line does, where so much of the memory is lent. Slices come one by one: a struct of vectors does not say that they keep
+// their lengths, and of one of `&mut` several cannot be lent at once.
+pub fn step(
+    o: Operation,
+    line: &[u8],
+    f: Feeder,
+    lent: Lent,
+    samples: &mut [u8],
+    l1: &mut [Mask],
+    l2: &mut [Mask],
+    l3: &mut [Mask],
+    l4: &mut [Mask],
+    ring: &mut [u8],
+    output: &mut [Mask],
+    piece: &mut [u8],
+    file: &mut [u8],
+) -> Change {
     over_lent(
         o,
         line,
         f,
-        lend(&mut space.samples, lent.samples),
-        lend(&mut space.l1, lent.l1),
-        lend(&mut space.l2, lent.l2),
-        lend(&mut space.l3, lent.l3),
-        lend(&mut space.l4, lent.l4),
-        lend(&mut space.ring, lent.ring),
-        &mut space.output,
-        &mut space.piece,
-        &mut space.file,
+        lend(samples, lent.samples),
+        lend(l1, lent.l1),
+        lend(l2, lent.l2),
+        lend(l3, lent.l3),
+        lend(l4, lent.l4),
+        lend(ring, lent.ring),
+        output,
+        piece,
+        file,
     )
 }

@@ -1,6 +1,8 @@
 // The lines that begin a capture: a plain store, or a recorder's.
 #![tactic(auto)]
 
+ghost use Rattle.std.specs.Prelude.{◌≡◌};
+
 use answer::Refusal;
 use capture::Capture;
 use feeder::{Feeder, Fresh, Pretrigger};
@@ -18,7 +20,9 @@ pub struct Change {
     pub next: usize,
 }
 
-pub fn leaves(feeder: Feeder, answer: Answer, next: usize) -> Change {
+pub fn leaves(feeder: Feeder, answer: Answer, next: usize) -> Change
+    ensures { (result.feeder ≡ feeder) × (result.answer ≡ answer) × (result.next ≡ next) }
+{
     Change {
         feeder,
         answer,

@@ -11,7 +11,7 @@ ghost use Rattle.answer.specs.Answered.{answer_of};
 ghost use Rattle.store.specs.Stored.{Stored};
 ghost use Rattle.node.specs.Memory.{level_of};
 ghost use Rattle.capture.specs.Record.{store_of, lent_in};
-ghost use Rattle.shelf_head.specs.Head.{BlocksRoom};
+ghost use Rattle.shelf_head.specs.Head.{heading_as, BlocksRoom};
 ghost use Rattle.shelf_read.specs.Read.{room_refusal, TakeRoom, bytes_behind, Reads};
 
 use answer::Refusal;
@@ -21,7 +21,7 @@ use memory::lent;
 use node::Memory;
 use number::MOST_SAMPLES;
 use shelf_block::{BLOCK, PAYLOAD, PAYLOAD_AT, good};
-use shelf_head::{blocks_for, file_size, head_good, heading_in};
+use shelf_head::{Heading, blocks_for, file_size, head_good, heading_in};
 use store::{copy_at, rebuild_levels};
 
 // Whether these are the good blocks of n bytes, from number 1 on.
@@ -72,19 +72,26 @@ pub fn capacity_wrong(capacity: usize) -> bool
     capacity == 0 || MOST_SAMPLES < capacity
 }
 
-// The record of a new store for what block 0 of a file says, or 15 where no store of this capacity and memory holds that.
+// The record of a new store with what a file says.
+pub fn new_store(h: Heading, capacity: usize) -> Capture
+    ensures { store_of result ≡ store_in capacity (heading_as h) }
+{
+    Capture {
+        unitsize: h.unitsize,
+        capacity,
+        len: h.len,
+        trigger: h.trigger,
+    }
+}
+
+// The same for what block 0 of a file says, or 15 where no store of this capacity and memory holds that.
 #[tactic(auto, using(shelf_head::proofs::Head::head_room, rules::proofs::ShelfHead::heading_headed))]
 pub fn store_for(capacity: usize, file: &[u8], memory: &Memory<'_>) -> Result<Capture, Refusal>
     requires { (capacity ≤ most_samples) × (head_test file.now ≡ true) }
     ensures { answer_of store_of result ≡ unless (room_refusal capacity (lent_in memory.now) (heading_in file.now)) (store_in capacity (heading_in file.now)) }
 {
     let h = heading_in(file);
-    let c = Capture {
-        unitsize: h.unitsize,
-        capacity,
-        len: h.len,
-        trigger: h.trigger,
-    };
+    let c = new_store(h, capacity);
     if capacity < h.len || c.is_short(memory) {
         return Err(Refusal::Room);
     }

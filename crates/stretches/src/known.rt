@@ -2,9 +2,8 @@
 ghost use Rattle.std.specs.Prelude.{◌≡◌, false};
 ghost use Rattle.rules.specs.Unknown.{list_wrong};
 
-use crate::stretch_at;
+use crate::{Bounds, stretch_at};
 use capture::stored::Stored;
-use std::ops::Range;
 
 // The list has the first place and the count of each stretch.
 #[derive(Clone, Copy)]
@@ -18,10 +17,10 @@ impl Known<'_> {
     ghost use Rattle.std.specs.Prelude.{◌≡◌, ◌+◌, ◌*◌, ◌<◌, length};
     ghost use Rattle.rules.specs.Stretches.{stretch_at};
 
-    // The places of stretch j.
-    pub fn stretch_at(&self, j: usize) -> Range<usize>
+    // The bounds of stretch j.
+    pub fn stretch_at(&self, j: usize) -> Bounds
         requires { 2 * j + 1 < length self.now.list.now }
-        ensures { let s = stretch_at self.now.list.now j in (result.start ≡ s.first) × (result.end ≡ s.first + s.count) }
+        ensures { let s = stretch_at self.now.list.now j in (result.first ≡ s.first) × (result.end ≡ s.first + s.count) }
     {
         stretch_at(self.list, self.stored.len, j)
     }

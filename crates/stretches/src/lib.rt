@@ -15,13 +15,12 @@ use answer::Refusal;
 use capture::Capture;
 use known::Known;
 use node::Memory;
-use std::ops::Range;
 
 // Whether a stretch begins before a place, has no samples or reaches past len; no sum, since the numbers may be any.
 fn outside(least: usize, len: usize, first: usize, count: usize) -> bool
     ensures { result ≡ outside least len first count }
 {
-    first < least || count == 0 || len < first || len - first < count
+    len < first || first < least || count == 0 || len - first < count
 }
 
 // Whether row 18 refuses a list for a capture of len samples.
@@ -45,15 +44,25 @@ fn wrong(list: &[usize], len: usize) -> bool
     false
 }
 
-// The places of stretch j of a list that passed row 18.
+// Where a stretch begins, and the place right after it: the library's Range is no Copy.
+#[derive(Clone, Copy)]
+pub struct Bounds {
+    pub first: usize,
+    pub end: usize,
+}
+
+// Those of stretch j of a list that passed row 18.
 #[tactic(auto, using(crate::proofs::Listed::passed_lies))]
-pub fn stretch_at(list: &[usize], len: usize, j: usize) -> Range<usize>
+pub fn stretch_at(list: &[usize], len: usize, j: usize) -> Bounds
     requires { (list_wrong len list.now ≡ false) × (len ≤ most_samples) × (2 * j + 1 < length list.now) }
-    ensures { (result.start ≡ (stretch_at list.now j).first) × (result.end ≡ (stretch_at list.now j).first + (stretch_at list.now j).count) }
+    ensures { (result.first ≡ (stretch_at list.now j).first) × (result.end ≡ (stretch_at list.now j).first + (stretch_at list.now j).count) }
 {
     let first = list[2 * j];
     let count = list[2 * j + 1];
-    first..first + count
+    Bounds {
+        first,
+        end: first + count,
+    }
 }
 
 // Rows 1, 2 and 18, and what they let pass.

@@ -17,7 +17,7 @@ use capture::stored::Stored;
 use lines::Mask;
 use node::Memory;
 use search::{next_in, prev_in};
-use std::ops::Range;
+use stretches::Bounds;
 use stretches::known::Known;
 
 // 01's search from a place on, or back from there.
@@ -42,27 +42,21 @@ fn nth(back: bool, n: usize, k: usize) -> usize
 // ---- certain changes
 
 // From where a search goes on behind a stretch: backward at the place before it, and at 0, where nothing is found, if there is none.
-fn resume(back: bool, stretch: &Range<usize>) -> usize
-    ensures { result ≡ resume back stretch.now.start stretch.now.end }
+fn resume(back: bool, stretch: &Bounds) -> usize
+    ensures { result ≡ resume back stretch.now.first stretch.now.end }
 {
     if back {
-        stretch.start.saturating_sub(1)
+        stretch.first.saturating_sub(1)
     } else {
         stretch.end
     }
 }
 
 // A find stays where no unknown sample is beside it; else the next one behind the stretch.
-fn cross(
-    stored: &Stored<'_>,
-    back: bool,
-    mask: Mask,
-    stretch: &Range<usize>,
-    i: usize,
-) -> Option<usize>
-    ensures { result ≡ crossing (walked back (reader_in stored.now) mask stored.now.len) back stretch.now.start stretch.now.end (Some i) }
+fn cross(stored: &Stored<'_>, back: bool, mask: Mask, stretch: &Bounds, i: usize) -> Option<usize>
+    ensures { result ≡ crossing (walked back (reader_in stored.now) mask stored.now.len) back stretch.now.first stretch.now.end (Some i) }
 {
-    if i < stretch.start || stretch.end < i {
+    if i < stretch.first || stretch.end < i {
         return Some(i);
     }
     change(stored, back, mask, resume(back, stretch))
@@ -74,12 +68,13 @@ fn certain_in(known: &Known<'_>, back: bool, mask: Mask, from: usize) -> Option<
     ensures { result ≡ certain_in back (reader_in known.now.stored) known.now.stored.len known.now.list.now mask from }
 {
     let n = known.list.len() / 2;
-    let mut found = change(&known.stored, back, mask, from);
+    let mut i = change(&known.stored, back, mask, from)?;
+    // A place alone goes from turn to turn: an option would be asked again at each stretch.
     for k in 0..n {
         let stretch = known.stretch_at(nth(back, n, k));
-        found = cross(&known.stored, back, mask, &stretch, found?);
+        i = cross(&known.stored, back, mask, &stretch, i)?;
     }
-    found
+    Some(i)
 }
 
 // ---- possible changes
@@ -98,14 +93,14 @@ fn entry(back: bool, len: usize, from: usize) -> Option<usize>
 }
 
 // From place p on, the first one that has an unknown sample of a stretch beside it.
-fn meets(back: bool, p: usize, stretch: &Range<usize>) -> Option<usize>
-    ensures { result ≡ meets back p stretch.now.start stretch.now.end }
+fn meets(back: bool, p: usize, stretch: &Bounds) -> Option<usize>
+    ensures { result ≡ meets back p stretch.now.first stretch.now.end }
 {
     if back {
         let c = stretch.end.min(p);
-        (stretch.start <= c).then_some(c)
+        (stretch.first <= c).then_some(c)
     } else {
-        let c = stretch.start.max(p);
+        let c = stretch.first.max(p);
         (c <= stretch.end).then_some(c)
     }
 }
