@@ -8,7 +8,7 @@ ghost use Rattle.std.specs.Str.{IsCharBoundary};
 
 use replay_list::state::State;
 use replay_list::{
-    File, Level1, Level2, Level3, Level4, Output, Piece, Ring, Samples, replay_list,
+    File, Level1, Level2, Level3, Level4, Output, Piece, Ring, Samples, replay_in_arrays,
 };
 use std::alloc::Allocator;
 use std::io::Read;
@@ -74,7 +74,7 @@ fn lists<R: Files + Env + Alloc + Print + Eprint>(
     for path in env::args(rt)?.skip(1) {
         let text = read(rt, &path)?;
         file.fill(0);
-        let s = replay_list(&text, samples, l1, l2, l3, l4, ring, output, piece, file);
+        let s = replay_in_arrays(&text, samples, l1, l2, l3, l4, ring, output, piece, file);
         report(rt, &path, s)?;
     }
     Ok(())

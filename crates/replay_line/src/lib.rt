@@ -23,6 +23,20 @@ pub struct Lent {
     pub ring: usize,
 }
 
+// Memory that a list is replayed in, of any lengths.
+#[derive(Drop)]
+pub struct Space {
+    pub samples: Vec<u8>,
+    pub l1: Vec<Mask>,
+    pub l2: Vec<Mask>,
+    pub l3: Vec<Mask>,
+    pub l4: Vec<Mask>,
+    pub ring: Vec<u8>,
+    pub output: Vec<Mask>,
+    pub piece: Vec<u8>,
+    pub file: Vec<u8>,
+}
+
 // A line that writes nothing in memory but the output.
 fn read_only(
     o: Operation,
